@@ -1,0 +1,67 @@
+-- Document 01, "Rows", class 2: what the reader does with each byte, and with a run of them.
+use Prim.Native.Nat.{ℕ, suc, _+_}
+use mathlib.Core.List.{List, [], _∷_}
+use mathlib.Core.Bool.{Bool, true, false, not, cond}
+use lib.Dec.{ltb, leb, eqb}
+use Rattle.blocks.specs.declared.runs.Place.{Place}
+use Rattle.blocks.specs.declared.runs.Place.the-variants.{Count, White, Black, Finished}
+use Rattle.blocks.specs.declared.runs.Reader.{Reader}
+use Rattle.blocks.specs.declared.runs.Filled.{Filled}
+use Rattle.blocks.specs.declared.runs.Filled.the-variants.{Over, Whole, Part}
+use Rattle.blocks.specs.declared.runs.Stepped.{Stepped}
+use Rattle.blocks.specs.declared.runs.Stepped.the-variants.{Next, Past}
+use Rattle.blocks.specs.declared.runs.Scanned.{Scanned}
+use Rattle.blocks.specs.declared.runs.Scanned.the-variants.{Complete, Open, PastWidth}
+
+-- a run of b dots where f of w dots are filled: past the width, the row is whole, or a part of it
+unfoldable pub fillRow : ℕ → ℕ → ℕ → Filled
+fillRow w f b = cond (ltb w (f + b)) Over (cond (eqb (f + b) w) Whole (Part (f + b)))
+
+-- the row of a picture of h rows is whole: "drawn once and then as often again as the count says". The next row's count, or finished.
+unfoldable pub endRow : ℕ → Reader → Reader
+endRow h s =
+    cond (leb h (s .row + 1 + s .repeat))
+    (record { row = h; repeat = 0; at = Finished })
+    (record { row = s .row + 1 + s .repeat; repeat = 0; at = Count })
+
+abbrev pub start : Reader
+start = record { row = 0; repeat = 0; at = Count }
+
+abbrev pub onFill : {A : Type 0} → Filled → A → A → (ℕ → A) → A
+onFill Over over whole part = over
+onFill Whole over whole part = whole
+onFill (Part n) over whole part = part n
+
+-- "a repeat count, then white and black runs in turn, white first, each one byte, until they sum to the width"
+abbrev pub stepAt : ℕ → ℕ → Reader → ℕ → Place → Stepped
+stepAt w h s b Count = Next (record { row = s .row; repeat = b; at = White 0 })
+stepAt w h s b (White f) =
+    onFill (fillRow w f b) (Past (s .row) f b) (Next (endRow h s)) (λ n. Next (record { row = s .row; repeat = s .repeat; at = Black n }))
+stepAt w h s b (Black f) =
+    onFill (fillRow w f b) (Past (s .row) f b) (Next (endRow h s)) (λ n. Next (record { row = s .row; repeat = s .repeat; at = White n }))
+stepAt w h s b Finished = Next s
+
+-- one byte b of a picture w dots wide and h rows high, read in the state s
+unfoldable pub stepRun : ℕ → ℕ → Reader → ℕ → Stepped
+stepRun w h s b = stepAt w h s b (s .at)
+
+abbrev pub isFinished : Place → Bool
+isFinished Count = false
+isFinished (White f) = false
+isFinished (Black f) = false
+isFinished Finished = true
+
+abbrev pub onStep : Stepped → (Reader → Scanned) → Scanned
+onStep (Next s) k = k s
+onStep (Past row f b) k = PastWidth row f b
+
+-- the bytes xs read from the state s, where n bytes were used before: complete with the bytes used, open with its state, or past the width
+unfoldable pub scanFrom : ℕ → ℕ → ℕ → Reader → List ℕ → Scanned
+scanFrom w h n s [] = cond (isFinished (s .at)) (Complete n) (Open s)
+scanFrom w h n s (b ∷ xs) = cond (isFinished (s .at)) (Complete n) (onStep (stepRun w h s b) (λ t. scanFrom w h (n + 1) t xs))
+
+-- the scan of xs after a scan that gave r and used n bytes
+abbrev pub andThen : ℕ → ℕ → ℕ → Scanned → List ℕ → Scanned
+andThen w h n (Complete k) xs = Complete k
+andThen w h n (Open s) xs = scanFrom w h n s xs
+andThen w h n (PastWidth row f b) xs = PastWidth row f b
