@@ -1,0 +1,105 @@
+//! Choosing. It sees the kept fonts' numbers and headers only.
+
+use crate::block::Header;
+use crate::store::{View, FONT_MAX};
+use crate::{Refusal, Request};
+
+/// "8U (Roman-8) is 277".
+const ROMAN_8: u32 = 277;
+const FIXED: u32 = 0;
+
+impl Request {
+    /// 01, Choosing: "A request: symbol set 0..2047, spacing 0 or 1, pitch R in
+    /// hundredths of a character per inch 0..57,600, height H in hundredths of
+    /// a point 0..99,975, style 0..1023, weight -7..7, typeface 0..65535, page
+    /// orientation 0 or 1."
+    fn is_in_range(&self) -> bool {
+        self.symbol_set <= 2047
+            && self.spacing <= 1
+            && self.pitch <= 57_600
+            && self.height <= 99_975
+            && self.style <= 1023
+            && (-7..=7).contains(&self.weight)
+            && self.typeface <= 65_535
+            && self.orientation <= 1
+    }
+}
+
+/// "Choosing checks 1, 2, 11 and answers the font number."
+pub fn choose(view: &View, request: &Request) -> Result<u32, Refusal> {
+    if !request.is_in_range() {
+        return Err(Refusal::OutOfRange);
+    }
+    view.fonts()
+        .filter_map(|(font, header)| standing(request, font, header))
+        .min()
+        .map(|best| (best & u64::from(FONT_MAX)) as u32)
+        .ok_or(Refusal::NoneToChoose)
+}
+
+/// Where a font stands before this request, the lowest chosen, or nothing if it
+/// has neither the set asked for nor Roman-8.
+///
+/// Each step of the elimination keeps, of the fonts left, those with the lowest
+/// rank in that step; so the steps in turn leave the font whose ranks, read one
+/// behind the other, are lowest. They stand here in one number, the first step
+/// highest.
+fn standing(request: &Request, font: u32, header: Header) -> Option<u64> {
+    let mut standing = 0;
+    let mut step = |bits: u32, rank: u32| standing = standing << bits | u64::from(rank);
+    // "1. The set asked for; if none has it, Roman-8; if none, 11."
+    let set = u32::from(header.symbol_set());
+    if set == request.symbol_set {
+        step(1, 0);
+    } else if set == ROMAN_8 {
+        step(1, 1);
+    } else {
+        return None;
+    }
+    // "2. The spacing asked for, else the other."
+    let spacing = u32::from(header.spacing());
+    step(1, u32::from(spacing != request.spacing));
+    // "3. Pitch, only if those left are fixed. For kept pitch P: if some have
+    // R x P at most 120,000, those with the greatest P among them; else those
+    // with the least P." Those left by step 2 all have the same spacing.
+    let pitch = u32::from(header.pitch());
+    step(
+        16,
+        if spacing != FIXED {
+            0
+        } else if request.pitch * pitch <= 120_000 {
+            0x7FFF - pitch
+        } else {
+            0x8000 + pitch
+        },
+    );
+    // "4. Least |H - 6 x kept height|, where 25 or less counts as 0."
+    let distance = request.height.abs_diff(6 * u32::from(header.height()));
+    step(17, if distance <= 25 { 0 } else { distance });
+    // "5. The style, if any has it."
+    step(1, u32::from(u32::from(header.style()) != request.style));
+    // "6. Weight: exact; else, for a request of 0 or more, the next thicker,
+    // failing that the nearest thinner; for a request below 0, the next
+    // thinner, failing that the nearest thicker."
+    let weight = i32::from(header.weight());
+    let apart = weight.abs_diff(request.weight);
+    let preferred_side = if request.weight >= 0 {
+        weight >= request.weight
+    } else {
+        weight <= request.weight
+    };
+    step(5, if preferred_side { apart } else { 15 + apart });
+    // "7. The typeface, if any has it."
+    step(
+        1,
+        u32::from(u32::from(header.typeface()) != request.typeface),
+    );
+    // "8. The page's orientation, if any has it."
+    step(
+        1,
+        u32::from(u32::from(header.orientation()) != request.orientation),
+    );
+    // "9. The lowest font number."
+    step(15, font);
+    Some(standing)
+}

@@ -1,0 +1,186 @@
+//! Marlinfold a second time, to be compared with: PCL 5 bitmap soft fonts kept
+//! in one lent byte buffer, the store.
+//!
+//! "01" in the comments is document 01, which decides every rule. What stands
+//! in quotation marks are its own words, so that each rule can be held beside
+//! its passage. "Readings" are the design's section 3: how 01 is read where it
+//! leaves a doubt; README.md has what neither settles.
+//!
+//! Every call takes any numbers and any buffers and answers 01's number of
+//! refusal, 0 for done. None asks for memory: the store is checked once per
+//! call, then looked at or changed where it lies.
+#![forbid(unsafe_code)]
+
+mod block;
+mod choice;
+mod runs;
+mod store;
+mod stream;
+
+use store::{Store, View};
+
+/// 01, the table of "The calls, and what they answer".
+#[derive(Clone, Copy, Debug, PartialEq, Eq)]
+pub enum Refusal {
+    /// "buffer not a store (for "make fresh": length not 12..65,536)"
+    NotAStore = 1,
+    /// "a number out of range"
+    OutOfRange = 2,
+    /// "block length wrong"
+    BlockLength = 3,
+    /// "format, descriptor size or class not taken"
+    NotTaken = 4,
+    /// "a field's value not allowed"
+    FieldValue = 5,
+    /// "no such font"
+    NoFont = 6,
+    /// "no such character, or a continuation not for the open character"
+    NoCharacter = 7,
+    /// "a run passes the row's end"
+    RunPastRow = 8,
+    /// "character too large"
+    TooLarge = 9,
+    /// "no room"
+    NoRoom = 10,
+    /// "no font to choose"
+    NoneToChoose = 11,
+    /// "output too short"
+    OutputShort = 12,
+    /// "stream broken"
+    StreamBroken = 13,
+}
+
+/// What choosing answers: the font number.
+#[derive(Clone, Copy, Debug, Default, PartialEq, Eq)]
+pub struct Chosen {
+    pub refusal: u32,
+    pub font: u32,
+}
+
+/// What telling answers: "the number of characters or of data bytes".
+#[derive(Clone, Copy, Debug, Default, PartialEq, Eq)]
+pub struct Told {
+    pub refusal: u32,
+    pub count: u32,
+}
+
+/// What writing a font answers: the stream's length.
+#[derive(Clone, Copy, Debug, Default, PartialEq, Eq)]
+pub struct Written {
+    pub refusal: u32,
+    pub length: u32,
+}
+
+/// What reading a stream answers: "commands done, commands refused"; for 13
+/// also its place, which is 0 otherwise.
+#[derive(Clone, Copy, Debug, Default, PartialEq, Eq)]
+pub struct StreamRead {
+    pub refusal: u32,
+    pub done: u64,
+    pub refused: u64,
+    pub place: u64,
+}
+
+/// What choosing is asked (01, "Choosing"). The pitch is in hundredths of a
+/// character per inch, the height in hundredths of a point.
+#[derive(Clone, Copy, Debug, Default, PartialEq, Eq)]
+pub struct Request {
+    pub symbol_set: u32,
+    pub spacing: u32,
+    pub pitch: u32,
+    pub height: u32,
+    pub style: u32,
+    pub weight: i32,
+    pub typeface: u32,
+    pub orientation: u32,
+}
+
+/// "A call with no answer named here answers only 0."
+fn number(result: Result<(), Refusal>) -> u32 {
+    match result {
+        Ok(()) => 0,
+        Err(refusal) => refusal as u32,
+    }
+}
+
+/// Whether a buffer is a store. No call of 01's list, but what its refusal 1
+/// rests on.
+pub fn is_store(buffer: &[u8]) -> bool {
+    View::of(buffer).is_ok()
+}
+
+pub fn make_fresh(store: &mut [u8]) -> u32 {
+    number(store::make_fresh(store))
+}
+
+pub fn download_font(store: &mut [u8], block: &[u8], font: u32) -> u32 {
+    number(Store::of(store).and_then(|mut store| store.download_font(block, font)))
+}
+
+pub fn download_character(store: &mut [u8], block: &[u8], font: u32, code: u32) -> u32 {
+    number(Store::of(store).and_then(|mut store| store.download_character(block, font, code)))
+}
+
+pub fn remove_font(store: &mut [u8], font: u32) -> u32 {
+    number(Store::of(store).and_then(|mut store| store.remove_font(font)))
+}
+
+pub fn remove_character(store: &mut [u8], font: u32, code: u32) -> u32 {
+    number(Store::of(store).and_then(|mut store| store.remove_character(font, code)))
+}
+
+pub fn choose(store: &[u8], request: &Request) -> Chosen {
+    match View::of(store).and_then(|view| choice::choose(&view, request)) {
+        Ok(font) => Chosen { refusal: 0, font },
+        Err(refusal) => Chosen {
+            refusal: refusal as u32,
+            font: 0,
+        },
+    }
+}
+
+pub fn tell_font(store: &[u8], out: &mut [u8], font: u32) -> Told {
+    told(View::of(store).and_then(|view| view.tell_font(out, font)))
+}
+
+pub fn tell_character(store: &[u8], out: &mut [u8], font: u32, code: u32) -> Told {
+    told(View::of(store).and_then(|view| view.tell_character(out, font, code)))
+}
+
+fn told(result: Result<u32, Refusal>) -> Told {
+    match result {
+        Ok(count) => Told { refusal: 0, count },
+        Err(refusal) => Told {
+            refusal: refusal as u32,
+            count: 0,
+        },
+    }
+}
+
+pub fn draw_row(store: &[u8], out: &mut [u8], font: u32, code: u32, row: u32) -> u32 {
+    number(View::of(store).and_then(|view| view.draw_row(out, font, code, row)))
+}
+
+pub fn draw_picture(store: &[u8], out: &mut [u8], font: u32, code: u32) -> u32 {
+    number(View::of(store).and_then(|view| view.draw_picture(out, font, code)))
+}
+
+pub fn write_font(store: &[u8], out: &mut [u8], font: u32) -> Written {
+    match View::of(store).and_then(|view| stream::write_font(&view, out, font)) {
+        Ok(length) => Written { refusal: 0, length },
+        Err(refusal) => Written {
+            refusal: refusal as u32,
+            length: 0,
+        },
+    }
+}
+
+pub fn read_stream(store: &mut [u8], stream: &[u8]) -> StreamRead {
+    match Store::of(store) {
+        Ok(store) => stream::read_stream(store, stream),
+        Err(refusal) => StreamRead {
+            refusal: refusal as u32,
+            ..StreamRead::default()
+        },
+    }
+}

@@ -1,0 +1,179 @@
+//! What the tests share: blocks built field by field, a small source of
+//! chance, and the naive model that calls are compared with.
+#![allow(dead_code)]
+
+pub mod model;
+
+use marlinfold_reference::*;
+
+/// The fields of a header that the trials vary; the rest as source document
+/// 004's example has it.
+#[derive(Clone, Copy)]
+pub struct Font {
+    pub set: u16,
+    pub spacing: u8,
+    pub pitch: u16,
+    pub height: u16,
+    pub style: u16,
+    pub weight: i8,
+    pub face: u16,
+    pub orientation: u8,
+}
+
+/// 01, Trials: "A: 5, weight 0."
+pub const A: Font = Font {
+    set: 277,
+    spacing: 0,
+    pitch: 120,
+    height: 200,
+    style: 0,
+    weight: 0,
+    face: 3,
+    orientation: 0,
+};
+/// "B: 2, weight 3."
+pub const B: Font = Font { weight: 3, ..A };
+/// "C: 9, as A, landscape."
+pub const C: Font = Font {
+    orientation: 1,
+    ..A
+};
+/// "D: 7, set 341, proportional, height 150, face 4."
+pub const D: Font = Font {
+    set: 341,
+    spacing: 1,
+    height: 150,
+    face: 4,
+    ..A
+};
+
+impl Font {
+    pub fn header(self) -> [u8; 64] {
+        let mut header = [0; 64];
+        header[0..2].copy_from_slice(&64_u16.to_be_bytes());
+        header[3] = 1;
+        header[4] = (self.style >> 8) as u8;
+        header[6..8].copy_from_slice(&35_u16.to_be_bytes());
+        header[8..10].copy_from_slice(&30_u16.to_be_bytes());
+        header[10..12].copy_from_slice(&50_u16.to_be_bytes());
+        header[12] = self.orientation;
+        header[13] = self.spacing;
+        header[14..16].copy_from_slice(&self.set.to_be_bytes());
+        header[16..18].copy_from_slice(&self.pitch.to_be_bytes());
+        header[18..20].copy_from_slice(&self.height.to_be_bytes());
+        header[23] = self.style as u8;
+        header[24] = self.weight as u8;
+        header[25] = self.face as u8;
+        header[26] = (self.face >> 8) as u8;
+        header[48..58].copy_from_slice(b"Courier 10");
+        header
+    }
+}
+
+/// A portrait first block.
+pub fn first(class: u8, width: u16, height: u16, data: &[u8]) -> Vec<u8> {
+    let mut block = vec![4, 0, 14, class, 0, 0, 0, 2, 0, 22];
+    block.extend(width.to_be_bytes());
+    block.extend(height.to_be_bytes());
+    block.extend(120_u16.to_be_bytes());
+    block.extend(data);
+    block
+}
+
+pub fn continuation(data: &[u8]) -> Vec<u8> {
+    let mut block = vec![4, 1];
+    block.extend(data);
+    block
+}
+
+pub fn fresh(length: usize) -> Vec<u8> {
+    let mut store = vec![0xEE; length];
+    assert_eq!(make_fresh(&mut store), 0);
+    store
+}
+
+/// A fresh store with these fonts.
+pub fn with_fonts(length: usize, fonts: &[(u32, Font)]) -> Vec<u8> {
+    let mut store = fresh(length);
+    for &(number, font) in fonts {
+        assert_eq!(download_font(&mut store, &font.header(), number), 0);
+    }
+    store
+}
+
+/// The body of the store's first record: open mark, font number, code.
+pub fn open_mark(store: &[u8]) -> [u8; 6] {
+    store[6..12].try_into().unwrap()
+}
+
+pub const CLOSED: [u8; 6] = [0; 6];
+
+/// A stream's command with a number: `ESC`, the letters, the number, the end.
+pub fn command(letters: &str, number: usize, end: char) -> Vec<u8> {
+    format!("\x1b{letters}{number}{end}").into_bytes()
+}
+
+pub fn font_number(number: usize) -> Vec<u8> {
+    command("*c", number, 'D')
+}
+
+pub fn code(code: usize) -> Vec<u8> {
+    command("*c", code, 'E')
+}
+
+pub fn font_block(block: &[u8]) -> Vec<u8> {
+    [command(")s", block.len(), 'W'), block.to_vec()].concat()
+}
+
+pub fn character_block(block: &[u8]) -> Vec<u8> {
+    [command("(s", block.len(), 'W'), block.to_vec()].concat()
+}
+
+/// 01, Trials: "Base request".
+pub const BASE: Request = Request {
+    symbol_set: 277,
+    spacing: 0,
+    pitch: 1000,
+    height: 1200,
+    style: 0,
+    weight: 0,
+    typeface: 3,
+    orientation: 0,
+};
+
+pub fn chosen(font: u32) -> Chosen {
+    Chosen { refusal: 0, font }
+}
+
+/// xorshift.
+pub struct Chance(u64);
+
+impl Chance {
+    pub fn new(seed: u64) -> Chance {
+        Chance(seed.wrapping_mul(0x9E37_79B9_7F4A_7C15) | 1)
+    }
+
+    pub fn next(&mut self) -> u64 {
+        self.0 ^= self.0 << 13;
+        self.0 ^= self.0 >> 7;
+        self.0 ^= self.0 << 17;
+        self.0.wrapping_mul(0x2545_F491_4F6C_DD1D)
+    }
+
+    /// From 0 up to, not including, `below`.
+    pub fn below(&mut self, below: usize) -> usize {
+        ((self.next() >> 33) as usize) % below
+    }
+
+    pub fn once_in(&mut self, times: usize) -> bool {
+        self.below(times) == 0
+    }
+
+    pub fn of<T: Copy>(&mut self, all: &[T]) -> T {
+        all[self.below(all.len())]
+    }
+
+    pub fn byte(&mut self) -> u8 {
+        self.next() as u8
+    }
+}

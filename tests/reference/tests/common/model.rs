@@ -1,0 +1,593 @@
+//! Document 01 once more, as plainly as it can be said: fonts and characters in
+//! sorted maps, pictures as dots, elimination step by step, and the store's
+//! bytes made anew after each call. Nothing here is shared with the library.
+
+use marlinfold_reference::{Chosen, Request, StreamRead, Told, Written};
+use std::collections::BTreeMap;
+
+#[derive(Clone, PartialEq, Debug)]
+pub struct Character {
+    pub kept: Vec<u8>,
+    pub data: Vec<u8>,
+}
+
+#[derive(Clone, PartialEq, Debug)]
+pub struct Font {
+    pub header: Vec<u8>,
+    pub characters: BTreeMap<u32, Character>,
+}
+
+#[derive(Clone, PartialEq, Debug)]
+pub struct Model {
+    pub length: usize,
+    pub open: Option<(u32, u32)>,
+    pub fonts: BTreeMap<u32, Font>,
+}
+
+fn be(bytes: &[u8], at: usize) -> i64 {
+    i64::from(bytes[at]) * 256 + i64::from(bytes[at + 1])
+}
+
+fn signed(value: i64, bits: u32) -> i64 {
+    if value >= 1 << (bits - 1) {
+        value - (1 << bits)
+    } else {
+        value
+    }
+}
+
+/// What a header is kept as, or its refusal.
+fn keep_header(block: &[u8]) -> Result<Vec<u8>, u32> {
+    if block.len() < 64 || block.len() > 32767 {
+        return Err(3);
+    }
+    if block[2] != 0 || be(block, 0) < 64 || be(block, 0) > block.len() as i64 {
+        return Err(4);
+    }
+    let style = i64::from(block[4]) * 256 + i64::from(block[23]);
+    let weight = signed(i64::from(block[24]), 8);
+    let wrong = [
+        block[3] > 2,
+        style > 1023,
+        be(block, 8) < 1,
+        be(block, 10) < 1,
+        be(block, 6) >= be(block, 10),
+        block[12] > 1,
+        block[13] > 1,
+        be(block, 14) > 2047,
+        weight < -7,
+        weight > 7,
+    ];
+    if wrong.contains(&true) {
+        return Err(5);
+    }
+    let mut kept = block[..64].to_vec();
+    kept[0] = 0;
+    kept[1] = 64;
+    kept[5] = 0;
+    if be(block, 16) > 16800 {
+        kept[16] = (16800 / 256) as u8;
+        kept[17] = (16800 % 256) as u8;
+    }
+    if be(block, 18) > 10922 {
+        kept[18] = (10922 / 256) as u8;
+        kept[19] = (10922 % 256) as u8;
+    }
+    Ok(kept)
+}
+
+/// The rows drawn, how many bytes drew them, and whether the picture is
+/// complete; or nothing if a run passes the width.
+fn rows(kept: &[u8], data: &[u8]) -> Option<(Vec<Vec<bool>>, usize, bool)> {
+    let (width, height) = (be(kept, 10) as usize, be(kept, 12) as usize);
+    let mut rows: Vec<Vec<bool>> = Vec::new();
+    if kept[3] == 1 {
+        let row_bytes = width.div_ceil(8);
+        let needed = row_bytes * height;
+        for row in 0..height {
+            let dot = |x: usize| {
+                let byte = data.get(row * row_bytes + x / 8).copied().unwrap_or(0);
+                byte & (128 >> (x % 8)) != 0
+            };
+            rows.push((0..width).map(dot).collect());
+        }
+        return Some((rows, data.len().min(needed), data.len() >= needed));
+    }
+    let mut at = 0;
+    while rows.len() < height {
+        let mut next = at;
+        let Some(&count) = data.get(next) else { break };
+        next += 1;
+        let mut row = Vec::new();
+        let mut black = false;
+        while row.len() < width && next < data.len() {
+            row.extend(vec![black; usize::from(data[next])]);
+            black = !black;
+            next += 1;
+        }
+        if row.len() > width {
+            return None;
+        }
+        if row.len() < width {
+            break;
+        }
+        at = next;
+        for _ in 0..=count {
+            rows.push(row.clone());
+        }
+    }
+    let complete = rows.len() >= height;
+    rows.truncate(height);
+    // Without completion all the data belongs to the picture, a begun row's too.
+    let used = if complete { at } else { data.len() };
+    rows.resize(height, vec![false; width]);
+    Some((rows, used, complete))
+}
+
+fn pack(row: &[bool]) -> Vec<u8> {
+    row.chunks(8)
+        .map(|dots| {
+            let dot = |(i, &black): (usize, &bool)| if black { 128_u8 >> i } else { 0 };
+            dots.iter().enumerate().map(dot).sum()
+        })
+        .collect()
+}
+
+/// What first blocks of this beginning and all this data are kept as; the last
+/// is whether the character is complete.
+fn keep_first(block: &[u8], orientation: u8) -> Result<(Character, bool), u32> {
+    if block.len() < 16 {
+        return Err(3);
+    }
+    if block[2] != 14 || (block[3] != 1 && block[3] != 2) {
+        return Err(4);
+    }
+    let (left, top) = (signed(be(block, 6), 16), signed(be(block, 8), 16));
+    let (width, height) = (be(block, 10), be(block, 12));
+    let sizes_ok = (1..=16384).contains(&width) && (1..=16384).contains(&height);
+    if block[4] != orientation || left.abs() > 16384 || top.abs() > 16384 || !sizes_ok {
+        return Err(5);
+    }
+    if (width + 7) / 8 * height > 32768 {
+        return Err(9);
+    }
+    let mut kept = block[..16].to_vec();
+    kept[5] = 0;
+    if signed(be(block, 14), 16) < 0 {
+        kept[14] = 0;
+        kept[15] = 0;
+    }
+    keep_joined(kept, block[16..].to_vec())
+}
+
+fn keep_joined(kept: Vec<u8>, mut data: Vec<u8>) -> Result<(Character, bool), u32> {
+    let Some((_, used, complete)) = rows(&kept, &data) else {
+        return Err(8);
+    };
+    data.truncate(used);
+    if data.len() > 32768 {
+        return Err(9);
+    }
+    Ok((Character { kept, data }, complete))
+}
+
+fn in_range(font: u32, code: u32) -> Result<(), u32> {
+    if font > 32767 || code > 255 {
+        return Err(2);
+    }
+    Ok(())
+}
+
+impl Model {
+    pub fn fresh(length: usize) -> Model {
+        Model {
+            length,
+            open: None,
+            fonts: BTreeMap::new(),
+        }
+    }
+
+    fn records(&self) -> Vec<u8> {
+        let mut bytes = Vec::new();
+        let two = |number: u32| [(number % 256) as u8, (number / 256) as u8];
+        bytes.extend([12, 0, 0, 0, 1, 0]);
+        let (font, code) = self.open.unwrap_or((0, 0));
+        for number in [u32::from(self.open.is_some()), font, code] {
+            bytes.extend(two(number));
+        }
+        for (&number, font) in &self.fonts {
+            bytes.extend([72, 0, 0, 0, 2, 0]);
+            bytes.extend(two(number));
+            bytes.extend(&font.header);
+            for (&code, character) in &font.characters {
+                bytes.extend((26 + character.data.len() as u32).to_le_bytes());
+                bytes.extend([3, 0]);
+                bytes.extend(two(number));
+                bytes.extend(two(code));
+                bytes.extend(&character.kept);
+                bytes.extend(&character.data);
+            }
+        }
+        bytes
+    }
+
+    fn fits(&self) -> bool {
+        self.records().len() <= self.length
+    }
+
+    pub fn bytes(&self) -> Vec<u8> {
+        let mut bytes = self.records();
+        bytes.resize(self.length, 0);
+        bytes
+    }
+
+    /// The store that these bytes are, if they are one: read without care, then
+    /// every rule held against what was read, and written again.
+    pub fn of(bytes: &[u8]) -> Option<Model> {
+        if bytes.len() < 12 || bytes.len() > 65536 {
+            return None;
+        }
+        let two = |at: usize| u32::from(bytes[at]) + 256 * u32::from(bytes[at + 1]);
+        let mut model = Model::fresh(bytes.len());
+        if two(6) == 1 {
+            model.open = Some((two(8), two(10)));
+        }
+        let mut at = 12;
+        while at + 6 <= bytes.len() && bytes[at..at + 4] != [0; 4] {
+            let length = two(at) as usize + 65536 * two(at + 2) as usize;
+            let body = bytes.get(at..)?.get(..length)?;
+            if two(at + 4) == 2 {
+                let font = Font {
+                    header: body.get(8..)?.to_vec(),
+                    characters: BTreeMap::new(),
+                };
+                model.fonts.insert(two(at + 6), font);
+            } else {
+                let character = Character {
+                    kept: body.get(10..26)?.to_vec(),
+                    data: body[26..].to_vec(),
+                };
+                let font = model.fonts.get_mut(&two(at + 6))?;
+                font.characters.insert(two(at + 8), character);
+            }
+            at += length;
+        }
+        for (&number, font) in &model.fonts {
+            in_range(number, 0).ok()?;
+            if keep_header(&font.header) != Ok(font.header.clone()) {
+                return None;
+            }
+            for (&code, character) in &font.characters {
+                in_range(number, code).ok()?;
+                let block = [character.kept.clone(), character.data.clone()].concat();
+                let (kept, complete) = keep_first(&block, font.header[12]).ok()?;
+                if block[0..2] != [4, 0] || kept != *character {
+                    return None;
+                }
+                if complete && model.open == Some((number, code)) {
+                    return None;
+                }
+            }
+        }
+        if let Some((font, code)) = model.open {
+            model.fonts.get(&font)?.characters.get(&code)?;
+        }
+        (model.fits() && model.bytes() == bytes).then_some(model)
+    }
+
+    /// "It also closes if removed": after anything that may have removed it.
+    fn close_if_gone(&mut self) {
+        if let Some((font, code)) = self.open {
+            let there = self
+                .fonts
+                .get(&font)
+                .map(|f| f.characters.contains_key(&code));
+            if there != Some(true) {
+                self.open = None;
+            }
+        }
+    }
+
+    pub fn download_font(&mut self, block: &[u8], font: u32) -> Result<(), u32> {
+        in_range(font, 0)?;
+        let header = keep_header(block)?;
+        let mut after = self.clone();
+        let characters = BTreeMap::new();
+        after.fonts.insert(font, Font { header, characters });
+        after.close_if_gone();
+        if !after.fits() {
+            return Err(10);
+        }
+        *self = after;
+        Ok(())
+    }
+
+    pub fn download_character(&mut self, block: &[u8], font: u32, code: u32) -> Result<(), u32> {
+        in_range(font, code)?;
+        if block.len() < 2 || block.len() > 32767 {
+            return Err(3);
+        }
+        let kept_font = self.fonts.get(&font).ok_or(6_u32)?;
+        if block[0] != 4 {
+            return Err(4);
+        }
+        let mut after = self.clone();
+        let (character, complete) = if block[1] == 0 {
+            keep_first(block, kept_font.header[12])?
+        } else {
+            if self.open != Some((font, code)) {
+                return Err(7);
+            }
+            let old = &kept_font.characters[&code];
+            let joined = [old.data.clone(), block[2..].to_vec()].concat();
+            keep_joined(old.kept.clone(), joined)?
+        };
+        let characters = &mut after.fonts.get_mut(&font).unwrap().characters;
+        characters.insert(code, character);
+        after.open = if complete { None } else { Some((font, code)) };
+        if !after.fits() {
+            self.fonts.remove(&font);
+            self.close_if_gone();
+            return Err(10);
+        }
+        *self = after;
+        Ok(())
+    }
+
+    pub fn remove_font(&mut self, font: u32) -> Result<(), u32> {
+        in_range(font, 0)?;
+        self.fonts.remove(&font).ok_or(6_u32)?;
+        self.close_if_gone();
+        Ok(())
+    }
+
+    pub fn remove_character(&mut self, font: u32, code: u32) -> Result<(), u32> {
+        in_range(font, code)?;
+        let kept = self.fonts.get_mut(&font).ok_or(6_u32)?;
+        kept.characters.remove(&code).ok_or(7_u32)?;
+        self.close_if_gone();
+        Ok(())
+    }
+
+    pub fn tell_font(&self, out: &mut [u8], font: u32) -> Result<u32, u32> {
+        in_range(font, 0)?;
+        let kept = self.fonts.get(&font).ok_or(6_u32)?;
+        write(out, &kept.header)?;
+        Ok(kept.characters.len() as u32)
+    }
+
+    fn character(&self, font: u32, code: u32) -> Result<&Character, u32> {
+        in_range(font, code)?;
+        let kept = self.fonts.get(&font).ok_or(6_u32)?;
+        kept.characters.get(&code).ok_or(7)
+    }
+
+    pub fn tell_character(&self, out: &mut [u8], font: u32, code: u32) -> Result<u32, u32> {
+        let character = self.character(font, code)?;
+        write(out, &character.kept)?;
+        Ok(character.data.len() as u32)
+    }
+
+    fn dots(&self, font: u32, code: u32) -> Result<Vec<Vec<bool>>, u32> {
+        let character = self.character(font, code)?;
+        Ok(rows(&character.kept, &character.data).unwrap().0)
+    }
+
+    pub fn draw_row(&self, out: &mut [u8], font: u32, code: u32, row: u32) -> Result<(), u32> {
+        let dots = self.dots(font, code)?;
+        write(out, &pack(dots.get(row as usize).ok_or(2_u32)?))
+    }
+
+    pub fn draw_picture(&self, out: &mut [u8], font: u32, code: u32) -> Result<(), u32> {
+        let dots = self.dots(font, code)?;
+        let picture: Vec<u8> = dots.iter().flat_map(|row| pack(row)).collect();
+        write(out, &picture)
+    }
+
+    pub fn choose(&self, request: &Request) -> Result<u32, u32> {
+        let tops = [2047, 1, 57600, 99975, 1023, 65535, 1];
+        let numbers = [
+            request.symbol_set,
+            request.spacing,
+            request.pitch,
+            request.height,
+            request.style,
+            request.typeface,
+            request.orientation,
+        ];
+        let above = numbers.iter().zip(tops).any(|(&number, top)| number > top);
+        if above || request.weight < -7 || request.weight > 7 {
+            return Err(2);
+        }
+        let mut left: Vec<(u32, &[u8])> = Vec::new();
+        for (&number, font) in &self.fonts {
+            left.push((number, &font.header));
+        }
+        let set = |f: &(u32, &[u8])| be(f.1, 14);
+        let asked = i64::from(request.symbol_set);
+        let wanted = if left.iter().any(|f| set(f) == asked) {
+            asked
+        } else {
+            277
+        };
+        left.retain(|f| set(f) == wanted);
+        if left.is_empty() {
+            return Err(11);
+        }
+        prefer(&mut left, |f| u32::from(f.1[13]) == request.spacing);
+        if left.iter().all(|f| f.1[13] == 0) {
+            let pitch = |f: &(u32, &[u8])| be(f.1, 16);
+            let qualifies = |f: &(u32, &[u8])| i64::from(request.pitch) * pitch(f) <= 120_000;
+            let best = match left.iter().filter(|f| qualifies(f)).map(pitch).max() {
+                Some(greatest) => greatest,
+                None => left.iter().map(pitch).min().unwrap(),
+            };
+            left.retain(|f| pitch(f) == best);
+        }
+        let away = |f: &(u32, &[u8])| {
+            let distance = (i64::from(request.height) - 6 * be(f.1, 18)).abs();
+            if distance <= 25 {
+                0
+            } else {
+                distance
+            }
+        };
+        let least = left.iter().map(away).min().unwrap();
+        left.retain(|f| away(f) == least);
+        prefer(&mut left, |f| {
+            u32::from(f.1[4]) * 256 + u32::from(f.1[23]) == request.style
+        });
+        let weight = |f: &(u32, &[u8])| signed(i64::from(f.1[24]), 8) as i32;
+        let thicker = left
+            .iter()
+            .map(weight)
+            .filter(|&w| w > request.weight)
+            .min();
+        let thinner = left
+            .iter()
+            .map(weight)
+            .filter(|&w| w < request.weight)
+            .max();
+        let best = if left.iter().any(|f| weight(f) == request.weight) {
+            request.weight
+        } else if request.weight >= 0 {
+            thicker.or(thinner).unwrap()
+        } else {
+            thinner.or(thicker).unwrap()
+        };
+        left.retain(|f| weight(f) == best);
+        prefer(&mut left, |f| {
+            u32::from(f.1[26]) * 256 + u32::from(f.1[25]) == request.typeface
+        });
+        prefer(&mut left, |f| u32::from(f.1[12]) == request.orientation);
+        Ok(left.iter().map(|f| f.0).min().unwrap())
+    }
+
+    pub fn write_font(&self, out: &mut [u8], font: u32) -> Result<u32, u32> {
+        in_range(font, 0)?;
+        let kept = self.fonts.get(&font).ok_or(6_u32)?;
+        let mut stream = format!("\x1b*c{font}D\x1b)s64W").into_bytes();
+        stream.extend(&kept.header);
+        for (code, character) in &kept.characters {
+            stream.extend(format!("\x1b*c{code}E").bytes());
+            let first = &character.data[..character.data.len().min(32751)];
+            let rest = &character.data[first.len()..];
+            stream.extend(format!("\x1b(s{}W", 16 + first.len()).bytes());
+            stream.extend(&character.kept);
+            stream.extend(first);
+            if !rest.is_empty() {
+                stream.extend(format!("\x1b(s{}W", 2 + rest.len()).bytes());
+                stream.extend([4, 1]);
+                stream.extend(rest);
+            }
+        }
+        write(out, &stream)?;
+        Ok(stream.len() as u32)
+    }
+
+    pub fn read_stream(&mut self, stream: &[u8]) -> StreamRead {
+        let (mut font, mut code) = (0, 0);
+        let mut read = StreamRead::default();
+        let mut at = 0;
+        while at < stream.len() {
+            let Some((letters, number, end, mut next)) = split(stream, at) else {
+                return broken(read, at);
+            };
+            let result = match (letters.as_str(), end) {
+                ("\x1b*c", 'D') => in_range(number, 0).map(|()| font = number),
+                ("\x1b*c", 'E') => in_range(0, number).map(|()| code = number),
+                ("\x1b)s" | "\x1b(s", 'W') => {
+                    let start = next;
+                    next += number as usize;
+                    if number > 32767 || next > stream.len() {
+                        return broken(read, at);
+                    }
+                    if letters == "\x1b)s" {
+                        self.download_font(&stream[start..next], font)
+                    } else {
+                        self.download_character(&stream[start..next], font, code)
+                    }
+                }
+                _ => return broken(read, at),
+            };
+            match result {
+                Ok(()) => read.done += 1,
+                Err(_) => read.refused += 1,
+            }
+            at = next;
+        }
+        read
+    }
+}
+
+fn broken(read: StreamRead, at: usize) -> StreamRead {
+    StreamRead {
+        refusal: 13,
+        place: at as u64,
+        ..read
+    }
+}
+
+/// Three bytes, one to five digits, and one byte more, if that is what stands
+/// there; the last is the place behind them.
+fn split(stream: &[u8], at: usize) -> Option<(String, u32, char, usize)> {
+    let letters: String = stream
+        .get(at..at + 3)?
+        .iter()
+        .map(|&b| char::from(b))
+        .collect();
+    let mut digits = String::new();
+    let mut next = at + 3;
+    while stream.get(next)?.is_ascii_digit() {
+        digits.push(char::from(stream[next]));
+        next += 1;
+    }
+    if digits.len() > 5 {
+        return None;
+    }
+    Some((
+        letters,
+        digits.parse().ok()?,
+        char::from(stream[next]),
+        next + 1,
+    ))
+}
+
+fn prefer(left: &mut Vec<(u32, &[u8])>, has: impl Fn(&(u32, &[u8])) -> bool) {
+    if left.iter().any(&has) {
+        left.retain(has);
+    }
+}
+
+fn write(out: &mut [u8], bytes: &[u8]) -> Result<(), u32> {
+    if out.len() < bytes.len() {
+        return Err(12);
+    }
+    out[..bytes.len()].copy_from_slice(bytes);
+    Ok(())
+}
+
+pub fn number(result: Result<(), u32>) -> u32 {
+    result.err().unwrap_or(0)
+}
+
+pub fn told(result: Result<u32, u32>) -> Told {
+    Told {
+        refusal: result.err().unwrap_or(0),
+        count: result.unwrap_or(0),
+    }
+}
+
+pub fn chosen(result: Result<u32, u32>) -> Chosen {
+    Chosen {
+        refusal: result.err().unwrap_or(0),
+        font: result.unwrap_or(0),
+    }
+}
+
+pub fn written(result: Result<u32, u32>) -> Written {
+    Written {
+        refusal: result.err().unwrap_or(0),
+        length: result.unwrap_or(0),
+    }
+}
