@@ -1,0 +1,33 @@
+-- A record and the open mark, written part by part. Assumes nothing.
+use mathlib.Core.Path.{_≡_, refl, sym, ap, _∙_}
+use mathlib.Core.List.{List, [], _∷_, _++_, append-assoc}
+use Prim.Native.Nat.{ℕ, _+_, _-_, _<_, _≤_}
+use native.Mathlib.Omega.{arith}
+use lib.ListN.{length, take, drop, length-append}
+use borrow.Rule.Slice.PartMut.{putMid, post-is}
+use Rattle.store.specs.Num.{le}
+use Rattle.store.specs.Model.{Rec, font, Mark, bytesOf}
+use Rattle.store.specs.Change.{put, remarked}
+use Rattle.store.proofs.Numbers.{length-le}
+use Rattle.store.proofs.Puts.{put-put}
+
+pub remark-put : (s : List ℕ) (m : Mark) → 12 ≤ length s → put (put (put s 6 (le 2 (m .on))) 8 (le 2 (m .fontOf))) 10 (le 2 (m .codeOf)) ≡ remarked m s
+unfolding remarked le
+remark-put s m h =
+    rw (put-put s 6 (le 2 (m .on)) (le 2 (m .fontOf)) 8 (omega arith) (omega arith), put-put s 6 (le 2 (m .on) ++ le 2 (m .fontOf)) (le 2 (m .codeOf)) 10 (omega arith) (omega arith))
+
+-- a part that was lent and came back
+pub mid-put : (s : List ℕ) (a e : ℕ) (b : List ℕ) → a ≤ e → length b ≡ e - a → putMid a (e - a) s b ≡ put s a b
+unfolding put
+mid-put s a e b l q = let i : a + length b ≡ e = omega arith in rw (post-is a e s l, i)
+
+pub font-put : (s : List ℕ) (at n : ℕ) (h : List ℕ) → length h ≡ 64 → at + 72 ≤ length s
+    → put (put (put (put (put s at (le 2 72)) (at + 2) (le 2 0)) (at + 4) (le 2 2)) (at + 6) (le 2 n)) (at + 8) h ≡ put s at (bytesOf (font n h))
+unfolding bytesOf le
+font-put s at n h l e =
+    rw (
+      put-put s at (le 2 72) (le 2 0) (at + 2) (omega arith) (omega arith),
+      put-put s at (le 2 72 ++ le 2 0) (le 2 2) (at + 4) (omega arith) (omega arith),
+      put-put s at ((le 2 72 ++ le 2 0) ++ le 2 2) (le 2 n) (at + 6) (omega arith) (omega arith),
+      put-put s at (((le 2 72 ++ le 2 0) ++ le 2 2) ++ le 2 n) h (at + 8) (omega arith) (omega arith),
+    )

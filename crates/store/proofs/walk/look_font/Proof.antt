@@ -1,0 +1,60 @@
+use mathlib.Core.Path.{_≡_, sym, _∙_}
+use Prim.Native.Nat.{_+_}
+use borrow.Author.Tests.{le-leb, lt-leb}
+use lib.ListN.{length-take, length-drop}
+use denote.Ref.{now}
+use Rattle.blocks.proofs.Checks.{failed, passed}
+use Rattle.store.specs.Num.{_&_}
+use Rattle.store.proofs.Heads.{part-at, font-long, font-is}
+use borrow.Author.Needs.{needs}
+use native.Mathlib.Omega.{arith}
+use Rattle.store.proofs.walk.look_font.Statement.{statement}
+use Rattle.store.proofs.walk.look_font.Tie as tie
+
+returns : tie.Need-returns
+returns c = λ u. sym (font-long u _ _ _ (c .before .before .pre .0) (c .before .before .pre .1) (c .if1 .taken))
+
+returns-2 : tie.Need-returns-2
+unfolding _&_
+returns-2 c =
+    let k4 = c .before .before .before .before in
+    λ u. sym (font-is u _ _ _ (k4 .pre .0) (k4 .pre .1) (c .before .before .if1 .left) ∙ rw (lt-leb _ _ (rw (c .before .le16 .ensures .0) at (c .if2 .taken))))
+
+returns-3 : tie.Need-returns-3
+unfolding _&_
+returns-3 c =
+    let k3 = c .before .before .before in
+    let k4 = k3 .before in
+    let k5 = k4 .before in
+    let k7 = k5 .before .before in
+    λ u.
+    sym (font-is u _ _ _ (k7 .pre .0) (k7 .pre .1) (k5 .if1 .left) ∙ rw (le-leb _ _ (rw (k4 .le16 .ensures .0) at (k3 .if2 .left)), ← (part-at (k7 .args .at) 8 64 72 (now (k7 .args .s)) (omega arith)), failed (c .before .is-kept-header .ensures) (c .if3 .taken)))
+
+returns-4 : tie.Need-returns-4
+unfolding _&_
+returns-4 c =
+    let k4 = c .before .before .before .before in
+    let k5 = k4 .before in
+    let k6 = k5 .before in
+    let k8 = k6 .before .before in
+    λ u.
+    rw (k5 .le16 .ensures .0) (sym (font-is u _ _ _ (k8 .pre .0) (k8 .pre .1) (k6 .if1 .left) ∙ rw (le-leb _ _ (rw (k5 .le16 .ensures .0) at (k4 .if2 .left)), ← (part-at (k8 .args .at) 8 64 72 (now (k8 .args .s)) (omega arith)), passed (c .before .before .is-kept-header .ensures) (c .before .if3 .left))))
+
+pub look-font-spec : {M : Type 1} → statement M
+look-font-spec =
+    tie.close
+    (tie.spec
+    returns
+    (λ c. search needs)
+    (λ c κs. search needs)
+    returns-2
+    (λ c. search needs)
+    (λ c. search needs)
+    (λ c. search needs)
+    (λ c. search needs)
+    (λ c. search needs)
+    (λ c κs. search needs)
+    returns-3
+    (λ c. search needs)
+    (λ c. search needs)
+    returns-4)

@@ -1,0 +1,178 @@
+-- Document 01, "The store": the store as a value (its length, its open mark, its records in order), its bytes (`encode`), and the store that
+-- bytes are (`decode`). A buffer is a store exactly if it decodes. The laws `decode-encode` and `encode-decode` tie the two.
+use Prim.Native.Nat.{ℕ, zero, suc, _+_, _-_}
+use mathlib.Core.List.{List, [], _∷_, _++_}
+use mathlib.Core.Bool.{Bool, true, false, _||_, cond}
+use mathlib.Core.Option.{Option, none, some}
+use lib.ListN.{length, take, drop, replicate}
+use lib.Dec.{eqb, leb}
+use Rattle.blocks.specs.Header.{orientation, isKeptHeader}
+use Rattle.blocks.specs.Character.{class, width, height, isKeptFirst}
+use Rattle.blocks.specs.Picture.{held}
+use Rattle.blocks.specs.declared.picture.Held.{Held}
+use Rattle.blocks.specs.declared.picture.Held.the-variants.{Whole, Unfinished, Foreign}
+use Rattle.store.specs.Layout.{leastStore, mostStore, markRecord, markKind, fontRecord, fontKind, characterRecord, characterKind, lastFont, lastCode, keyOf}
+use Rattle.store.specs.Num.{_&_, num, le, field, allZero}
+
+-- a record: a font (number, kept bytes), or a character (font number, code, kept bytes, data)
+pub data Rec : Type 0 where
+  font : ℕ → List ℕ → Rec
+  character : ℕ → ℕ → List ℕ → List ℕ → Rec
+
+-- "open mark 0 or 1, font number, code"
+pub record Mark : Type 0 where
+  pub on : ℕ
+  pub fontOf : ℕ
+  pub codeOf : ℕ
+
+pub record Store : Type 0 where
+  pub size : ℕ
+  pub mark : Mark
+  pub recs : List Rec
+
+-- ── bytes: "low byte first: length of the whole record (4 bytes), kind (2), body"
+
+-- "Kind 2, 72 bytes: font number, 64 kept bytes. Kind 3, 26 bytes and the data: font number, code, 16 kept bytes, data."
+unfoldable pub bytesOf : Rec → List ℕ
+bytesOf (font n h) = le 4 fontRecord ++ (le 2 fontKind ++ (le 2 n ++ h))
+bytesOf (character n c h d) = le 4 (characterRecord + length d) ++ (le 2 characterKind ++ (le 2 n ++ (le 2 c ++ (h ++ d))))
+
+unfoldable pub run : List Rec → List ℕ
+run [] = []
+run (r ∷ rs) = bytesOf r ++ run rs
+
+-- "Kind 1, once, first, 12 bytes: open mark 0 or 1, font number, code, two bytes each"
+unfoldable pub markBytes : Mark → List ℕ
+markBytes m = le 4 markRecord ++ (le 2 markKind ++ (le 2 (m .on) ++ (le 2 (m .fontOf) ++ le 2 (m .codeOf))))
+
+-- "All remaining bytes are 0."
+abbrev pub padded : ℕ → List ℕ → List ℕ
+padded n l = l ++ replicate (n - length l) 0
+
+unfoldable pub encode : Store → List ℕ
+encode st = padded (st .size) (markBytes (st .mark) ++ run (st .recs))
+
+-- ── what a store may hold: "numbers are in range, every kept field is as the rules above leave it, every character could have been accepted"
+
+unfoldable pub number : Rec → ℕ
+number (font n h) = n
+number (character n c h d) = n
+
+unfoldable pub place : Rec → ℕ
+place (font n h) = 0
+place (character n c h d) = c + 1
+
+abbrev pub key : Rec → ℕ
+key r = keyOf (number r) (place r)
+
+-- the font whose characters may stand next: its number and 1 (0 where there is none), and its orientation
+pub record Under : Type 0 where
+  pub owner : ℕ
+  pub turn : ℕ
+
+abbrev pub alone : Under
+alone = record { owner = 0; turn = 0 }
+
+unfoldable pub under : Under → Rec → Under
+under u (font n h) = record { owner = n + 1; turn = orientation h }
+under u (character n c h d) = u
+
+-- a character's data, by its descriptor
+abbrev pub heldOf : List ℕ → List ℕ → Held
+heldOf h d = held (class h) (width h) (height h) d
+
+abbrev pub isKept : Held → Bool
+isKept Whole = true
+isKept Unfinished = true
+isKept Foreign = false
+
+abbrev pub isUnfinished : Held → Bool
+isUnfinished Whole = false
+isUnfinished Unfinished = true
+isUnfinished Foreign = false
+
+-- the same, where the descriptor must be a kept one of a font of this orientation
+unfoldable pub heldUnder : ℕ → List ℕ → List ℕ → Held
+heldUnder turn h d = cond (isKeptFirst h turn) (heldOf h d) Foreign
+
+-- a record that may stand behind the font u
+unfoldable pub allowed : Under → Rec → Bool
+allowed u (font n h) = leb n lastFont & isKeptHeader h
+allowed u (character n c h d) = eqb (u .owner) (n + 1) & leb n lastFont & leb c lastCode & isKept (heldUnder (u .turn) h d)
+
+-- "Fonts stand by rising number, each followed by its characters by rising code." The first key is at least k.
+unfoldable pub sorted : ℕ → Under → List Rec → Bool
+sorted k u [] = true
+sorted k u (r ∷ rs) = allowed u r & leb k (key r) & sorted (key r + 1) (under u r) rs
+
+unfoldable pub unfinished : Rec → Bool
+unfinished (font n h) = false
+unfinished (character n c h d) = isUnfinished (heldOf h d)
+
+-- one of the records has this key, and is an incomplete character
+unfoldable pub opened : ℕ → List Rec → Bool
+opened k [] = false
+opened k (r ∷ rs) = eqb (key r) k & unfinished r || opened k rs
+
+-- "all 0 if none is open"; "the open mark names a kept, incomplete character"
+unfoldable pub markOk : Mark → List Rec → Bool
+markOk m rs =
+    cond (eqb (m .on) 0)
+    (eqb (m .fontOf) 0 & eqb (m .codeOf) 0)
+    (eqb (m .on) 1 & leb (m .fontOf) lastFont & leb (m .codeOf) lastCode & opened (keyOf (m .fontOf) (m .codeOf + 1)) rs)
+
+-- ── reading
+
+unfoldable pub guard {ℓ} : {A : Type ℓ} → Bool → Option A → Option A
+guard true o = o
+guard false o = none
+
+-- the record at the front of s, if there is one
+unfoldable pub headRec : List ℕ → Option Rec
+headRec s =
+    guard (leb (field 4 0 s) (length s))
+    (cond (eqb (field 2 4 s) fontKind)
+    (guard (eqb (field 4 0 s) fontRecord) (some (font (field 2 6 s) (take 64 (drop 8 s)))))
+    (guard (eqb (field 2 4 s) characterKind)
+    (guard (leb characterRecord (field 4 0 s)) (some (character (field 2 6 s) (field 2 8 s) (take 16 (drop 10 s)) (take (field 4 0 s - characterRecord) (drop characterRecord s)))))))
+
+-- the length of a record, and of a run of records
+unfoldable pub sizeOf : Rec → ℕ
+sizeOf (font n h) = fontRecord
+sizeOf (character n c h d) = characterRecord + length d
+
+unfoldable pub total : List Rec → ℕ
+total [] = 0
+total (r ∷ rs) = sizeOf r + total rs
+
+unfoldable pub consTo : Rec → Option (List Rec) → Option (List Rec)
+consTo r none = none
+consTo r (some rs) = some (r ∷ rs)
+
+unfoldable pub andThen : Option Rec → (Rec → Option (List Rec)) → Option (List Rec)
+andThen none g = none
+andThen (some r) g = consTo r (g r)
+
+-- the records that s is, with zeros after, in at most k steps
+unfoldable pub splitIn : ℕ → List ℕ → Option (List Rec)
+splitIn zero s = none
+splitIn (suc k) s = cond (allZero s) (some []) (andThen (headRec s) (λ r. splitIn k (drop (sizeOf r) s)))
+
+unfoldable pub split : List ℕ → Option (List Rec)
+split s = splitIn (suc (length s)) s
+
+-- the open mark in the first record
+abbrev pub markIn : List ℕ → Mark
+markIn s = record { on = field 2 6 s; fontOf = field 2 8 s; codeOf = field 2 10 s }
+
+-- 12..65,536 bytes, and the first record
+unfoldable pub begins : List ℕ → Bool
+begins s = leb leastStore (length s) & leb (length s) mostStore & eqb (field 4 0 s) markRecord & eqb (field 2 4 s) markKind
+
+unfoldable pub validOr : ℕ → Mark → Option (List Rec) → Option Store
+validOr n m none = none
+validOr n m (some rs) = guard (sorted 0 alone rs & markOk m rs) (some (record { size = n; mark = m; recs = rs }))
+
+-- the store that s is, if it is one
+unfoldable pub decode : List ℕ → Option Store
+decode s = guard (begins s) (validOr (length s) (markIn s) (split (drop markRecord s)))

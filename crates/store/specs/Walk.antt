@@ -1,0 +1,162 @@
+-- What the walk over the records answers, record by record: the contracts of the code that checks a buffer and finds places in it.
+use Prim.Native.Nat.{ℕ, _+_, _*_, _≤_, _<_}
+use mathlib.Core.Path.{_≡_}
+use mathlib.Core.List.{List, [], _∷_}
+use mathlib.Core.Bool.{Bool, true, false, not, cond, _&&_, _||_}
+use mathlib.Core.Option.{Option, none, some}
+use lib.ListN.{length, drop}
+use lib.Dec.{eqb, leb, ltb}
+use Rattle.store.specs.Layout.{lastFont, lastCode, keyOf}
+use Rattle.store.specs.Num.{_&_, field}
+use Rattle.store.specs.Model.{Rec, Mark, Store, Under, under, alone, allowed, sorted, unfinished, opened, number, place, headRec, sizeOf, total, split, decode}
+use Rattle.store.specs.Order.{below}
+use Rattle.store.specs.Calls.{charactersOf}
+use Rattle.store.specs.declared.walk.Query.{Query}
+use Rattle.store.specs.declared.walk.Item.{Item}
+use Rattle.store.specs.declared.walk.Head.{Head}
+use Rattle.store.specs.declared.walk.Head.the-variants.{End, Rec as HeadRec, Bad}
+use Rattle.store.specs.declared.walk.Pos.{Pos}
+use Rattle.store.specs.declared.walk.Places.{Places}
+use Rattle.store.specs.declared.walk.Walk.{Walk}
+use Rattle.store.specs.declared.walk.Walk.the-variants.{Run, Broken}
+use Rattle.store.specs.declared.walk.Step.{Step}
+use Rattle.store.specs.declared.walk.Step.the-variants.{Go, Stop}
+use Rattle.store.specs.declared.walk.MarkSeen.{MarkSeen}
+use Rattle.store.specs.declared.walk.MarkSeen.the-variants.{Shut, Open, Wrong}
+use Rattle.store.specs.declared.walk.Lookup.{Lookup}
+use Rattle.store.specs.declared.walk.Lookup.the-variants.{At, Missing}
+use Rattle.store.specs.declared.walk.Inspected.{Inspected}
+use Rattle.store.specs.declared.walk.Inspected.the-variants.{Found, NotStore}
+
+-- ── one record
+
+-- the numbers of a record behind the font u
+abbrev pub itemOf : Under → Rec → Item
+itemOf u r = record { font = number r; place = place r; len = sizeOf r; turn = under u r .turn; unfinished = unfinished r }
+
+-- the record at the front, if it may stand behind the font u
+unfoldable pub seen : Under → Option Rec → Head
+seen u none = Bad
+seen u (some r) = cond (allowed u r) (HeadRec (itemOf u r)) Bad
+
+unfoldable pub headOf : Under → List ℕ → Head
+headOf u s = cond (ltb (length s) 26) End (cond (eqb (field 4 0 s) 0) End (seen u (headRec s)))
+
+-- a record's length and more stand at a place of s
+pub record Heading (s : List ℕ) (at len : ℕ) : Type 0 where
+  pub is : field 4 at s ≡ len
+  pub some : 0 < len
+  pub room : at + 26 ≤ length s
+  pub fits : at + len ≤ length s
+
+-- ── the walk
+
+-- where a walk begins: behind the first record
+abbrev pub start : Pos
+start =
+    record { at = 12; lo = 12; from = 12; to = 12; hi = 12; chars = 0; marked = false; key = 0; owner = 0; turn = 0 }
+
+abbrev pub standing : Pos → Under
+standing p = record { owner = p .owner; turn = p .turn }
+
+-- what is asked for of font n and its place p, where m is the key of the open character
+abbrev pub asking : ℕ → ℕ → ℕ → Query
+asking n p m = record { font = n; lo = keyOf n 0; from = keyOf n p; to = keyOf n p + 1; hi = keyOf (n + 1) 0; mark = m }
+
+-- n, if the test holds
+unfoldable pub countIf : Bool → ℕ → ℕ
+countIf b n = cond b n 0
+
+-- a walk behind a record
+abbrev pub behind : Query → Pos → Item → Pos
+behind q p i =
+    record {
+      at = p .at + i .len;
+      lo = p .lo + countIf (ltb (keyOf (i .font) (i .place)) (q .lo)) (i .len);
+      from = p .from + countIf (ltb (keyOf (i .font) (i .place)) (q .from)) (i .len);
+      to = p .to + countIf (ltb (keyOf (i .font) (i .place)) (q .to)) (i .len);
+      hi = p .hi + countIf (ltb (keyOf (i .font) (i .place)) (q .hi)) (i .len);
+      chars = p .chars + countIf (eqb (i .font) (q .font) && not (eqb (i .place) 0)) 1;
+      marked = p .marked || (eqb (keyOf (i .font) (i .place)) (q .mark) && i .unfinished);
+      key = keyOf (i .font) (i .place) + 1;
+      owner = i .font + 1;
+      turn = i .turn;
+    }
+
+-- a record's key rises
+unfoldable pub passed : Query → Pos → Item → Step
+passed q p i = cond (leb (p .key) (keyOf (i .font) (i .place))) (Go (behind q p i)) (Stop Broken)
+
+-- the places of a walk that goes on from p over these records
+abbrev pub placesFrom : Query → Pos → List Rec → Places
+placesFrom q p rs =
+    record {
+      used = p .at + total rs;
+      lo = p .lo + total (below (q .lo) rs);
+      from = p .from + total (below (q .from) rs);
+      to = p .to + total (below (q .to) rs);
+      hi = p .hi + total (below (q .hi) rs);
+      chars = p .chars + length (charactersOf (q .font) rs);
+    }
+
+-- the answer of a walk from p on over these records
+unfoldable pub walked : Query → Pos → Option (List Rec) → Walk
+walked q p none = Broken
+walked q p (some rs) = cond (sorted (p .key) (standing p) rs) (Run (placesFrom q p rs) (p .marked || opened (q .mark) rs)) Broken
+
+-- the answer after a step
+unfoldable pub outcome : Query → List ℕ → Step → Walk
+outcome q s (Go p) = walked q p (split (drop (p .at) s))
+outcome q s (Stop w) = w
+
+-- the sums of a walk stay within what it passed
+pub record Within (n : ℕ) (p : Pos) : Type 0 where
+  pub at : p .at ≤ n
+  pub lo : p .lo ≤ p .at
+  pub from : p .from ≤ p .at
+  pub to : p .to ≤ p .at
+  pub hi : p .hi ≤ p .at
+  pub chars : p .chars ≤ p .at
+
+-- a step goes ahead, within n bytes
+unfoldable pub Ahead : ℕ → Pos → Step → Type 0
+Ahead n p (Go q) = (p .at < q .at) × Within n q
+Ahead n p (Stop w) = Unit {0}
+
+-- ── a whole buffer: the places of font n, and of the record at place p of it (0 the font, code + 1 a character)
+abbrev pub placesOf : ℕ → ℕ → List Rec → Places
+placesOf n p rs =
+    record {
+      used = 12 + total rs;
+      lo = 12 + total (below (keyOf n 0) rs);
+      from = 12 + total (below (keyOf n p) rs);
+      to = 12 + total (below (keyOf n p + 1) rs);
+      hi = 12 + total (below (keyOf (n + 1) 0) rs);
+      chars = length (charactersOf n rs);
+    }
+
+-- the open mark by its numbers: closed, naming the character with a key, or neither
+unfoldable pub markSeen : Mark → MarkSeen
+markSeen m =
+    cond (eqb (m .on) 0)
+    (cond (eqb (m .fontOf) 0 & eqb (m .codeOf) 0) Shut Wrong)
+    (cond (eqb (m .on) 1 & leb (m .fontOf) lastFont & leb (m .codeOf) lastCode) (Open (keyOf (m .fontOf) (m .codeOf + 1))) Wrong)
+
+-- the records of a buffer whose first record is right; with `must`, the character with the key m must be there and incomplete
+unfoldable pub surveyed : ℕ → ℕ → ℕ → Bool → Option (List Rec) → Inspected
+surveyed n p m must none = NotStore
+surveyed n p m must (some rs) = cond (sorted 0 alone rs & (not must || opened m rs)) (Found (placesOf n p rs)) NotStore
+
+unfoldable pub inspected : ℕ → ℕ → Option Store → Inspected
+inspected n p none = NotStore
+inspected n p (some st) = Found (placesOf n p (st .recs))
+
+-- s is a store, and w are the places of font n and its place p in it
+pub record Stands (n p : ℕ) (s : List ℕ) (w : Places) : Type 0 where
+  pub store : Store
+  pub is : decode s ≡ some store
+  pub at : placesOf n p (store .recs) ≡ w
+
+-- a record, or a font with its characters, stands from one place to another, if these differ
+abbrev pub lookedUp : ℕ → ℕ → Lookup
+lookedUp from to = cond (ltb from to) (At from) Missing

@@ -1,0 +1,137 @@
+// Changes of a buffer: moving, clearing and writing bytes, and the one splice that every change of the record run is made of.
+ghost use mathlib.Core.Path.{_≡_};
+ghost use mathlib.Core.List.{_∷_, []};
+ghost use Prim.Native.Nat.{_+_, _-_, _*_, _≤_, _<_};
+ghost use lib.ListN.{length, take, drop, replicate};
+ghost use lib.Seq.{paste};
+ghost use Rattle.blocks.specs.Header.{keptHeader};
+ghost use Rattle.store.specs.Num.{le};
+ghost use Rattle.store.specs.Model.{bytesOf, font, Mark};
+ghost use Rattle.store.specs.Change.{moved, put, remarked, unmarkedFor, unmarkedAt};
+use crate::number;
+
+// Moves n bytes down, from `from` to `to`.
+fn shift_down(s: &mut [u8], to: usize, from: usize, n: usize)
+    requires { ⌜ (to ≤ from) × (from + n ≤ length (now s)) ⌝ }
+    ensures { λ _. ⌜ now (s .exit) ≡ paste (now (s .entry)) to (drop from (now (s .entry))) n ⌝ }
+{
+    let mut i = 0;
+    while i < n {
+        s[to + i] = s[from + i];
+        i += 1;
+    }
+}
+
+// Moves n bytes up, from `from` to `to`.
+fn shift_up(s: &mut [u8], to: usize, from: usize, n: usize)
+    requires { ⌜ (from ≤ to) × (to + n ≤ length (now s)) ⌝ }
+    ensures { λ _. ⌜ now (s .exit) ≡ paste (now (s .entry)) to (drop from (now (s .entry))) n ⌝ }
+{
+    let mut i = n;
+    while 0 < i {
+        i -= 1;
+        s[to + i] = s[from + i];
+    }
+}
+
+// Makes n bytes 0.
+pub(crate) fn clear(s: &mut [u8], at: usize, n: usize)
+    requires { ⌜ at + n ≤ length (now s) ⌝ }
+    ensures { λ _. ⌜ now (s .exit) ≡ paste (now (s .entry)) at (replicate n 0) n ⌝ }
+{
+    let mut i = 0;
+    while i < n {
+        s[at + i] = 0;
+        i += 1;
+    }
+}
+
+// Gives the old bytes at `at` the length new: what is behind them up to `used` moves, and what that frees is made 0.
+pub(crate) fn splice(s: &mut [u8], at: usize, old: usize, used: usize, new: usize)
+    requires { ⌜ (at + old ≤ used) × (used ≤ length (now s)) × (used + new ≤ length (now s) + old) ⌝ }
+    ensures { λ _. ⌜ now (s .exit) ≡ moved at old used new (now (s .entry)) ⌝ }
+{
+    let n = used - (at + old);
+    if new <= old {
+        shift_down(s, at + new, at + old, n);
+        clear(s, at + new + n, old - new);
+    } else {
+        shift_up(s, at + new, at + old, n);
+    }
+}
+
+// Writes a number of two bytes, low byte first.
+pub(crate) fn put16(s: &mut [u8], at: usize, v: usize)
+    requires { ⌜ (at + 2 ≤ length (now s)) × (v < 65536) ⌝ }
+    ensures { λ _. ⌜ now (s .exit) ≡ put (now (s .entry)) at (le 2 v) ⌝ }
+{
+    s[at] = (v % 256) as u8;
+    s[at + 1] = (v / 256) as u8;
+}
+
+// Writes bytes.
+pub(crate) fn copy(s: &mut [u8], at: usize, b: &[u8])
+    requires { ⌜ at + length (now b) ≤ length (now s) ⌝ }
+    ensures { λ _. ⌜ now (s .exit) ≡ put (now (s .entry)) at (now (b .entry)) ⌝ }
+{
+    let mut i = 0;
+    while i < b.len() {
+        s[at + i] = b[i];
+        i += 1;
+    }
+}
+
+// Makes the open mark this one.
+pub(crate) fn remark(s: &mut [u8], on: usize, font: usize, code: usize)
+    requires { ⌜ (12 ≤ length (now s)) × (on < 65536) × (font < 65536) × (code < 65536) ⌝ }
+    ensures { λ _. ⌜ now (s .exit) ≡ remarked (record { on = on; fontOf = font; codeOf = code }) (now (s .entry)) ⌝ }
+{
+    put16(s, 6, on);
+    put16(s, 8, font);
+    put16(s, 10, code);
+}
+
+// Closes the open mark if it names a character of this font.
+pub(crate) fn unmark_font(s: &mut [u8], font: usize)
+    requires { ⌜ 12 ≤ length (now s) ⌝ }
+    ensures { λ _. ⌜ now (s .exit) ≡ unmarkedFor font (now (s .entry)) ⌝ }
+{
+    if number::le16(s, 6) != 1 {
+        return;
+    }
+    if number::le16(s, 8) != font {
+        return;
+    }
+    remark(s, 0, 0, 0);
+}
+
+// Closes the open mark if it names this character.
+pub(crate) fn unmark_character(s: &mut [u8], font: usize, code: usize)
+    requires { ⌜ 12 ≤ length (now s) ⌝ }
+    ensures { λ _. ⌜ now (s .exit) ≡ unmarkedAt font code (now (s .entry)) ⌝ }
+{
+    if number::le16(s, 6) != 1 {
+        return;
+    }
+    if number::le16(s, 8) != font {
+        return;
+    }
+    if number::le16(s, 10) != code {
+        return;
+    }
+    remark(s, 0, 0, 0);
+}
+
+// Writes a font's record: its head, and what is kept of an accepted block.
+pub(crate) fn write_font(s: &mut [u8], at: usize, n: usize, block: &[u8])
+    requires { ⌜ (at + 72 ≤ length (now s)) × (n < 65536) × (64 ≤ length (now block)) ⌝ }
+    ensures { λ _. ⌜ now (s .exit) ≡ put (now (s .entry)) at (bytesOf (font n (keptHeader (now (block .entry))))) ⌝ }
+{
+    put16(s, at, 72);
+    put16(s, at + 2, 0);
+    put16(s, at + 4, 2);
+    put16(s, at + 6, n);
+    let from = at + 8;
+    let to = at + 72;
+    blocks::header::keep_header(block, &mut s[from..to]);
+}

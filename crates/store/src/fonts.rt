@@ -1,0 +1,89 @@
+// Calls on fonts: make a store fresh, download a font block, remove a font, tell a font's kept bytes.
+ghost use mathlib.Core.Path.{_≡_};
+ghost use Prim.Native.Nat.{_+_, _≤_};
+ghost use lib.ListN.{length};
+ghost use Rattle.blocks.specs.declared.Verdict.the-variants.{Taken};
+ghost use Rattle.store.specs.Walk.{Stands};
+ghost use Rattle.blocks.specs.Header.{readHeader};
+ghost use Rattle.store.specs.Calls.{makingFresh, removingFont, puttingFont, downloadingFont, tellingFont};
+use crate::change;
+use crate::walk;
+use crate::walk::Inspected;
+use crate::walk::Lookup;
+use crate::walk::Places;
+use blocks::Verdict;
+use blocks::header;
+
+// Makes a store fresh: the first record with none open, then zeros.
+pub fn make_fresh(s: &mut [u8]) -> u32
+    ensures { λ r. ⌜ r ≡ makingFresh (now (s .entry)) .answer ⌝ }
+    ensures { λ _. ⌜ now (s .exit) ≡ makingFresh (now (s .entry)) .bytes ⌝ }
+{
+    let n = s.len();
+    if n < 12 {
+        return 1;
+    }
+    if 65536 < n {
+        return 1;
+    }
+    change::clear(s, 0, n);
+    change::put16(s, 0, 12);
+    change::put16(s, 4, 1);
+    0
+}
+
+// Removes a font with all its characters.
+pub fn remove_font(s: &mut [u8], font: u32) -> u32
+    ensures { λ r. ⌜ r ≡ removingFont font (now (s .entry)) .answer ⌝ }
+    ensures { λ _. ⌜ now (s .exit) ≡ removingFont font (now (s .entry)) .bytes ⌝ }
+{
+    let n = font as usize;
+    let Inspected::Found(p) = walk::inspect(s, n, 0) else {
+        return 1;
+    };
+    if 32767 < font {
+        return 2;
+    }
+    let Lookup::At(at) = walk::look_up(p.lo, p.hi) else {
+        return 6;
+    };
+    change::splice(s, at, p.hi - at, p.used, 0);
+    change::unmark_font(s, n);
+    0
+}
+
+// Puts an accepted block's font in the place of any of its number with its characters. Its places p are known.
+pub(crate) fn put_font(s: &mut [u8], p: Places, font: u32, block: &[u8]) -> u32
+    requires { ⌜ (font ≤ 32767) × (readHeader (now block) ≡ Taken) × Stands font 0 (now s) p ⌝ }
+    ensures { λ r. ⌜ r ≡ puttingFont font (now (block .entry)) (now (s .entry)) .answer ⌝ }
+    ensures { λ _. ⌜ now (s .exit) ≡ puttingFont font (now (block .entry)) (now (s .entry)) .bytes ⌝ }
+{
+    let n = font as usize;
+    let lo = p.lo;
+    let old = p.hi - lo;
+    let used = p.used;
+    if s.len() < used - old + 72 {
+        return 10;
+    }
+    change::splice(s, lo, old, used, 72);
+    change::write_font(s, lo, n, block);
+    change::unmark_font(s, n);
+    0
+}
+
+// Downloads a font block.
+pub fn download_font(s: &mut [u8], block: &[u8], font: u32) -> u32
+    ensures { λ r. ⌜ r ≡ downloadingFont font (now (block .entry)) (now (s .entry)) .answer ⌝ }
+    ensures { λ _. ⌜ now (s .exit) ≡ downloadingFont font (now (block .entry)) (now (s .entry)) .bytes ⌝ }
+{
+    let Inspected::Found(p) = walk::inspect(s, font as usize, 0) else {
+        return 1;
+    };
+    if 32767 < font {
+        return 2;
+    }
+    match header::read_header(block) {
+        Verdict::Refused(k) => k as u32,
+        Verdict::Taken => put_font(s, p, font, block),
+    }
+}

@@ -1,0 +1,38 @@
+// Numbers of the store's records, low byte first, and bytes that are all 0.
+ghost use mathlib.Core.Path.{_≡_};
+ghost use Prim.Native.Nat.{_+_, _≤_, _<_};
+ghost use lib.ListN.{length, drop};
+ghost use Rattle.store.specs.Num.{field, allZero};
+
+fn wide(x: u8) -> usize
+    ensures { λ r. ⌜ r ≡ x ⌝ }
+{
+    x as usize
+}
+
+pub(crate) fn le16(s: &[u8], at: usize) -> usize
+    requires { ⌜ at + 2 ≤ length (now s) ⌝ }
+    ensures { λ r. ⌜ (r ≡ field 2 at (now (s .entry))) × (r < 65536) ⌝ }
+{
+    wide(s[at]) + 256 * wide(s[at + 1])
+}
+
+pub(crate) fn le32(s: &[u8], at: usize) -> usize
+    requires { ⌜ at + 4 ≤ length (now s) ⌝ }
+    ensures { λ r. ⌜ r ≡ field 4 at (now (s .entry)) ⌝ }
+{
+    le16(s, at) + 65536 * le16(s, at + 2)
+}
+
+// Whether all bytes from a place on are 0. It has no early end, so that many bytes are tested at a time.
+pub(crate) fn zeros(s: &[u8], at: usize) -> bool
+    ensures { λ r. ⌜ r ≡ allZero (drop at (now (s .entry))) ⌝ }
+{
+    let mut any: u8 = 0;
+    let mut i = at;
+    while i < s.len() {
+        any = any | s[i];
+        i += 1;
+    }
+    any == 0
+}
