@@ -2,22 +2,22 @@
 use mathlib.Core.Path.{_≡_, refl, sym, ap, _∙_}
 use mathlib.Core.List.{List, [], _∷_, _++_, append-nil}
 use mathlib.Core.Bool.{Bool, true, false}
+use mathlib.Core.Option.{some}
 use Prim.Native.Nat.{ℕ, _+_, _-_, _*_, _<_, _≤_}
 use native.Mathlib.Omega.{arith}
 use lib.ListN.{length, replicate, length-append}
 use Rattle.store.specs.Layout.{keyOf}
 use Rattle.store.specs.Model.{Rec, font, character, Mark, Store, bytesOf, run, markBytes, encode, alone, sorted, opened, unfinished, markOk, sizeOf, total}
 use Rattle.store.specs.Num.{_&_}
-use Rattle.store.specs.Order.{below, from, replaced}
-use Rattle.store.specs.Change.{moved, put, unmarkedFor, unmarkedAt}
-use Rattle.store.specs.Calls.{closedFor, closedAt, withFont, removeFont, putFont, used, removeCharacter}
+use Rattle.store.specs.Order.{below, from, find, replaced}
+use Rattle.store.specs.Change.{moved, put, unmarkedFor}
+use Rattle.store.specs.Calls.{closedFor, closedAt, withFont, used, withCharacter, removeCharacter}
 use Rattle.store.proofs.Codec.{Valid, spare, encode-parts, mark-length, mark-fits}
 use Rattle.store.proofs.Totals.{total-append, total-at, length-run}
 use Rattle.store.proofs.Lookup.{below-mono}
-use Rattle.store.proofs.Replaced.{NewFont, no-font, new-font, font-replaced}
+use Rattle.store.proofs.Replaced.{NewFont, no-font, new-font, font-replaced, NewChar, no-char, char-replaced}
 use Rattle.store.proofs.Splices.{replace-bytes}
-use Rattle.store.proofs.Puts.{put-nil}
-use Rattle.store.proofs.Marks.{Small, markKey, closed-for, unmark-for}
+use Rattle.store.proofs.Marks.{Small, markKey, closed-for, closed-at, unmark-for}
 
 pub spare-is : (st : Store) → spare st ≡ st .size - (12 + length (run (st .recs)))
 spare-is st = omega (arith, length-append (markBytes (st .mark)) (run (st .recs)), mark-length (st .mark))
@@ -81,3 +81,22 @@ module _ (n : ℕ) (new : List Rec) (st : Store) (v : Valid st) (w : NewFont n n
       let rs = replaced (keyOf n 0) (keyOf (n + 1) 0) new (st .recs) in
       ap (unmarkedFor n) (bytes-changed (keyOf n 0) (keyOf (n + 1) 0) new st v (omega arith) (font-replaced (st .recs) (v .order) n new w) l fits ∙ encode-changed (st .mark) rs st)
       ∙ unmark-for n (st .mark) (run rs ++ replicate (st .size - (12 + length (run rs))) 0) (small-mark st v) ∙ sym (encode-changed (closedFor n (st .mark)) rs st)
+
+-- ── one character
+module _ (n c : ℕ) (h : List ℕ) (new : List Rec) (st : Store) (v : Valid st) (b : c ≤ 255) (f : find (keyOf n 0) (st .recs) ≡ some (font n h)) (w : NewChar n c h new) (l : length (run new) ≡ total new)
+    (fits : 12 + total (withCharacter n c new (st .recs)) ≤ st .size) where
+  order-char : sorted 0 alone (withCharacter n c new (st .recs)) ≡ true
+  order-char = char-replaced (st .recs) (v .order) n c h new b f w
+
+  pub valid-char : (m : Mark) → markOk m (withCharacter n c new (st .recs)) ≡ true → Valid (changed m (withCharacter n c new (st .recs)) st)
+  valid-char m q = valid-changed (keyOf n (c + 1)) (keyOf n (c + 1) + 1) new st v (omega arith) order-char l fits m q
+
+  -- the bytes, with the open mark as it was
+  pub bytes-char :
+      put (moved (12 + total (below (keyOf n (c + 1)) (st .recs))) (12 + total (below (keyOf n (c + 1) + 1) (st .recs)) - (12 + total (below (keyOf n (c + 1)) (st .recs)))) (12 + total (st .recs)) (total new) (encode st)) (12 + total (below (keyOf n (c + 1)) (st .recs))) (run new)
+      ≡ markBytes (st .mark) ++ (run (withCharacter n c new (st .recs)) ++ replicate (st .size - (12 + length (run (withCharacter n c new (st .recs))))) 0)
+  bytes-char = bytes-changed (keyOf n (c + 1)) (keyOf n (c + 1) + 1) new st v (omega arith) order-char l fits ∙ encode-changed (st .mark) (withCharacter n c new (st .recs)) st
+
+pub valid-cut : (n c : ℕ) (h : List ℕ) (st : Store) (v : Valid st) → c ≤ 255 → find (keyOf n 0) (st .recs) ≡ some (font n h) → 12 + total (withCharacter n c [] (st .recs)) ≤ st .size → Valid (removeCharacter n c st)
+unfolding run total
+valid-cut n c h st v b f fits = valid-char n c h [] st v b f no-char refl fits (closedAt n c (st .mark)) (closed-at n c (st .mark) (st .recs) b (v .order) (v .marked))

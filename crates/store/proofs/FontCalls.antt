@@ -18,47 +18,30 @@ use Rattle.store.specs.Num.{_&_, le}
 use Rattle.store.specs.Model.{Rec, font, Store, bytesOf, run, markBytes, encode, decode, alone, sizeOf, total}
 use Rattle.store.specs.Order.{below, find, replaced}
 use Rattle.store.specs.Change.{moved, put, unmarkedFor}
-use Rattle.store.specs.Answer.{onStore, finding, After, refuse, done}
-use Rattle.store.specs.Calls.{shut, fresh, makingFresh, used, withFont, removeFont, putFont, removingFont, puttingFont, downloadingFont}
+use Rattle.store.specs.Answer.{onStore, After, refuse, done}
+use Rattle.store.specs.Calls.{shut, fresh, makingFresh, used, withFont, removeFont, putFont, puttingFont, downloadingFont}
 use Rattle.store.specs.declared.walk.Places.{Places}
 use Rattle.store.proofs.Puts.{put-nil}
 use Rattle.store.proofs.Replaced.{NewFont, no-font, new-font}
 use Rattle.store.proofs.Changed.{spare-is, total-replaced, bytes-font}
 use Rattle.store.proofs.Codec.{size-bytes, encode-parts}
-use Rattle.store.proofs.Ready.{Ready, font-there, font-missing}
+use Rattle.store.proofs.Ready.{Ready}
 
 -- an answer, and the bytes
 pub answered : {a b : After} → a ≡ b → (b .answer ≡ a .answer) × (b .bytes ≡ a .bytes)
 answered e = (ap (λ (x : After). x .answer) (sym e), ap (λ (x : After). x .bytes) (sym e))
 
 -- ── removing
-module _ (n : ℕ) (s : List ℕ) where
-  pub remove-not : decode s ≡ none → removingFont n s ≡ refuse s 1
-  unfolding removingFont onStore
-  remove-not e = rw e
-
-  module _ (w : Places) (r : Ready n 0 s w) where
-    pub remove-range : 32767 < n → removingFont n s ≡ refuse s 2
-    unfolding removingFont onStore
-    remove-range l = rw (r .is, lt-leb n 32767 l)
-
-    pub remove-none : n ≤ 32767 → w .hi ≤ w .lo → removingFont n s ≡ refuse s 6
-    unfolding removingFont onStore finding
-    remove-none l e = rw (r .is, le-leb n 32767 l, font-missing n (r .store .recs) (r .valid .order) (omega (arith, ap (λ (x : Places). x .lo) (r .at), ap (λ (x : Places). x .hi) (r .at))))
-
-    pub remove-done : n ≤ 32767 → w .lo < w .hi → removingFont n s ≡ record { answer = 0; bytes = unmarkedFor n (moved (w .lo) (w .hi - w .lo) (w .used) 0 s) }
-    unfolding removingFont onStore finding run total
-    remove-done l e =
-        let st = r .store in
-        let rs = st .recs in
-        let lo : w .lo ≡ 12 + total (below (keyOf n 0) rs) = ap (λ (x : Places). x .lo) (r .at) in
-        let hi : w .hi ≡ 12 + total (below (keyOf (n + 1) 0) rs) = ap (λ (x : Places). x .hi) (r .at) in
-        let us : w .used ≡ 12 + total rs = ap (λ (x : Places). x .used) (r .at) in
-        let f = font-there n rs (r .valid .order) (omega arith) in
-        let fits : used (removeFont n st) ≤ st .size = omega (arith, total-replaced (keyOf n 0) (keyOf (n + 1) 0) [] rs (r .valid .order) (omega arith), r .room, r .size) in
-        let b : unmarkedFor n (moved (w .lo) (w .hi - w .lo) (w .used) 0 s) ≡ encode (removeFont n st) =
-        rw (lo, hi, us, r .bytes) (ap (unmarkedFor n) (sym (put-nil _ (12 + total (below (keyOf n 0) rs)))) ∙ bytes-font n [] st (r .valid) no-font refl fits) in
-        rw (r .is, le-leb n 32767 l, f .1, b)
+pub cut-done : (n : ℕ) (s : List ℕ) (w : Places) (r : Ready n 0 s w) → unmarkedFor n (moved (w .lo) (w .hi - w .lo) (w .used) 0 s) ≡ encode (removeFont n (r .store))
+unfolding run total
+cut-done n s w r =
+    let st = r .store in
+    let rs = st .recs in
+    let lo : w .lo ≡ 12 + total (below (keyOf n 0) rs) = ap (λ (x : Places). x .lo) (r .at) in
+    let hi : w .hi ≡ 12 + total (below (keyOf (n + 1) 0) rs) = ap (λ (x : Places). x .hi) (r .at) in
+    let us : w .used ≡ 12 + total rs = ap (λ (x : Places). x .used) (r .at) in
+    let fits : used (removeFont n st) ≤ st .size = omega (arith, total-replaced (keyOf n 0) (keyOf (n + 1) 0) [] rs (r .valid .order) (omega arith), r .room, r .size) in
+    rw (lo, hi, us, r .bytes) (ap (unmarkedFor n) (sym (put-nil _ (12 + total (below (keyOf n 0) rs)))) ∙ bytes-font n [] st (r .valid) no-font refl fits)
 
 -- ── making fresh
 zeros-all : (s : List ℕ) → paste s 0 (replicate (length s) 0) (length s) ≡ replicate (length s) 0

@@ -17,3 +17,7 @@ pub mod Marks
 pub mod Changed
 pub mod Ready
 pub mod FontCalls
+pub mod Seeks
+pub mod Spots
+pub mod CharacterCalls
+pub mod KeptFonts

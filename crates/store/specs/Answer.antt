@@ -1,11 +1,15 @@
 -- How a call's checks stand in order, each with the number that it refuses with. `refuse` makes the whole answer of a refusal.
-use Prim.Native.Nat.{ℕ}
+use Prim.Native.Nat.{ℕ, _+_}
 use mathlib.Core.List.{List}
-use mathlib.Core.Bool.{Bool, true, false}
+use mathlib.Core.Bool.{Bool, true, false, _&&_}
 use mathlib.Core.Option.{Option, none, some}
 use Rattle.blocks.specs.declared.Verdict.{Verdict}
 use Rattle.blocks.specs.declared.Verdict.the-variants.{Taken, Refused}
-use Rattle.store.specs.Model.{Rec, Store, encode}
+use lib.Dec.{leb}
+use Rattle.store.specs.Layout.{lastFont, lastCode, keyOf}
+use Rattle.store.specs.Model.{Rec, Store, encode, decode}
+use Rattle.store.specs.Order.{find}
+use Rattle.store.specs.declared.telling.Told.{Told}
 
 -- "buffer not a store", else 1
 unfoldable pub onStore : {A : Type 0} → (ℕ → A) → Option Store → (Store → A) → A
@@ -27,6 +31,25 @@ unfoldable pub finding : {A : Type 0} → (ℕ → A) → Option Rec → ℕ →
 finding refuse none k f = refuse k
 finding refuse (some r) k f = f r
 
+-- "Font numbers 0..32767, codes 0..255."
+abbrev pub numbered : ℕ → ℕ → Bool
+numbered n c = leb n lastFont && leb c lastCode
+
+-- a call on a kept font checks 1, 2, 6
+unfoldable pub onFont : {A : Type 0} → (ℕ → A) → ℕ → List ℕ → (Store → Rec → A) → A
+onFont refuse n s f =
+    onStore refuse (decode s)
+    (λ st. checked refuse (leb n lastFont) 2 (finding refuse (find (keyOf n 0) (st .recs)) 6 (f st)))
+
+-- a call on a kept character checks 1, 2, 6, 7
+unfoldable pub onCharacter : {A : Type 0} → (ℕ → A) → ℕ → ℕ → List ℕ → (Store → Rec → A) → A
+onCharacter refuse n c s f =
+    onStore refuse (decode s)
+    (λ st.
+      checked refuse (numbered n c) 2
+      (finding refuse (find (keyOf n 0) (st .recs)) 6
+      (λ r. finding refuse (find (keyOf n (c + 1)) (st .recs)) 7 (f st))))
+
 -- what a call on a store answers, and the buffer afterwards
 pub record After : Type 0 where
   pub answer : ℕ
@@ -40,11 +63,15 @@ abbrev pub done : Store → After
 done st = record { answer = 0; bytes = encode st }
 
 -- what telling answers, and the output afterwards
-pub record Told : Type 0 where
+pub record Telling : Type 0 where
   pub refusal : ℕ
   pub count : ℕ
   pub out : List ℕ
 
+-- the code's answer with the output
+abbrev pub toldOf : Told → List ℕ → Telling
+toldOf r out = record { refusal = r .refusal; count = r .count; out = out }
+
 -- "A refusal answers 0 for every other number"
-abbrev pub untold : List ℕ → ℕ → Told
+abbrev pub untold : List ℕ → ℕ → Telling
 untold out k = record { refusal = k; count = 0; out = out }

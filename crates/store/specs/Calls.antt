@@ -6,11 +6,11 @@ use lib.Dec.{eqb, leb}
 use lib.ListN.{length, drop}
 use Rattle.blocks.specs.Header.{headerBytes, readHeader, keptHeader}
 use Rattle.blocks.specs.Character.{descriptorBytes}
-use Rattle.store.specs.Layout.{leastStore, mostStore, markRecord, lastFont, lastCode, keyOf}
+use Rattle.store.specs.Layout.{leastStore, mostStore, markRecord, lastFont, keyOf}
 use Rattle.store.specs.Num.{_&_}
 use Rattle.store.specs.Model.{Rec, font, character, Mark, Store, number, place, total, decode}
-use Rattle.store.specs.Order.{keep, replaced, find}
-use Rattle.store.specs.Answer.{onStore, checked, taking, finding, After, refuse, done, Told, untold}
+use Rattle.store.specs.Order.{keep, replaced}
+use Rattle.store.specs.Answer.{onStore, checked, taking, onFont, onCharacter, After, refuse, done, Telling, untold}
 
 -- ── make fresh: "A fresh store is the kind 1 record with none open, then zeros."
 abbrev pub shut : Mark
@@ -45,12 +45,7 @@ putFont n h st = withFont n (font n h ∷ []) st
 
 -- "Removing checks 1, 2, 6"
 unfoldable pub removingFont : ℕ → List ℕ → After
-removingFont n s =
-    onStore (refuse s) (decode s)
-    (λ st.
-    checked (refuse s) (leb n lastFont) 2
-    (finding (refuse s) (find (keyOf n 0) (st .recs)) 6
-    (λ r. done (removeFont n st))))
+removingFont n s = onFont (refuse s) n s (λ st r. done (removeFont n st))
 
 -- an accepted block: "It is refused with 10 exactly if the records would then not fit."
 unfoldable pub puttingFont : ℕ → List ℕ → List ℕ → After
@@ -81,14 +76,7 @@ removeCharacter n c st = record { size = st .size; mark = closedAt n c (st .mark
 
 -- "Removing checks 1, 2, 6, then 7 for a character."
 unfoldable pub removingCharacter : ℕ → ℕ → List ℕ → After
-removingCharacter n c s =
-    onStore (refuse s) (decode s)
-    (λ st.
-    checked (refuse s) (leb n lastFont & leb c lastCode) 2
-    (finding (refuse s) (find (keyOf n 0) (st .recs)) 6
-    (λ r.
-    finding (refuse s) (find (keyOf n (c + 1)) (st .recs)) 7
-    (λ q. done (removeCharacter n c st)))))
+removingCharacter n c s = onCharacter (refuse s) n c s (λ st r. done (removeCharacter n c st))
 
 -- ── telling: "copies the 64 or 16 kept bytes to an output, answers the number of characters or of data bytes, and checks as removing does, then 12"
 
@@ -108,24 +96,16 @@ dataOf (character n c h d) = d
 abbrev pub onto : List ℕ → List ℕ → List ℕ
 onto b out = b ++ drop (length b) out
 
-unfoldable pub tellingFont : ℕ → List ℕ → List ℕ → Told
+unfoldable pub tellingFont : ℕ → List ℕ → List ℕ → Telling
 tellingFont n s out =
-    onStore (untold out) (decode s)
-    (λ st.
-    checked (untold out) (leb n lastFont) 2
-    (finding (untold out) (find (keyOf n 0) (st .recs)) 6
-    (λ r.
-    checked (untold out) (leb headerBytes (length out)) 12
-    (record { refusal = 0; count = length (charactersOf n (st .recs)); out = onto (keptOf r) out }))))
+    onFont (untold out) n s
+    (λ st r.
+      checked (untold out) (leb headerBytes (length out)) 12
+      (record { refusal = 0; count = length (charactersOf n (st .recs)); out = onto (keptOf r) out }))
 
-unfoldable pub tellingCharacter : ℕ → ℕ → List ℕ → List ℕ → Told
+unfoldable pub tellingCharacter : ℕ → ℕ → List ℕ → List ℕ → Telling
 tellingCharacter n c s out =
-    onStore (untold out) (decode s)
-    (λ st.
-    checked (untold out) (leb n lastFont & leb c lastCode) 2
-    (finding (untold out) (find (keyOf n 0) (st .recs)) 6
-    (λ r.
-    finding (untold out) (find (keyOf n (c + 1)) (st .recs)) 7
-    (λ q.
-    checked (untold out) (leb descriptorBytes (length out)) 12
-    (record { refusal = 0; count = length (dataOf q); out = onto (keptOf q) out })))))
+    onCharacter (untold out) n c s
+    (λ st r.
+      checked (untold out) (leb descriptorBytes (length out)) 12
+      (record { refusal = 0; count = length (dataOf r); out = onto (keptOf r) out }))

@@ -6,3 +6,4 @@ pub mod Answer
 pub mod Calls
 pub mod Change
 pub mod Walk
+pub mod Fonts

@@ -10,6 +10,7 @@ use Rattle.store.specs.Layout.{lastFont, lastCode, keyOf}
 use Rattle.store.specs.Num.{_&_, field}
 use Rattle.store.specs.Model.{Rec, Mark, Store, Under, under, alone, allowed, sorted, unfinished, opened, number, place, headRec, sizeOf, total, split, decode}
 use Rattle.store.specs.Order.{below}
+use Rattle.store.specs.Answer.{onFont, onCharacter}
 use Rattle.store.specs.Calls.{charactersOf}
 use Rattle.store.specs.declared.walk.Query.{Query}
 use Rattle.store.specs.declared.walk.Item.{Item}
@@ -25,6 +26,8 @@ use Rattle.store.specs.declared.walk.MarkSeen.{MarkSeen}
 use Rattle.store.specs.declared.walk.MarkSeen.the-variants.{Shut, Open, Wrong}
 use Rattle.store.specs.declared.walk.Lookup.{Lookup}
 use Rattle.store.specs.declared.walk.Lookup.the-variants.{At, Missing}
+use Rattle.store.specs.declared.seek.Sought.{Sought}
+use Rattle.store.specs.declared.seek.Sought.the-variants.{Here, Refused}
 use Rattle.store.specs.declared.walk.Inspected.{Inspected}
 use Rattle.store.specs.declared.walk.Inspected.the-variants.{Found, NotStore}
 
@@ -160,3 +163,10 @@ pub record Stands (n p : ℕ) (s : List ℕ) (w : Places) : Type 0 where
 -- a record, or a font with its characters, stands from one place to another, if these differ
 abbrev pub lookedUp : ℕ → ℕ → Lookup
 lookedUp from to = cond (ltb from to) (At from) Missing
+
+-- what seeking a font, or a character, answers: its places, or the refusal
+unfoldable pub soughtFont : ℕ → List ℕ → Sought
+soughtFont n s = onFont Refused n s (λ st r. Here (placesOf n 0 (st .recs)))
+
+unfoldable pub soughtCharacter : ℕ → ℕ → List ℕ → Sought
+soughtCharacter n c s = onCharacter Refused n c s (λ st r. Here (placesOf n (c + 1) (st .recs)))

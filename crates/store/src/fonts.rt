@@ -1,15 +1,19 @@
 // Calls on fonts: make a store fresh, download a font block, remove a font, tell a font's kept bytes.
 ghost use mathlib.Core.Path.{_≡_};
 ghost use Prim.Native.Nat.{_+_, _≤_};
-ghost use lib.ListN.{length};
+ghost use lib.ListN.{length, take, drop};
 ghost use Rattle.blocks.specs.declared.Verdict.the-variants.{Taken};
+ghost use Rattle.store.specs.Answer.{toldOf};
 ghost use Rattle.store.specs.Walk.{Stands};
 ghost use Rattle.blocks.specs.Header.{readHeader};
-ghost use Rattle.store.specs.Calls.{makingFresh, removingFont, puttingFont, downloadingFont, tellingFont};
+ghost use Rattle.store.specs.Calls.{makingFresh, removingFont, puttingFont, downloadingFont, tellingFont, onto};
 use crate::change;
+use crate::seek;
+use crate::seek::Sought;
+use crate::telling;
+use crate::telling::Told;
 use crate::walk;
 use crate::walk::Inspected;
-use crate::walk::Lookup;
 use crate::walk::Places;
 use blocks::Verdict;
 use blocks::header;
@@ -37,19 +41,15 @@ pub fn remove_font(s: &mut [u8], font: u32) -> u32
     ensures { λ r. ⌜ r ≡ removingFont font (now (s .entry)) .answer ⌝ }
     ensures { λ _. ⌜ now (s .exit) ≡ removingFont font (now (s .entry)) .bytes ⌝ }
 {
-    let n = font as usize;
-    let Inspected::Found(p) = walk::inspect(s, n, 0) else {
-        return 1;
-    };
-    if 32767 < font {
-        return 2;
+    match seek::seek_font(s, font) {
+        Sought::Refused(k) => k,
+        Sought::Here(p) => {
+            let lo = p.lo;
+            change::splice(s, lo, p.hi - lo, p.used, 0);
+            change::unmark_font(s, font as usize);
+            0
+        }
     }
-    let Lookup::At(at) = walk::look_up(p.lo, p.hi) else {
-        return 6;
-    };
-    change::splice(s, at, p.hi - at, p.used, 0);
-    change::unmark_font(s, n);
-    0
 }
 
 // Puts an accepted block's font in the place of any of its number with its characters. Its places p are known.
@@ -85,5 +85,35 @@ pub fn download_font(s: &mut [u8], block: &[u8], font: u32) -> u32
     match header::read_header(block) {
         Verdict::Refused(k) => k as u32,
         Verdict::Taken => put_font(s, p, font, block),
+    }
+}
+
+// Copies the kept bytes of the font at a place to an output that has room.
+fn copy_header(s: &[u8], at: usize, out: &mut [u8])
+    requires { ⌜ (at + 72 ≤ length (now s)) × (64 ≤ length (now out)) ⌝ }
+    ensures { λ _. ⌜ now (out .exit) ≡ onto (take 64 (drop (at + 8) (now (s .entry)))) (now (out .entry)) ⌝ }
+{
+    let from = at + 8;
+    let to = at + 72;
+    change::copy(out, 0, &s[from..to]);
+}
+
+// Tells a font's kept bytes, and the number of its characters.
+pub fn tell_font(s: &[u8], out: &mut [u8], font: u32) -> Told
+    ensures { λ r. ⌜ toldOf r (now (out .exit)) ≡ tellingFont font (now (s .entry)) (now (out .entry)) ⌝ }
+{
+    match seek::seek_font(s, font) {
+        Sought::Refused(k) => telling::untold(k),
+        Sought::Here(p) => {
+            if out.len() < 64 {
+                return telling::untold(12);
+            }
+            let at = p.lo;
+            copy_header(s, at, out);
+            Told {
+                refusal: 0,
+                count: p.chars as u32,
+            }
+        }
     }
 }

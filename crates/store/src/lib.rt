@@ -1,5 +1,9 @@
 // The store: a run of records in one lent buffer.
 pub mod change;
+pub mod characters;
 pub mod fonts;
+pub mod kept_fonts;
 pub mod number;
+pub mod seek;
+pub mod telling;
 pub mod walk;

@@ -1,0 +1,98 @@
+-- The bytes of a kept font and of a kept character at their places. Assumes nothing.
+use mathlib.Core.Path.{_≡_, refl, sym, ap, _∙_}
+use mathlib.Core.List.{List, [], _∷_, _++_, append-assoc}
+use mathlib.Core.Bool.{Bool, true, false, cond}
+use Prim.Native.Nat.{ℕ, _+_, _*_, _-_, _<_, _≤_}
+use native.Mathlib.Omega.{arith}
+use lib.ListN.{length, take, drop}
+use lib.Seq.{take-at, drop-at, drop-drop}
+use Rattle.store.specs.Layout.{keyOf}
+use Rattle.store.specs.Num.{le}
+use Rattle.store.specs.Model.{Rec, font, character, Under, alone, bytesOf, encode, sizeOf, total}
+use Rattle.store.specs.Order.{keep, below, after}
+use Rattle.store.specs.Change.{put}
+use Rattle.store.specs.Calls.{charactersOf, onto}
+use Rattle.store.specs.declared.walk.Places.{Places}
+use Rattle.store.proofs.Records.{size-pos, shaped}
+use Rattle.store.proofs.Lookup.{Found, found, below-mono}
+use Rattle.store.proofs.Ready.{Ready, record-bytes}
+use Rattle.store.proofs.Seeks.{KeptFont, KeptChar}
+
+-- ── counting
+count-keep : (t : Rec → Bool) (rs : List Rec) → length (keep t rs) ≤ total rs
+unfolding keep total
+count-keep t [] = omega arith
+count-keep t (r ∷ rs) = go (t r) (count-keep t rs)
+  where
+    go : (b : Bool) → length (keep t rs) ≤ total rs → length (cond b (r ∷ keep t rs) (keep t rs)) ≤ sizeOf r + total rs
+    go true ih = omega (arith, size-pos r)
+    go false ih = omega arith
+
+pub chars-few : (n p : ℕ) (s : List ℕ) (w : Places) → Ready n p s w → w .chars ≤ 65536
+unfolding charactersOf
+chars-few n p s w r =
+    let few : length (charactersOf n (r .store .recs)) ≤ total (r .store .recs) = count-keep _ (r .store .recs) in
+    omega (arith, ap (λ (x : Places). x .chars) (r .at), ap (λ (x : Places). x .used) (r .at), few, r .room, r .size, r .valid .small)
+
+-- ── a font
+module _ (n : ℕ) (s : List ℕ) (w : Places) (x : KeptFont n s w) where
+  font-found : Found (keyOf n 0) alone (font n (x .header)) (x .ready .store .recs)
+  font-found = found (keyOf n 0) 0 alone (font n (x .header)) (x .ready .store .recs) (x .ready .valid .order) (x .there)
+
+  font-shape : (length (x .header) ≡ 64) × (n ≤ 32767)
+  font-shape = shaped (after alone (below (keyOf n 0) (x .ready .store .recs))) (font n (x .header)) (font-found .ok)
+
+  pub font-span : w .lo + 72 ≤ w .hi
+  unfolding sizeOf
+  font-span =
+      let r = x .ready in
+      omega (arith, ap (λ (y : Places). y .lo) (r .at), ap (λ (y : Places). y .hi) (r .at), font-found .size, below-mono (keyOf n 0 + 1) (keyOf (n + 1) 0) 0 alone (r .store .recs) (r .valid .order) (omega arith))
+
+  pub font-kept : take 64 (drop (w .lo + 8) s) ≡ x .header
+  unfolding bytesOf le
+  font-kept =
+      let r = x .ready in
+      let b = record-bytes (keyOf n 0) (font n (x .header)) (r .store) (r .valid) (x .there) in
+      let lo : w .lo ≡ 12 + total (below (keyOf n 0) (r .store .recs)) = ap (λ (y : Places). y .lo) (r .at) in
+      let e : drop (w .lo) s ≡ bytesOf (font n (x .header)) ++ b .0 = rw (lo, r .bytes) (b .1) in
+      let d : drop (w .lo + 8) s ≡ x .header ++ b .0 = sym (drop-drop 8 (w .lo) s) ∙ ap (drop 8) e in
+      rw d (take-at (x .header) (b .0) 64 (font-shape .0))
+
+  pub header-length : length (x .header) ≡ 64
+  header-length = font-shape .0
+
+-- ── a character
+module _ (n c : ℕ) (s : List ℕ) (w : Places) (x : KeptChar n c s w) where
+  pub char-found : Found (keyOf n (c + 1)) alone (character n c (x .kept) (x .bytes)) (x .ready .store .recs)
+  char-found = found (keyOf n (c + 1)) 0 alone (character n c (x .kept) (x .bytes)) (x .ready .store .recs) (x .ready .valid .order) (x .there)
+
+  pub char-shape : (length (x .kept) ≡ 16) × (length (x .bytes) ≤ 32768) × (n ≤ 32767) × (c ≤ 255)
+  char-shape = shaped (after alone (below (keyOf n (c + 1)) (x .ready .store .recs))) (character n c (x .kept) (x .bytes)) (char-found .ok)
+
+  pub char-span : w .to ≡ w .from + 26 + length (x .bytes)
+  unfolding sizeOf
+  char-span = let r = x .ready in omega (arith, ap (λ (y : Places). y .from) (r .at), ap (λ (y : Places). y .to) (r .at), char-found .size)
+
+  char-drop : (k : ℕ) → (t : List ℕ) × (drop (w .from + k) s ≡ drop k (bytesOf (character n c (x .kept) (x .bytes)) ++ t))
+  char-drop k =
+      let r = x .ready in
+      let b = record-bytes (keyOf n (c + 1)) (character n c (x .kept) (x .bytes)) (r .store) (r .valid) (x .there) in
+      let fr : w .from ≡ 12 + total (below (keyOf n (c + 1)) (r .store .recs)) = ap (λ (y : Places). y .from) (r .at) in
+      let e : drop (w .from) s ≡ bytesOf (character n c (x .kept) (x .bytes)) ++ b .0 = rw (fr, r .bytes) (b .1) in
+      (b .0, sym (drop-drop k (w .from) s) ∙ ap (drop k) e)
+
+  pub char-kept : take 16 (drop (w .from + 10) s) ≡ x .kept
+  unfolding bytesOf le
+  char-kept = let d = char-drop 10 in rw (d .1, append-assoc (x .kept) (x .bytes) (d .0)) (take-at (x .kept) (x .bytes ++ d .0) 16 (char-shape .0))
+
+  pub char-bytes : take (length (x .bytes)) (drop (w .from + 26) s) ≡ x .bytes
+  unfolding bytesOf le
+  char-bytes =
+      let d = char-drop 26 in
+      rw (d .1, append-assoc (x .kept) (x .bytes) (d .0), drop-at (x .kept) (x .bytes ++ d .0) 16 (char-shape .0)) (take-at (x .bytes) (d .0) (length (x .bytes)) refl)
+
+-- ── telling
+-- bytes copied to the front of an output
+pub front : (b out : List ℕ) → put out 0 b ≡ onto b out
+unfolding put
+front b out = let e : 0 + length b ≡ length b = omega arith in rw e

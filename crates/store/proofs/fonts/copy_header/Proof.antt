@@ -1,0 +1,32 @@
+use mathlib.Core.Path.{_≡_, ap, _∙_}
+use mathlib.Core.List.{List}
+use Prim.Native.Nat.{ℕ, _+_, _-_}
+use lib.ListN.{length, take, drop, length-take, length-drop}
+use denote.Ref.{now}
+use Rattle.store.specs.Change.{put}
+use Rattle.store.proofs.Spots.{front}
+use borrow.Author.Needs.{needs}
+use native.Mathlib.Omega.{arith}
+use Rattle.store.proofs.fonts.copy_header.Statement.{statement}
+use Rattle.store.proofs.fonts.copy_header.Tie as tie
+
+copy-requires : tie.Need-copy-requires
+copy-requires c κs = simp (length-take, length-drop) (omega arith)
+
+returns : tie.Need-returns
+returns c = let a = c .before .before .before .before .before .before .before .args in
+    let e : a .at + 72 - (a .at + 8) ≡ 64 = omega arith in
+    c .before .before .copy .ensures ∙ ap (λ (k : ℕ). put (now (a .out)) 0 (take k (drop (a .at + 8) (now (a .s))))) e ∙ front (take 64 (drop (a .at + 8) (now (a .s)))) (now (a .out))
+
+pub copy-header-spec : {M : Type 1} → statement M
+copy-header-spec =
+    tie.close
+    (tie.spec
+    (λ c. search needs)
+    (λ c. search needs)
+    (λ c. search needs)
+    (λ c. search needs)
+    (λ c. search needs)
+    copy-requires
+    (λ c. search needs)
+    returns)

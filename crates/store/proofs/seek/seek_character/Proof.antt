@@ -1,0 +1,63 @@
+use mathlib.Core.Path.{_≡_, sym, _∙_}
+use Prim.Native.Nat.{_+_}
+use denote.Ref.{now}
+use Rattle.blocks.proofs.Checks.{failed, passed}
+use Rattle.store.proofs.Ready.{Ready, ready, not-store, looked-at, looked-not}
+use Rattle.store.proofs.Seeks.{char-not, char-range, char-no-font, char-none, char-here}
+use borrow.Author.Needs.{needs}
+use Rattle.store.proofs.seek.seek_character.Statement.{statement}
+use Rattle.store.proofs.seek.seek_character.Tie as tie
+
+-- behind the inspection
+at-found : (c : tie.After-known-told) → Ready (c .before .before .before .before .before .args .font) (c .before .before .before .before .before .args .code + 1) (now (c .before .before .before .before .before .args .s)) (c .before .p .given .0 .0)
+at-found c =
+    ready _ _ _ (λ i. c .before .before .before .before .shared-slice-known .given i .fits) (c .before .p .given .0 .0) (sym (c .before .before .before .inspect .ensures) ∙ c .before .p .given .1)
+
+returns : tie.Need-returns
+returns c = sym (char-not _ _ _ (not-store _ _ _ (sym (c .before .before .inspect .ensures) ∙ c .enum-told .given .1)))
+
+returns-2 : tie.Need-returns-2
+returns-2 c = sym (char-range _ _ _ _ (at-found (c .before .before)) (failed (c .before .in-range .ensures) (c .if1 .taken)))
+
+returns-3 : tie.Need-returns-3
+returns-3 c = 
+    let k3 = c .before .before .before in
+    let k4 = k3 .before in
+    sym (char-no-font _ _ _ _ (at-found (c .before .before .before .before .before)) (passed (k4 .in-range .ensures) (k3 .if1 .left)) (looked-not _ _ (sym (c .before .before .look-up .ensures) ∙ c .enum-told3 .given .1)))
+
+returns-4 : tie.Need-returns-4
+returns-4 c = 
+    let k3 = c .before .before .before in
+    let k5 = k3 .before .before in
+    let k6 = k5 .before in
+    let k7 = k6 .before in
+    sym (char-none _ _ _ _ (at-found (c .before .before .before .before .before .before .before .before)) (passed (k7 .in-range .ensures) (k6 .if1 .left)) (looked-at _ _ _ (sym (k5 .look-up .ensures) ∙ k3 .enum-told2 .given .1) .0) (looked-not _ _ (sym (c .before .before .look-up2 .ensures) ∙ c .enum-told5 .given .1)))
+
+returns-5 : tie.Need-returns-5
+returns-5 c = 
+    let k3 = c .before .before .before in
+    let k5 = k3 .before .before in
+    let k6 = k5 .before in
+    let k7 = k6 .before in
+    sym (char-here _ _ _ _ (at-found (c .before .before .before .before .before .before .before .before)) (passed (k7 .in-range .ensures) (k6 .if1 .left)) (looked-at _ _ _ (sym (k5 .look-up .ensures) ∙ k3 .enum-told2 .given .1) .0) (looked-at _ _ _ (sym (c .before .before .look-up2 .ensures) ∙ c .enum-told4 .given .1) .0))
+
+pub seek-character-spec : {M : Type 1} → statement M
+seek-character-spec =
+    tie.close
+    (tie.spec
+    (λ c. search needs)
+    (λ c κs. search needs)
+    (λ c. search needs)
+    (λ c. search needs)
+    returns
+    (λ c κs. search needs)
+    returns-2
+    (λ c κs. search needs)
+    (λ c. search needs)
+    (λ c. search needs)
+    returns-3
+    (λ c κs. search needs)
+    (λ c. search needs)
+    (λ c. search needs)
+    returns-4
+    returns-5)

@@ -1,0 +1,55 @@
+// Seeking a kept font or a kept character: its places, or the refusal that a call on it answers.
+ghost use mathlib.Core.Path.{_≡_};
+ghost use Rattle.store.specs.Answer.{numbered};
+ghost use Rattle.store.specs.Walk.{soughtFont, soughtCharacter};
+use crate::walk;
+use crate::walk::Inspected;
+use crate::walk::Lookup;
+use crate::walk::Places;
+
+pub enum Sought {
+    Here(Places),
+    Refused(u32),
+}
+
+// Checks 1, 2, 6.
+pub(crate) fn seek_font(s: &[u8], font: u32) -> Sought
+    ensures { λ r. ⌜ r ≡ soughtFont font (now (s .entry)) ⌝ }
+{
+    let Inspected::Found(p) = walk::inspect(s, font as usize, 0) else {
+        return Sought::Refused(1);
+    };
+    if 32767 < font {
+        return Sought::Refused(2);
+    }
+    let Lookup::At(_) = walk::look_up(p.lo, p.hi) else {
+        return Sought::Refused(6);
+    };
+    Sought::Here(p)
+}
+
+// A font number and a code within range.
+pub(crate) fn in_range(font: u32, code: u32) -> bool
+    ensures { λ r. ⌜ r ≡ numbered font code ⌝ }
+{
+    (font <= 32767) & (code <= 255)
+}
+
+// Checks 1, 2, 6, 7.
+pub(crate) fn seek_character(s: &[u8], font: u32, code: u32) -> Sought
+    ensures { λ r. ⌜ r ≡ soughtCharacter font code (now (s .entry)) ⌝ }
+{
+    let Inspected::Found(p) = walk::inspect(s, font as usize, code as usize + 1) else {
+        return Sought::Refused(1);
+    };
+    if !in_range(font, code) {
+        return Sought::Refused(2);
+    }
+    let Lookup::At(_) = walk::look_up(p.lo, p.hi) else {
+        return Sought::Refused(6);
+    };
+    let Lookup::At(_) = walk::look_up(p.from, p.to) else {
+        return Sought::Refused(7);
+    };
+    Sought::Here(p)
+}
