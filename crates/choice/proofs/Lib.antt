@@ -1,0 +1,9 @@
+pub mod Least
+pub mod Signed
+pub mod Steps
+pub mod Choice
+pub mod Single
+pub mod Right
+pub mod Asked
+pub mod Pass
+pub mod Walk

@@ -1,0 +1,117 @@
+-- Signed numbers by unsigned comparisons. Assumes nothing.
+use Prim.Native.Nat.{ℕ, zero, suc, _+_, _-_, _/_, _%_, _^_, _≤_, _<_}
+use mathlib.Core.Path.{_≡_, refl, sym, ap, _∙_}
+use mathlib.Core.Bool.{Bool, true, false, not, _&&_, _||_}
+use native.Mathlib.Omega.{arith}
+use borrow.Author.Tests.{le-leb, lt-leb, lt-ltb, le-ltb, leb-true, leb-false, ltb-true, ltb-false}
+use lib.Dec.{leb, ltb, leb·zero, leb·suc-suc}
+use lib.IntN.{ℤ, pos, negsuc, subℕ}
+use lib.Signed.{leZ, ltZ}
+use Rattle.choice.specs.Fields.{signed}
+
+-- two tests of which each implies the other
+leb-iff : (a b c d : ℕ) → (a ≤ b → c ≤ d) → (c ≤ d → a ≤ b) → leb a b ≡ leb c d
+leb-iff a b c d f g = go (leb a b) refl (leb c d) refl
+  where
+    go : (s : Bool) → leb a b ≡ s → (t : Bool) → leb c d ≡ t → s ≡ t
+    go true e true q = refl
+    go true e false q = sym (le-leb c d (f (leb-true a b e))) ∙ q
+    go false e true q = sym e ∙ le-leb a b (g (leb-true c d q))
+    go false e false q = refl
+
+ltb-not : (a b : ℕ) → ltb a b ≡ not (leb b a)
+ltb-not a b = go (leb b a) refl
+  where
+    go : (s : Bool) → leb b a ≡ s → ltb a b ≡ not s
+    go true e = le-ltb a b (leb-true b a e)
+    go false e = lt-ltb a b (leb-false b a e)
+
+pub ltZ-not : (a b : ℤ) → ltZ a b ≡ not (leZ b a)
+ltZ-not (pos a) (pos b) = ltb-not a b
+ltZ-not (pos a) (negsuc b) = refl
+ltZ-not (negsuc a) (pos b) = refl
+ltZ-not (negsuc a) (negsuc b) = ltb-not b a
+
+-- z and h more, for a z that is at least -h: the order stays
+abbrev pub raise : ℕ → ℤ → ℕ
+raise h (pos n) = h + n
+raise h (negsuc k) = h - suc k
+
+abbrev pub AtLeast : ℕ → ℤ → Type 0
+AtLeast h (pos n) = Unit {0}
+AtLeast h (negsuc k) = k < h
+
+pub raise-le : (h : ℕ) (a b : ℤ) → AtLeast h a → AtLeast h b → leZ a b ≡ leb (raise h a) (raise h b)
+raise-le h (pos a) (pos b) p q = leb-iff a b (h + a) (h + b) (λ k. omega arith) (λ k. omega arith)
+raise-le h (pos a) (negsuc b) p q = sym (lt-leb (h + a) (h - suc b) (omega arith))
+raise-le h (negsuc a) (pos b) p q = sym (le-leb (h - suc a) (h + b) (omega arith))
+raise-le h (negsuc a) (negsuc b) p q = leb-iff b a (h - suc a) (h - suc b) (λ k. omega arith) (λ k. omega arith)
+
+pub raise-lt : (h : ℕ) (a b : ℤ) → AtLeast h a → AtLeast h b → ltZ a b ≡ ltb (raise h a) (raise h b)
+raise-lt h a b p q = ltZ-not a b ∙ ap not (raise-le h b a q p) ∙ sym (ltb-not (raise h a) (raise h b))
+
+-- a number of w bits, by its highest bit
+signed-pos : (w n : ℕ) → n < 2 ^ w / 2 → signed w n ≡ pos n
+unfolding signed
+signed-pos w n h = simp (lt-ltb n (2 ^ w / 2) h)
+
+signed-neg : (w n : ℕ) → 2 ^ w / 2 ≤ n → n < 2 ^ w → signed w n ≡ negsuc (2 ^ w - suc n)
+unfolding signed
+signed-neg w n h k = simp (le-ltb n (2 ^ w / 2) h, lt-ltb n (2 ^ w) k)
+
+-- what is at least -h of a number of w bits with h added
+pub record Raised (h w n : ℕ) : Type 0 where
+  pub low : AtLeast h (signed w n)
+  pub is : raise h (signed w n) ≡ (n + h) % 2 ^ w
+
+pub raised-byte : (n : ℕ) → n < 256 → Raised 128 8 n
+raised-byte n k = go (ltb n 128) refl
+  where
+    go : (s : Bool) → ltb n 128 ≡ s → Raised 128 8 n
+    go true e = let h : n < 128 = ltb-true n 128 e in record { low = rw (signed-pos 8 n h) tt; is = rw (signed-pos 8 n h) (omega arith) }
+    go false e = let h : 128 ≤ n = ltb-false n 128 e in record { low = rw (signed-neg 8 n h k) (omega arith); is = rw (signed-neg 8 n h k) (omega arith) }
+
+or-false : (b : Bool) → (b || false) ≡ b
+or-false true = refl
+or-false false = refl
+
+and-true : (b : Bool) → (b && true) ≡ b
+and-true true = refl
+and-true false = refl
+
+-- -m is at most n
+below-pos : (m n : ℕ) → leZ (subℕ 0 m) (pos n) ≡ true
+below-pos zero n = leb·zero n
+below-pos (suc m) n = simp (leb·suc-suc 0 m, leb·zero m)
+
+-- -m is at most -(k + 1)
+below-neg : (m k : ℕ) → leZ (subℕ 0 m) (negsuc k) ≡ ltb k m
+below-neg zero k = simp (le-ltb k 0 (omega arith))
+below-neg (suc m) k = simp (leb·suc-suc 0 m, leb·zero m) (leb-iff k (suc m - 1) (suc k) (suc m) (λ h. omega arith) (λ h. omega arith))
+
+-- a number of w bits is -m up to m exactly if it is at most m or at least 2 ^ w - m
+pub within : (w m n : ℕ) → m < 2 ^ w / 2 → n < 2 ^ w → (leZ (subℕ 0 m) (signed w n) && leZ (signed w n) (pos m)) ≡ (leb n m || leb (2 ^ w - m) n)
+within w m n hm hn = go (ltb n (2 ^ w / 2)) refl
+  where
+    go : (s : Bool) → ltb n (2 ^ w / 2) ≡ s → (leZ (subℕ 0 m) (signed w n) && leZ (signed w n) (pos m)) ≡ (leb n m || leb (2 ^ w - m) n)
+    go true e =
+        let h : n < 2 ^ w / 2 = ltb-true _ _ e in
+        simp (signed-pos w n h, below-pos m n, lt-leb (2 ^ w - m) n (omega arith), or-false (leb n m))
+    go false e =
+        let h : 2 ^ w / 2 ≤ n = ltb-false _ _ e in
+        simp (signed-neg w n h hn, below-neg m (2 ^ w - suc n), lt-leb n m (omega arith), and-true)
+        (leb-iff (suc (2 ^ w - suc n)) m (2 ^ w - m) n (λ k. omega arith) (λ k. omega arith))
+
+-- a weight that a request may ask for
+pub raised-request : (n : ℕ) → n < 4294967296 → (leb n 7 || leb 4294967289 n) ≡ true → Raised 128 32 n
+raised-request n k t = go (leb n 7) refl t
+  where
+    go : (s : Bool) → leb n 7 ≡ s → (s || leb 4294967289 n) ≡ true → Raised 128 32 n
+    go true e _ =
+        let h : n ≤ 7 = leb-true n 7 e in
+        let i : n < 2 ^ 32 / 2 = omega arith in
+        record { low = rw (signed-pos 32 n i) tt; is = rw (signed-pos 32 n i) (omega arith) }
+    go false e u =
+        let h : 4294967289 ≤ n = leb-true 4294967289 n u in
+        let i : 2 ^ 32 / 2 ≤ n = omega arith in
+        record { low = rw (signed-neg 32 n i k) (omega arith); is = rw (signed-neg 32 n i k) (omega arith) }

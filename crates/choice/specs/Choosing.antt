@@ -1,0 +1,28 @@
+-- What choosing answers on a buffer.
+use Prim.Native.Nat.{ℕ}
+use mathlib.Core.List.{List}
+use mathlib.Core.Bool.{cond}
+use Rattle.store.specs.Fonts.{isStore, fontsOf}
+use Rattle.choice.specs.Range.{inRange}
+use Rattle.choice.specs.Steps.{choose}
+use Rattle.choice.specs.declared.Request.{Request}
+use Rattle.choice.specs.declared.Chosen.{Chosen}
+use Rattle.choice.specs.declared.Chosen.the-variants.{Number, NotStore, OutOfRange, NoFont}
+
+-- the checks in order, then the choice among the kept fonts
+unfoldable pub choosing : List ℕ → Request → Chosen
+choosing s r = cond (isStore s) (cond (inRange r) (choose r (fontsOf s)) OutOfRange) NotStore
+
+-- document 01's number of an answer, 0 for done
+abbrev pub refusalOf : Chosen → ℕ
+refusalOf (Number n) = 0
+refusalOf NotStore = 1
+refusalOf OutOfRange = 2
+refusalOf NoFont = 11
+
+-- the font number that an answer gives, 0 for a refusal
+abbrev pub fontOf : Chosen → ℕ
+fontOf (Number n) = n
+fontOf NotStore = 0
+fontOf OutOfRange = 0
+fontOf NoFont = 0

@@ -1,0 +1,8 @@
+pub mod Lists
+pub mod Fields
+pub mod Range
+pub mod Steps
+pub mod Choosing
+pub mod Right
+pub mod Scores
+pub mod Trials
