@@ -5,3 +5,6 @@ pub mod Character
 pub mod Runs
 pub mod Line
 pub mod Picture
+pub mod Dots
+pub mod Rows
+pub mod Drawing

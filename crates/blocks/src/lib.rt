@@ -1,5 +1,8 @@
 // Reads font and character blocks, and draws the rows of characters. Everything here is a function of byte slices.
+pub mod bitmap;
 pub mod character;
+pub mod compressed;
+pub mod dots;
 pub mod field;
 pub mod header;
 pub mod picture;

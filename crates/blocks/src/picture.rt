@@ -3,8 +3,12 @@ ghost use mathlib.Core.Path.{_≡_};
 ghost use mathlib.Core.List.{_++_};
 ghost use Prim.Native.Nat.{_+_, _^_, _≤_, _<_};
 ghost use lib.ListN.{length};
+ghost use Rattle.blocks.specs.Character.{rowSize, pictureSize};
 ghost use Rattle.blocks.specs.Picture.{judge, judgeBitmap, judgeScan, held, heldBy};
+ghost use Rattle.blocks.specs.Rows.{rowBytes, picture};
+use crate::bitmap;
 use crate::character;
+use crate::compressed;
 use crate::runs;
 use crate::runs::Scanned;
 
@@ -85,4 +89,28 @@ pub fn held_in(class: u8, width: u16, height: u16, bytes: &[u8]) -> Held
         return Held::Foreign;
     }
     held_by(judge_first(class, width, height, bytes), bytes.len())
+}
+
+// Draws one row of a character's picture data into a row's bytes.
+pub fn draw_row(class: u8, width: u16, bytes: &[u8], row: u16, out: &mut [u8])
+    requires { ⌜ (0 < width) × (length (now out) ≡ rowSize width) ⌝ }
+    ensures { λ _. ⌜ now (out .exit) ≡ rowBytes class width (now (bytes .entry)) row ⌝ }
+{
+    if class == 1 {
+        bitmap::draw_bitmap_row(width, bytes, row, out);
+    } else {
+        compressed::draw_runs_row(width, bytes, row, out);
+    }
+}
+
+// Draws the whole picture of a character's data into the picture's bytes.
+pub fn draw_picture(class: u8, width: u16, height: u16, bytes: &[u8], out: &mut [u8])
+    requires { ⌜ (0 < width) × (length (now out) ≡ pictureSize width height) ⌝ }
+    ensures { λ _. ⌜ now (out .exit) ≡ picture class width (now (bytes .entry)) height ⌝ }
+{
+    if class == 1 {
+        bitmap::draw_bitmap(width, height, bytes, out);
+    } else {
+        compressed::draw_runs(width, height, bytes, out);
+    }
 }
