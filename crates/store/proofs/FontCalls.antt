@@ -32,9 +32,9 @@ pub answered : {a b : After} → a ≡ b → (b .answer ≡ a .answer) × (b .by
 answered e = (ap (λ (x : After). x .answer) (sym e), ap (λ (x : After). x .bytes) (sym e))
 
 -- ── removing
-pub cut-done : (n : ℕ) (s : List ℕ) (w : Places) (r : Ready n 0 s w) → unmarkedFor n (moved (w .lo) (w .hi - w .lo) (w .used) 0 s) ≡ encode (removeFont n (r .store))
+pub cut-done : (n p : ℕ) (s : List ℕ) (w : Places) (r : Ready n p s w) → unmarkedFor n (moved (w .lo) (w .hi - w .lo) (w .used) 0 s) ≡ encode (removeFont n (r .store))
 unfolding run total
-cut-done n s w r =
+cut-done n p s w r =
     let st = r .store in
     let rs = st .recs in
     let lo : w .lo ≡ 12 + total (below (keyOf n 0) rs) = ap (λ (x : Places). x .lo) (r .at) in

@@ -21,3 +21,5 @@ pub mod Seeks
 pub mod Spots
 pub mod CharacterCalls
 pub mod KeptFonts
+pub mod Downloads
+pub mod Extends

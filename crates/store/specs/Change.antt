@@ -4,6 +4,7 @@ use mathlib.Core.List.{List, _++_}
 use mathlib.Core.Bool.{Bool, cond}
 use lib.Dec.{eqb}
 use lib.ListN.{length, take, drop, replicate}
+use Rattle.store.specs.Layout.{characterKind}
 use Rattle.store.specs.Num.{_&_, le, field}
 use Rattle.store.specs.Model.{Mark}
 use Rattle.store.specs.Calls.{shut}
@@ -27,3 +28,7 @@ unmarkedFor n s = cond (eqb (field 2 6 s) 1 & eqb (field 2 8 s) n) (remarked shu
 
 unfoldable pub unmarkedAt : ℕ → ℕ → List ℕ → List ℕ
 unmarkedAt n c s = cond (eqb (field 2 6 s) 1 & eqb (field 2 8 s) n & eqb (field 2 10 s) c) (remarked shut s) s
+
+-- the first ten bytes of a character's record of len bytes
+unfoldable pub headBytes : ℕ → ℕ → ℕ → List ℕ
+headBytes len n c = le 4 len ++ (le 2 characterKind ++ (le 2 n ++ le 2 c))

@@ -4,6 +4,7 @@ pub mod Model
 pub mod Order
 pub mod Answer
 pub mod Calls
+pub mod Download
 pub mod Change
 pub mod Walk
 pub mod Fonts

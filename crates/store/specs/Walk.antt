@@ -1,15 +1,16 @@
 -- What the walk over the records answers, record by record: the contracts of the code that checks a buffer and finds places in it.
-use Prim.Native.Nat.{ℕ, _+_, _*_, _≤_, _<_}
+use Prim.Native.Nat.{ℕ, _+_, _-_, _*_, _≤_, _<_}
 use mathlib.Core.Path.{_≡_}
-use mathlib.Core.List.{List, [], _∷_}
+use mathlib.Core.List.{List, [], _∷_, _++_}
 use mathlib.Core.Bool.{Bool, true, false, not, cond, _&&_, _||_}
 use mathlib.Core.Option.{Option, none, some}
-use lib.ListN.{length, drop}
+use lib.ListN.{length, take, drop}
 use lib.Dec.{eqb, leb, ltb}
+use Rattle.blocks.specs.Header.{orientation}
 use Rattle.store.specs.Layout.{lastFont, lastCode, keyOf}
 use Rattle.store.specs.Num.{_&_, field}
-use Rattle.store.specs.Model.{Rec, Mark, Store, Under, under, alone, allowed, sorted, unfinished, opened, number, place, headRec, sizeOf, total, split, decode}
-use Rattle.store.specs.Order.{below}
+use Rattle.store.specs.Model.{Rec, font, character, isKept, heldUnder, Mark, Store, Under, under, alone, allowed, sorted, unfinished, opened, number, place, headRec, sizeOf, total, split, decode}
+use Rattle.store.specs.Order.{below, find}
 use Rattle.store.specs.Answer.{onFont, onCharacter}
 use Rattle.store.specs.Calls.{charactersOf}
 use Rattle.store.specs.declared.walk.Query.{Query}
@@ -170,3 +171,24 @@ soughtFont n s = onFont Refused n s (λ st r. Here (placesOf n 0 (st .recs)))
 
 unfoldable pub soughtCharacter : ℕ → ℕ → List ℕ → Sought
 soughtCharacter n c s = onCharacter Refused n c s (λ st r. Here (placesOf n (c + 1) (st .recs)))
+
+-- ── putting a character into a store that stands: the font is there, and the character may stand behind it
+pub record Fitting (n c : ℕ) (h d s : List ℕ) (w : Places) : Type 0 where
+  pub stands : Stands n (c + 1) s w
+  pub low : n ≤ lastFont
+  pub code : c ≤ lastCode
+  pub header : List ℕ
+  pub font-there : find (keyOf n 0) (stands .store .recs) ≡ some (font n header)
+  pub ok : isKept (heldUnder (orientation header) h d) ≡ true
+
+-- the descriptor and the data of the character at its places
+abbrev pub keptAt : List ℕ → Places → List ℕ
+keptAt s w = take 16 (drop (w .from + 10) s)
+
+abbrev pub dataAt : List ℕ → Places → List ℕ
+dataAt s w = take (w .to - (w .from + 26)) (drop (w .from + 26) s)
+
+-- the same of a character that is there already and grows by t
+pub record Growing (n c : ℕ) (t s : List ℕ) (w : Places) : Type 0 where
+  pub fits : Fitting n c (keptAt s w) (dataAt s w ++ t) s w
+  pub there : find (keyOf n (c + 1)) (fits .stands .store .recs) ≡ some (character n c (keptAt s w) (dataAt s w))

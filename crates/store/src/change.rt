@@ -4,10 +4,13 @@ ghost use mathlib.Core.List.{_∷_, []};
 ghost use Prim.Native.Nat.{_+_, _-_, _*_, _≤_, _<_};
 ghost use lib.ListN.{length, take, drop, replicate};
 ghost use lib.Seq.{paste};
+ghost use mathlib.Core.Bool.{cond};
 ghost use Rattle.blocks.specs.Header.{keptHeader};
+ghost use Rattle.blocks.specs.Character.{keptFirst};
 ghost use Rattle.store.specs.Num.{le};
-ghost use Rattle.store.specs.Model.{bytesOf, font, Mark};
-ghost use Rattle.store.specs.Change.{moved, put, remarked, unmarkedFor, unmarkedAt};
+ghost use Rattle.store.specs.Model.{bytesOf, font, character, Mark};
+ghost use Rattle.store.specs.Change.{moved, put, remarked, unmarkedFor, unmarkedAt, headBytes};
+ghost use Rattle.store.specs.Calls.{shut};
 use crate::number;
 
 // Moves n bytes down, from `from` to `to`.
@@ -134,4 +137,67 @@ pub(crate) fn write_font(s: &mut [u8], at: usize, n: usize, block: &[u8])
     let from = at + 8;
     let to = at + 72;
     blocks::header::keep_header(block, &mut s[from..to]);
+}
+
+// Makes the open mark name this character, or none.
+pub(crate) fn mark_character(s: &mut [u8], marked: bool, font: usize, code: usize)
+    requires { ⌜ (12 ≤ length (now s)) × (font < 65536) × (code < 65536) ⌝ }
+    ensures { λ _. ⌜ now (s .exit) ≡ remarked (cond marked (record { on = 1; fontOf = font; codeOf = code }) shut) (now (s .entry)) ⌝ }
+{
+    if marked {
+        remark(s, 1, font, code);
+    } else {
+        remark(s, 0, 0, 0);
+    }
+}
+
+// Takes a font with its characters, from lo to hi, out of the records.
+pub(crate) fn cut_font(s: &mut [u8], lo: usize, hi: usize, used: usize, font: usize)
+    requires { ⌜ (12 ≤ lo) × (lo ≤ hi) × (hi ≤ used) × (used ≤ length (now s)) ⌝ }
+    ensures { λ _. ⌜ now (s .exit) ≡ unmarkedFor font (moved lo (hi - lo) used 0 (now (s .entry))) ⌝ }
+{
+    splice(s, lo, hi - lo, used, 0);
+    unmark_font(s, font);
+}
+
+// Writes the head of a character's record.
+fn write_head(s: &mut [u8], at: usize, len: usize, font: usize, code: usize)
+    requires { ⌜ (at + 10 ≤ length (now s)) × (len < 65536) × (font < 65536) × (code < 65536) ⌝ }
+    ensures { λ _. ⌜ now (s .exit) ≡ put (now (s .entry)) at (headBytes len font code) ⌝ }
+{
+    put16(s, at, len);
+    put16(s, at + 2, 0);
+    put16(s, at + 4, 3);
+    put16(s, at + 6, font);
+    put16(s, at + 8, code);
+}
+
+// Writes the kept bytes of an accepted first block's descriptor at a place.
+fn write_descriptor(s: &mut [u8], at: usize, block: &[u8])
+    requires { ⌜ (at + 16 ≤ length (now s)) × (16 ≤ length (now block)) ⌝ }
+    ensures { λ _. ⌜ now (s .exit) ≡ put (now (s .entry)) at (keptFirst (now (block .entry))) ⌝ }
+{
+    let to = at + 16;
+    blocks::character::keep_first(block, &mut s[at..to]);
+}
+
+// Writes a character's record: its head, and what is kept of an accepted first block, with n bytes of its data.
+pub(crate) fn write_character(s: &mut [u8], at: usize, font: usize, code: usize, block: &[u8], n: usize)
+    requires { ⌜ (at + 26 + n ≤ length (now s)) × (font < 65536) × (code < 65536) × (n ≤ 32768) × (16 + n ≤ length (now block)) ⌝ }
+    ensures { λ _. ⌜ now (s .exit) ≡ put (now (s .entry)) at (bytesOf (character font code (keptFirst (now (block .entry))) (take n (drop 16 (now (block .entry)))))) ⌝ }
+{
+    write_head(s, at, 26 + n, font, code);
+    write_descriptor(s, at + 10, block);
+    let end = 16 + n;
+    copy(s, at + 26, &block[16..end]);
+}
+
+// Makes a character's record of old bytes longer by n bytes of a continuation.
+pub(crate) fn extend_character(s: &mut [u8], at: usize, old: usize, block: &[u8], n: usize)
+    requires { ⌜ (at + old + n ≤ length (now s)) × (2 ≤ old) × (old + n < 65536) × (2 + n ≤ length (now block)) ⌝ }
+    ensures { λ _. ⌜ now (s .exit) ≡ put (put (now (s .entry)) at (le 2 (old + n))) (at + old) (take n (drop 2 (now (block .entry)))) ⌝ }
+{
+    put16(s, at, old + n);
+    let end = 2 + n;
+    copy(s, at + old, &block[2..end]);
 }

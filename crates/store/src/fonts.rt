@@ -44,9 +44,7 @@ pub fn remove_font(s: &mut [u8], font: u32) -> u32
     match seek::seek_font(s, font) {
         Sought::Refused(k) => k,
         Sought::Here(p) => {
-            let lo = p.lo;
-            change::splice(s, lo, p.hi - lo, p.used, 0);
-            change::unmark_font(s, font as usize);
+            change::cut_font(s, p.lo, p.hi, p.used, font as usize);
             0
         }
     }

@@ -1,6 +1,7 @@
 // The store: a run of records in one lent buffer.
 pub mod change;
 pub mod characters;
+pub mod download;
 pub mod fonts;
 pub mod kept_fonts;
 pub mod number;

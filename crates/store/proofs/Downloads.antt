@@ -1,0 +1,185 @@
+-- Placing a character in a store. Assumes nothing.
+use mathlib.Core.Path.{_≡_, refl, sym, ap, _∙_}
+use mathlib.Core.List.{List, [], _∷_, _++_, append-assoc, append-nil}
+use mathlib.Core.Bool.{Bool, true, false, _||_, cond}
+use mathlib.Core.Option.{Option, none, some}
+use Prim.Native.Nat.{ℕ, _+_, _*_, _-_, _/_, _<_, _≤_}
+use native.Mathlib.Omega.{arith}
+use lib.ListN.{length, take, drop, replicate, length-append, length-take, length-drop}
+use lib.Seq.{take-all, take-at, drop-at, drop-drop}
+use lib.Dec.{eqb, leb}
+use borrow.Author.Tests.{le-leb, lt-leb, eq-eqb}
+use Rattle.blocks.specs.Header.{orientation}
+use Rattle.store.specs.Layout.{keyOf}
+use Rattle.store.specs.Num.{_&_, le, Bytes}
+use Rattle.store.specs.Model.{Rec, font, character, Mark, Store, Under, under, alone, bytesOf, run, markBytes, encode, decode, allowed, heldOf, heldUnder, isKept, isUnfinished, unfinished, opened, markOk, key, number, place, sizeOf, total}
+use Rattle.store.specs.Order.{below, from, find}
+use Rattle.store.specs.Change.{moved, put, remarked, unmarkedFor}
+use Rattle.store.specs.Answer.{onStore, After, refuse, done}
+use Rattle.store.specs.Calls.{shut, used, withCharacter, removeFont}
+use Rattle.store.specs.Download.{markFor, putCharacter, placing, placed}
+use Rattle.store.specs.Walk.{Fitting, Growing, keptAt, dataAt}
+use Rattle.store.specs.declared.walk.Places.{Places}
+use Rattle.store.proofs.Numbers.{both}
+use Rattle.store.proofs.Records.{Shaped, shaped}
+use Rattle.store.proofs.Codec.{Valid, size-bytes}
+use Rattle.store.proofs.Replaced.{NewChar, new-char, opened-append}
+use Rattle.store.proofs.Marks.{mark-open, shut-ok, remark-bytes}
+use Rattle.store.proofs.Changed.{changed, encode-changed, total-replaced, valid-char, bytes-char}
+use Rattle.store.proofs.Ready.{Ready, standing, record-bytes}
+use Rattle.store.proofs.Seeks.{KeptChar}
+use Rattle.store.proofs.Spots.{char-span, char-shape}
+use Rattle.store.proofs.Extends.{extended}
+use Rattle.store.proofs.FontCalls.{cut-done}
+
+-- a part that goes to the end
+pub to-end : (k : ℕ) (xs : List ℕ) → take (length xs - k) (drop k xs) ≡ drop k xs
+to-end k xs = take-all (length xs - k) (drop k xs) (simp length-drop (omega arith))
+
+-- ── the new record
+new-allowed : (n c : ℕ) (g h d : List ℕ) → n ≤ 32767 → c ≤ 255 → isKept (heldUnder (orientation g) h d) ≡ true → allowed (under alone (font n g)) (character n c h d) ≡ true
+unfolding allowed under
+new-allowed n c g h d a b e = both _ _ (eq-eqb (n + 1) (n + 1) refl) (both _ _ (le-leb _ _ a) (both _ _ (le-leb _ _ b) e))
+
+or-true : (x : Bool) → (x || true) ≡ true
+or-true true = refl
+or-true false = refl
+
+new-opened : (n c : ℕ) (h d : List ℕ) (rs : List Rec) → isUnfinished (heldOf h d) ≡ true → opened (keyOf n (c + 1)) (character n c h d ∷ rs) ≡ true
+unfolding opened unfinished number place _&_
+new-opened n c h d rs q = rw (eq-eqb (keyOf n (c + 1)) (keyOf n (c + 1)) refl, q)
+
+-- the mark after it
+mark-new : (n c : ℕ) (h d : List ℕ) (rs : List Rec) → n ≤ 32767 → c ≤ 255 → markOk (markFor n c h d) (withCharacter n c (character n c h d ∷ []) rs) ≡ true
+unfolding markFor
+mark-new n c h d rs a b = go (isUnfinished (heldOf h d)) refl
+  where
+    go : (u : Bool) → isUnfinished (heldOf h d) ≡ u → markOk (cond u (record { on = 1; fontOf = n; codeOf = c }) shut) (withCharacter n c (character n c h d ∷ []) rs) ≡ true
+    go true q =
+        let k = keyOf n (c + 1) in
+        mark-open (record { on = 1; fontOf = n; codeOf = c }) (withCharacter n c (character n c h d ∷ []) rs) (record { on = refl; number = a; code = b })
+        (opened-append k (below k rs) (character n c h d ∷ from (k + 1) rs) ∙ rw (new-opened n c h d (from (k + 1) rs) q) (or-true (opened k (below k rs))))
+    go false q = shut-ok (withCharacter n c (character n c h d ∷ []) rs)
+
+char-run : (n c : ℕ) (h d : List ℕ) → Shaped (character n c h d) → length (run (character n c h d ∷ [])) ≡ total (character n c h d ∷ [])
+unfolding run total
+char-run n c h d e = omega (arith, length-append (bytesOf (character n c h d)) [], size-bytes (character n c h d) e)
+
+-- ── placing, by the room that there is
+-- what a character that fits finds
+pub record Space (n c : ℕ) (h d s : List ℕ) (w : Places) : Type 0 where
+  pub ready : Ready n (c + 1) s w
+  pub low : n ≤ 32767
+  pub code : c ≤ 255
+  pub header : List ℕ
+  pub font-in : find (keyOf n 0) (ready .store .recs) ≡ some (font n header)
+  pub ok : allowed (under alone (font n header)) (character n c h d) ≡ true
+
+same-store : (s : List ℕ) {a b : Store} → decode s ≡ some a → decode s ≡ some b → a ≡ b
+same-store s p q = cc
+
+pub space : (n c : ℕ) (h d s : List ℕ) (w : Places) → Bytes s → Fitting n c h d s w → Space n c h d s w
+space n c h d s w B f =
+    let r = standing n (c + 1) s B w (f .stands) in
+    let i : f .stands .store ≡ r .store = same-store s (f .stands .is) (r .is) in
+    record { ready = r; low = f .low; code = f .code; header = f .header; font-in = rw i at (f .font-there); ok = new-allowed n c (f .header) h d (f .low) (f .code) (f .ok) }
+
+module _ (n c : ℕ) (h d s : List ℕ) (w : Places) (x : Space n c h d s w) where
+  new-shape : (length h ≡ 16) × (length d ≤ 32768) × (n ≤ 32767) × (c ≤ 255)
+  new-shape = shaped (under alone (font n (x .header))) (character n c h d) (x .ok)
+
+  pub data-small : length d ≤ 32768
+  data-small = new-shape .1
+
+  lo : w .from ≡ 12 + total (below (keyOf n (c + 1)) (x .ready .store .recs))
+  lo = ap (λ (y : Places). y .from) (x .ready .at)
+
+  hi : w .to ≡ 12 + total (below (keyOf n (c + 1) + 1) (x .ready .store .recs))
+  hi = ap (λ (y : Places). y .to) (x .ready .at)
+
+  us : w .used ≡ 12 + total (x .ready .store .recs)
+  us = ap (λ (y : Places). y .used) (x .ready .at)
+
+  grows : total (withCharacter n c (character n c h d ∷ []) (x .ready .store .recs)) + (w .to - w .from) ≡ total (x .ready .store .recs) + (26 + length d)
+  unfolding total sizeOf
+  grows =
+      let e = total-replaced (keyOf n (c + 1)) (keyOf n (c + 1) + 1) (character n c h d ∷ []) (x .ready .store .recs) (x .ready .valid .order) (omega arith) in
+      omega (arith, e, lo, hi)
+
+  -- no room: the font goes
+  pub place-full : length s < w .used - (w .to - w .from) + (26 + length d) → placed n c h d s ≡ record { answer = 10; bytes = unmarkedFor n (moved (w .lo) (w .hi - w .lo) (w .used) 0 s) }
+  unfolding placed placing onStore
+  place-full q =
+      let r = x .ready in
+      let y : r .store .size < used (putCharacter n c h d (r .store)) = omega (arith, grows, us, r .one, r .last, r .size) in
+      rw (r .is, lt-leb _ _ y, cut-done n (c + 1) s w r)
+
+  -- room: the record stands, and the mark is made
+  pub place-done : w .used - (w .to - w .from) + (26 + length d) ≤ length s
+      → placed n c h d s ≡ record { answer = 0; bytes = remarked (markFor n c h d) (put (moved (w .from) (w .to - w .from) (w .used) (26 + length d) s) (w .from) (bytesOf (character n c h d))) }
+  unfolding placed placing onStore run total sizeOf
+  place-done q =
+      let r = x .ready in
+      let st = r .store in
+      let rs = st .recs in
+      let new = character n c h d ∷ [] in
+      let fits : 12 + total (withCharacter n c new rs) ≤ st .size = omega (arith, grows, us, r .one, r .last, r .size) in
+      let T : List ℕ = run (withCharacter n c new rs) ++ replicate (st .size - (12 + length (run (withCharacter n c new rs)))) 0 in
+      let z : 26 + length d + 0 ≡ 26 + length d = omega arith in
+      let b : put (moved (w .from) (w .to - w .from) (w .used) (26 + length d) s) (w .from) (bytesOf (character n c h d)) ≡ markBytes (st .mark) ++ T =
+          rw (lo, hi, us, r .bytes, ← (append-nil (bytesOf (character n c h d))), ← z) (bytes-char n c (x .header) new st (r .valid) (x .code) (x .font-in) (new-char h d (x .ok)) (char-run n c h d new-shape) fits) in
+      let y : encode (putCharacter n c h d st) ≡ remarked (markFor n c h d) (put (moved (w .from) (w .to - w .from) (w .used) (26 + length d) s) (w .from) (bytesOf (character n c h d))) =
+          encode-changed (markFor n c h d) (withCharacter n c new rs) st ∙ sym (ap (remarked (markFor n c h d)) b ∙ remark-bytes (st .mark) (markFor n c h d) T) in
+      rw (r .is, le-leb _ _ fits, y)
+
+-- ── a record that grows
+module _ (n c : ℕ) (t s : List ℕ) (w : Places) (B : Bytes s) (g : Growing n c t s w) where
+  pub growing : Space n c (keptAt s w) (dataAt s w ++ t) s w
+  growing = space n c (keptAt s w) (dataAt s w ++ t) s w B (g .fits)
+
+  grow-same : g .fits .stands .store ≡ growing .ready .store
+  grow-same = same-store s (g .fits .stands .is) (growing .ready .is)
+
+  grow-there : find (keyOf n (c + 1)) (growing .ready .store .recs) ≡ some (character n c (keptAt s w) (dataAt s w))
+  grow-there = rw grow-same at (g .there)
+
+  abbrev grow-char : KeptChar n c s w
+  grow-char =
+      record {
+        ready = growing .ready;
+        low = growing .low;
+        code = growing .code;
+        header = growing .header;
+        font-there = growing .font-in;
+        kept = keptAt s w;
+        bytes = dataAt s w;
+        there = grow-there;
+      }
+
+  pub grow-span : w .to ≡ w .from + 26 + length (dataAt s w)
+  grow-span = char-span n c s w grow-char
+
+  pub grow-small : length (dataAt s w) + length t ≤ 32768
+  grow-small = omega (arith, data-small n c (keptAt s w) (dataAt s w ++ t) s w growing, length-append (dataAt s w) t)
+
+  grow-bytes : (u : List ℕ) × (drop (w .from) s ≡ bytesOf (character n c (keptAt s w) (dataAt s w)) ++ u)
+  grow-bytes =
+      let r = growing .ready in
+      let b = record-bytes (keyOf n (c + 1)) (character n c (keptAt s w) (dataAt s w)) (r .store) (r .valid) grow-there in
+      let i : w .from ≡ 12 + total (below (keyOf n (c + 1)) (r .store .recs)) = ap (λ (y : Places). y .from) (r .at) in
+      (b .0, ap (λ (k : ℕ). drop k s) i ∙ ap (drop (12 + total (below (keyOf n (c + 1)) (r .store .recs)))) (r .bytes) ∙ b .1)
+
+  -- the code's writes are those of the whole record
+  pub grow-put : w .used + length t ≤ length s
+      → put (put (moved (w .from) (w .to - w .from) (w .used) (w .to - w .from + length t) s) (w .from) (le 2 (w .to - w .from + length t))) (w .from + (w .to - w .from)) t
+        ≡ put (moved (w .from) (w .to - w .from) (w .used) (26 + length (dataAt s w ++ t)) s) (w .from) (bytesOf (character n c (keptAt s w) (dataAt s w ++ t)))
+  grow-put room =
+      let d = dataAt s w in
+      let u = grow-bytes in
+      let i : w .to - w .from ≡ 26 + length d = omega (arith, grow-span) in
+      let j : 26 + length (d ++ t) ≡ 26 + length d + length t = omega (arith, length-append d t) in
+      let k : length (keptAt s w) ≡ 16 = char-shape n c s w grow-char .0 in
+      let e = extended n c (w .from) (w .used) (keptAt s w) d t s (u .0) (u .1) k (omega (arith, grow-small)) (omega (arith, grow-span, growing .ready .last)) in
+      ap (λ (x : ℕ). put (put (moved (w .from) x (w .used) (x + length t) s) (w .from) (le 2 (x + length t))) (w .from + x) t) i ∙ e
+      ∙ ap (λ (x : ℕ). put (moved (w .from) (26 + length d) (w .used) x s) (w .from) (bytesOf (character n c (keptAt s w) (d ++ t)))) (sym j)
+      ∙ ap (λ (x : ℕ). put (moved (w .from) x (w .used) (26 + length (d ++ t)) s) (w .from) (bytesOf (character n c (keptAt s w) (d ++ t)))) (sym i)

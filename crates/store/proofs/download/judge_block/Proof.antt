@@ -1,0 +1,25 @@
+use mathlib.Core.Path.{_≡_, _∙_}
+use denote.Ref.{now}
+use Rattle.store.proofs.Downloads.{to-end}
+use borrow.Author.Needs.{needs}
+use Rattle.store.proofs.download.judge_block.Statement.{statement}
+use Rattle.store.proofs.download.judge_block.Tie as tie
+
+returns : tie.Need-returns
+returns c = 
+    let k3 = c .before .before .before in
+    let k6 = k3 .before .before .before in
+    c .judge-first .ensures ∙ rw (k3 .word .ensures, c .before .before .word2 .ensures, to-end 16 (now (k6 .args .block)))
+
+pub judge-block-spec : {M : Type 1} → statement M
+judge-block-spec =
+    tie.close
+    (tie.spec
+    (λ c. search needs)
+    (λ c κs. search needs)
+    (λ c κs. search needs)
+    (λ c. search needs)
+    (λ c. search needs)
+    (λ c. search needs)
+    (λ c κs. search needs)
+    returns)

@@ -1,0 +1,85 @@
+use mathlib.Core.Path.{_≡_, refl, sym, ap, _∙_}
+use mathlib.Core.Bool.{Bool, cond}
+use mathlib.Core.List.{List}
+use Prim.Native.Nat.{ℕ, _+_, _-_, _≤_, _<_}
+use lib.ListN.{length, take, drop, length-take, length-drop}
+use denote.Ref.{now}
+use Rattle.blocks.specs.Character.{keptFirst}
+use Rattle.store.specs.Model.{Mark, bytesOf, character, heldOf}
+use Rattle.store.specs.Change.{moved, put, remarked}
+use Rattle.store.specs.Calls.{shut}
+use Rattle.store.specs.Download.{markFor}
+use Rattle.store.proofs.Downloads.{Space, space, place-full, place-done}
+use Rattle.store.proofs.FontCalls.{answered}
+use borrow.Author.Needs.{needs}
+use native.Mathlib.Omega.{arith}
+use Rattle.store.proofs.download.place_first.Statement.{statement}
+use Rattle.store.proofs.download.place_first.Tie as tie
+
+-- what is known at the start: the space, and the length of the data
+at-start : (c : tie.After-slice-known) → Space (c .before .args .font) (c .before .args .code) (keptFirst (now (c .before .args .block))) (take (c .before .args .n) (drop 16 (now (c .before .args .block)))) (now (c .before .args .s)) (c .before .args .p)
+at-start c = space _ _ _ _ _ _ (λ i. c .slice-known .given i .fits) (c .before .pre .0 .2)
+
+data-length : (c : tie.After-slice-known) → length (take (c .before .args .n) (drop 16 (now (c .before .args .block)))) ≡ c .before .args .n
+data-length c = simp (length-take, length-drop) (omega (arith, c .before .pre .0 .1))
+
+sub-old : tie.Need-sub-old
+sub-old c = at-start (c .before .before) .ready .one
+
+sub-if1 : tie.Need-sub-if1
+sub-if1 c = let r = at-start (c .before .before) .ready in omega (arith, r .one, r .last)
+
+add-if1-2 : tie.Need-add-if1-2
+add-if1-2 c = let r = at-start (c .before .before) .ready in omega (arith, r .room, c .before .before .before .pre .0 .0)
+
+cut-font-requires : tie.Need-cut-font-requires
+cut-font-requires c κs = let r = at-start (c .before .before .before .before) .ready in (r .least, r .span, r .end, r .room)
+
+returns : tie.Need-returns
+returns c = let x = at-start (c .before .before .before .before .before .before .before) in
+    let l = data-length (c .before .before .before .before .before .before .before) in
+    let e = answered (place-full _ _ _ _ _ _ x (omega (arith, c .before .before .before .before .if1 .taken, l))) in
+    (e .0, c .before .before .cut-font .ensures ∙ e .1)
+
+splice-requires : tie.Need-splice-requires
+splice-requires c κs = let r = at-start (c .before .before .before .before) .ready in (omega (arith, r .one, r .last), r .room, omega (arith, r .one, r .last, r .room, c .before .if1 .left))
+
+write-character-requires : tie.Need-write-character-requires
+write-character-requires c κs = let x = at-start (c .before .before .before .before .before .before .before .before) in
+    let r = x .ready in
+    (omega (arith, r .one, r .last, r .room, c .before .before .before .before .before .if1 .left, c .before .before .before .splice .kept .0), omega (arith, x .low), omega (arith, x .code), c .before .before .before .before .before .before .before .before .before .pre .0 .0, c .before .before .before .before .before .before .before .before .before .pre .0 .1)
+
+mark-character-requires : tie.Need-mark-character-requires
+mark-character-requires c κs = let x = at-start (c .before .before .before .before .before .before .before .before .before .before .before .before) in
+    let r = x .ready in
+    (omega (arith, r .least, r .span, r .end, r .room, c .before .before .before .before .before .before .before .splice .kept .0, c .before .before .before .write-character .kept .0), omega (arith, x .low), omega (arith, x .code))
+
+returns-2 : tie.Need-returns-2
+unfolding markFor
+returns-2 c = let x = at-start (c .before .before .before .before .before .before .before .before .before .before .before .before .before .before .before) in
+    let l = data-length (c .before .before .before .before .before .before .before .before .before .before .before .before .before .before .before) in
+    let a = c .before .before .before .before .before .before .before .before .before .before .before .before .before .before .before .before .args in
+    let e = answered (place-done _ _ _ _ _ _ x (omega (arith, c .before .before .before .before .before .before .before .before .before .before .before .before .if1 .left, l))) in
+    (e .0,
+    c .before .before .mark-character .ensures
+    ∙ ap (λ (y : Bool). remarked (cond y (record { on = 1; fontOf = a .font; codeOf = a .code }) shut) (c .before .before .before .before .before .before .write-character .last .0)) (c .before .before .before .before .before .before .before .before .before .before .before .before .before .before .before .before .pre .1)
+    ∙ ap (remarked (markFor (a .font) (a .code) (keptFirst (now (a .block))) (take (a .n) (drop 16 (now (a .block)))))) (c .before .before .before .before .before .before .write-character .ensures ∙ ap (λ (y : List ℕ). put y (a .p .from) (bytesOf (character (a .font) (a .code) (keptFirst (now (a .block))) (take (a .n) (drop 16 (now (a .block))))))) (c .before .before .before .before .before .before .before .before .before .before .splice .ensures ∙ ap (λ (y : ℕ). moved (a .p .from) (a .p .to - a .p .from) (a .p .used) (26 + y) (now (a .s))) (sym l)))
+    ∙ e .1)
+
+pub place-first-spec : {M : Type 1} → statement M
+place-first-spec =
+    tie.close
+    (tie.spec
+    sub-old
+    sub-if1
+    (λ c. search needs)
+    add-if1-2
+    cut-font-requires
+    (λ c. search needs)
+    returns
+    (λ c. search needs)
+    splice-requires
+    write-character-requires
+    mark-character-requires
+    (λ c. search needs)
+    returns-2)
