@@ -127,9 +127,9 @@ module _ (n c : ℕ) (h d s : List ℕ) (w : Places) (x : Space n c h d s w) whe
       let T : List ℕ = run (withCharacter n c new rs) ++ replicate (st .size - (12 + length (run (withCharacter n c new rs)))) 0 in
       let z : 26 + length d + 0 ≡ 26 + length d = omega arith in
       let b : put (moved (w .from) (w .to - w .from) (w .used) (26 + length d) s) (w .from) (bytesOf (character n c h d)) ≡ markBytes (st .mark) ++ T =
-          rw (lo, hi, us, r .bytes, ← (append-nil (bytesOf (character n c h d))), ← z) (bytes-char n c (x .header) new st (r .valid) (x .code) (x .font-in) (new-char h d (x .ok)) (char-run n c h d new-shape) fits) in
+      rw (lo, hi, us, r .bytes, ← (append-nil (bytesOf (character n c h d))), ← z) (bytes-char n c (x .header) new st (r .valid) (x .code) (x .font-in) (new-char h d (x .ok)) (char-run n c h d new-shape) fits) in
       let y : encode (putCharacter n c h d st) ≡ remarked (markFor n c h d) (put (moved (w .from) (w .to - w .from) (w .used) (26 + length d) s) (w .from) (bytesOf (character n c h d))) =
-          encode-changed (markFor n c h d) (withCharacter n c new rs) st ∙ sym (ap (remarked (markFor n c h d)) b ∙ remark-bytes (st .mark) (markFor n c h d) T) in
+      encode-changed (markFor n c h d) (withCharacter n c new rs) st ∙ sym (ap (remarked (markFor n c h d)) b ∙ remark-bytes (st .mark) (markFor n c h d) T) in
       rw (r .is, le-leb _ _ fits, y)
 
 -- ── a record that grows
@@ -172,7 +172,7 @@ module _ (n c : ℕ) (t s : List ℕ) (w : Places) (B : Bytes s) (g : Growing n 
   -- the code's writes are those of the whole record
   pub grow-put : w .used + length t ≤ length s
       → put (put (moved (w .from) (w .to - w .from) (w .used) (w .to - w .from + length t) s) (w .from) (le 2 (w .to - w .from + length t))) (w .from + (w .to - w .from)) t
-        ≡ put (moved (w .from) (w .to - w .from) (w .used) (26 + length (dataAt s w ++ t)) s) (w .from) (bytesOf (character n c (keptAt s w) (dataAt s w ++ t)))
+      ≡ put (moved (w .from) (w .to - w .from) (w .used) (26 + length (dataAt s w ++ t)) s) (w .from) (bytesOf (character n c (keptAt s w) (dataAt s w ++ t)))
   grow-put room =
       let d = dataAt s w in
       let u = grow-bytes in

@@ -47,8 +47,8 @@ module _ (n c at used : ℕ) (h d t s : List ℕ) (u : List ℕ) (e : drop at s 
   unfolding moved behind
   moved-is =
       let i : take (at + (26 + length d + length t)) s ≡ take at s ++ (bytesOf (character n c h d) ++ take (length t) u) =
-          take-add at (26 + length d + length t) s
-          ∙ ap (λ (l : List ℕ). take at s ++ l) (ap (take (26 + length d + length t)) e ∙ ap (λ (k : ℕ). take (k + length t) (bytesOf (character n c h d) ++ u)) (sym size) ∙ take-append-add (bytesOf (character n c h d)) u (length t)) in
+      take-add at (26 + length d + length t) s
+      ∙ ap (λ (l : List ℕ). take at s ++ l) (ap (take (26 + length d + length t)) e ∙ ap (λ (k : ℕ). take (k + length t) (bytesOf (character n c h d) ++ u)) (sym size) ∙ take-append-add (bytesOf (character n c h d)) u (length t)) in
       rw i (simp append-assoc)
 
   junk-length : length (take (length t) u) ≡ length t
@@ -80,7 +80,7 @@ module _ (n c at used : ℕ) (h d t s : List ℕ) (u : List ℕ) (e : drop at s 
       let new : bytesOf (character n c h (d ++ t)) ≡ L1 ++ (Z ++ (X ++ t)) = record-parts n c h (d ++ t) (omega (arith, length-append d t)) ∙ rw (ln, rest-more n c h d t) in
       let c0 : A ++ (L0 ++ (Z ++ (X ++ (J ++ R)))) ≡ A ++ ((L0 ++ (Z ++ (X ++ J))) ++ R) = simp append-assoc in
       let lq : length (L1 ++ (Z ++ (X ++ t))) ≡ length (L0 ++ (Z ++ (X ++ J))) =
-          omega (arith, l0, length-append L1 (Z ++ (X ++ t)), length-append L0 (Z ++ (X ++ J)), length-append Z (X ++ t), length-append Z (X ++ J), length-append X t, length-append X J, junk-length) in
+      omega (arith, l0, length-append L1 (Z ++ (X ++ t)), length-append L0 (Z ++ (X ++ J)), length-append Z (X ++ t), length-append Z (X ++ J), length-append X t, length-append X J, junk-length) in
       let p3 : put (A ++ ((L0 ++ (Z ++ (X ++ J))) ++ R)) at (L1 ++ (Z ++ (X ++ t))) ≡ A ++ ((L1 ++ (Z ++ (X ++ t))) ++ R) = put-mid A (L0 ++ (Z ++ (X ++ J))) R (L1 ++ (Z ++ (X ++ t))) at la lq in
       let fin : B ++ (t ++ R) ≡ A ++ ((L1 ++ (Z ++ (X ++ t))) ++ R) = simp append-assoc in
       ap (λ (x : List ℕ). put (put x at L1) (at + (26 + length d)) t) m ∙ ap (λ (x : List ℕ). put x (at + (26 + length d)) t) (p1 ∙ b) ∙ p2 ∙ fin ∙ sym p3 ∙ ap (λ (x : List ℕ). put x at (L1 ++ (Z ++ (X ++ t)))) (sym c0 ∙ sym m)

@@ -32,6 +32,7 @@ stands-at s rs e = zero? (allZero s) refl (sym (split-eq s) ∙ e)
     head? : (o : Option Rec) → headRec s ≡ o → andThen o (λ r. split (drop (sizeOf r) s)) ≡ some rs → Standing s rs
     head? none q e' = unfold andThen in let z : _≡_ {A = ℕ} 0 1 = cc in absurd (omega arith)
     head? (some r) q e' = let w = consTo-some r (split (drop (sizeOf r) s)) rs (unfold andThen in e') in at-record r (w .0) (sym (w .2)) q (w .1)
+
     zero? : (b : Bool) → allZero s ≡ b → mathlib.Core.Bool.cond b (some []) (andThen (headRec s) (λ r. split (drop (sizeOf r) s))) ≡ some rs → Standing s rs
     zero? true q e' = at-end (cc) q
     zero? false q e' = head? (headRec s) refl e'
@@ -115,6 +116,7 @@ module _ (s : List ℕ) (at : ℕ) (p : Place s at) where
       by : (r : Rec) (ts : List Rec) → Headed (drop at s) r → p .recs ≡ r ∷ ts → headRec (drop at s) ≡ some r → split (drop (sizeOf r) (drop at s)) ≡ some ts → Next
       by r ts (is-font f a b) e h q = font-next _ _ ts e (unfold sizeOf in q) h (field-drop 2 6 at s) (ap (take 64) (drop-drop 8 at s))
       by r ts (is-character f a b) e h q = absurd (omega (arith, field-drop 2 4 at s))
+
       go : Standing (drop at s) (p .recs) → Next
       go (at-end e z) = absurd (x (zeros-field 4 (drop at s) z))
       go (at-record r ts e h q) = by r ts (head-inv (drop at s) r h) e h q
@@ -140,6 +142,7 @@ module _ (s : List ℕ) (at : ℕ) (p : Place s at) where
             place = w';
             some = omega (arith, b);
           }
+
       go : Standing (drop at s) (p .recs) → Over
       go (at-end e z) = absurd (x (zeros-field 4 (drop at s) z))
       go (at-record r ts e h q) = by r ts (head-inv (drop at s) r h) e h q

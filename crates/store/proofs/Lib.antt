@@ -23,3 +23,4 @@ pub mod CharacterCalls
 pub mod KeptFonts
 pub mod Downloads
 pub mod Extends
+pub mod Receives

@@ -81,10 +81,12 @@ font-refused refuse n k s f e = go (decode s) e
     seek : (st : Store) (o : Option Rec) → finding Refused o 6 (λ r. Here (placesOf n 0 (st .recs))) ≡ Refused k → finding refuse o 6 (f st) ≡ refuse k
     seek st none e' = let i : 6 ≡ k = cc in ap refuse i
     seek st (some r) e' = let z : _≡_ {A = ℕ} 0 1 = cc in absurd (omega arith)
+
     range : (st : Store) (b : Bool) → checked Refused b 2 (finding Refused (find (keyOf n 0) (st .recs)) 6 (λ r. Here (placesOf n 0 (st .recs)))) ≡ Refused k
         → checked refuse b 2 (finding refuse (find (keyOf n 0) (st .recs)) 6 (f st)) ≡ refuse k
     range st true e' = seek st (find (keyOf n 0) (st .recs)) e'
     range st false e' = let i : 2 ≡ k = cc in ap refuse i
+
     go : (o : Option Store)
         → onStore Refused o (λ st. checked Refused (leb n 32767) 2 (finding Refused (find (keyOf n 0) (st .recs)) 6 (λ r. Here (placesOf n 0 (st .recs))))) ≡ Refused k
         → onStore refuse o (λ st. checked refuse (leb n 32767) 2 (finding refuse (find (keyOf n 0) (st .recs)) 6 (f st))) ≡ refuse k
@@ -95,37 +97,39 @@ same-store : (s : List ℕ) {a b : Store} → decode s ≡ some a → decode s �
 same-store s p q = cc
 
 -- a font that is there
-pub record KeptFont (n : ℕ) (s : List ℕ) (w : Places) : Type 0 where
-  pub ready : Ready n 0 s w
+pub record KeptFont (n p : ℕ) (s : List ℕ) (w : Places) : Type 0 where
+  pub ready : Ready n p s w
   pub low : n ≤ 32767
   pub header : List ℕ
   pub there : find (keyOf n 0) (ready .store .recs) ≡ some (font n header)
 
 module _ (n : ℕ) (s : List ℕ) (w : Places) where
-  font-of : (r : Ready n 0 s w) → n ≤ 32767 → (q : Rec) → find (keyOf n 0) (r .store .recs) ≡ some q → KeptFont n s w
+  font-of : (r : Ready n 0 s w) → n ≤ 32767 → (q : Rec) → find (keyOf n 0) (r .store .recs) ≡ some q → KeptFont n 0 s w
   font-of r l q e =
       let f = found (keyOf n 0) 0 alone q (r .store .recs) (r .valid .order) e in
       let x = font-at n _ q (f .ok) (f .is) in
       record { ready = r; low = l; header = x .0; there = e ∙ ap some (x .1) }
 
-  pub font-sought : Bytes s → soughtFont n s ≡ Here w → KeptFont n s w
+  pub font-sought : Bytes s → soughtFont n s ≡ Here w → KeptFont n 0 s w
   unfolding soughtFont onFont onStore finding
   font-sought B e = go (decode s) refl e
     where
-      seek : (st : Store) → decode s ≡ some st → n ≤ 32767 → (o : Option Rec) → find (keyOf n 0) (st .recs) ≡ o → finding Refused o 6 (λ r. Here (placesOf n 0 (st .recs))) ≡ Here w → KeptFont n s w
+      seek : (st : Store) → decode s ≡ some st → n ≤ 32767 → (o : Option Rec) → find (keyOf n 0) (st .recs) ≡ o → finding Refused o 6 (λ r. Here (placesOf n 0 (st .recs))) ≡ Here w → KeptFont n 0 s w
       seek st d l none q e' = let z : _≡_ {A = ℕ} 0 1 = cc in absurd (omega arith)
       seek st d l (some x) q e' =
           let r = standing n 0 s B w (record { store = st; is = d; at = cc }) in
           let i : st ≡ r .store = same-store s d (r .is) in
           font-of r l x (rw i at q)
-      range : (st : Store) → decode s ≡ some st → (b : Bool) → leb n 32767 ≡ b → checked Refused b 2 (finding Refused (find (keyOf n 0) (st .recs)) 6 (λ r. Here (placesOf n 0 (st .recs)))) ≡ Here w → KeptFont n s w
+
+      range : (st : Store) → decode s ≡ some st → (b : Bool) → leb n 32767 ≡ b → checked Refused b 2 (finding Refused (find (keyOf n 0) (st .recs)) 6 (λ r. Here (placesOf n 0 (st .recs)))) ≡ Here w → KeptFont n 0 s w
       range st d true q e' = seek st d (leb-true _ _ q) (find (keyOf n 0) (st .recs)) refl e'
       range st d false q e' = let z : _≡_ {A = ℕ} 0 1 = cc in absurd (omega arith)
-      go : (o : Option Store) → decode s ≡ o → onStore Refused o (λ st. checked Refused (leb n 32767) 2 (finding Refused (find (keyOf n 0) (st .recs)) 6 (λ r. Here (placesOf n 0 (st .recs))))) ≡ Here w → KeptFont n s w
+
+      go : (o : Option Store) → decode s ≡ o → onStore Refused o (λ st. checked Refused (leb n 32767) 2 (finding Refused (find (keyOf n 0) (st .recs)) 6 (λ r. Here (placesOf n 0 (st .recs))))) ≡ Here w → KeptFont n 0 s w
       go none d e' = let z : _≡_ {A = ℕ} 0 1 = cc in absurd (omega arith)
       go (some st) d e' = range st d (leb n 32767) refl e'
 
-  pub font-call : {A : Type 0} (refuse : ℕ → A) (f : Store → Rec → A) (x : KeptFont n s w) → onFont refuse n s f ≡ f (x .ready .store) (font n (x .header))
+  pub font-call : {A : Type 0} (refuse : ℕ → A) (f : Store → Rec → A) (x : KeptFont n 0 s w) → onFont refuse n s f ≡ f (x .ready .store) (font n (x .header))
   unfolding onFont onStore finding
   font-call refuse f x = rw (x .ready .is, le-leb n 32767 (x .low), x .there)
 
@@ -137,15 +141,18 @@ char-refused refuse n c k s f e = go (decode s) e
     one : (st : Store) (o : Option Rec) → finding Refused o 7 (λ r. Here (placesOf n (c + 1) (st .recs))) ≡ Refused k → finding refuse o 7 (f st) ≡ refuse k
     one st none e' = let i : 7 ≡ k = cc in ap refuse i
     one st (some r) e' = let z : _≡_ {A = ℕ} 0 1 = cc in absurd (omega arith)
+
     seek : (st : Store) (o : Option Rec) → finding Refused o 6 (λ r. finding Refused (find (keyOf n (c + 1)) (st .recs)) 7 (λ q. Here (placesOf n (c + 1) (st .recs)))) ≡ Refused k
         → finding refuse o 6 (λ r. finding refuse (find (keyOf n (c + 1)) (st .recs)) 7 (f st)) ≡ refuse k
     seek st none e' = let i : 6 ≡ k = cc in ap refuse i
     seek st (some r) e' = one st (find (keyOf n (c + 1)) (st .recs)) e'
+
     range : (st : Store) (b : Bool)
         → checked Refused b 2 (finding Refused (find (keyOf n 0) (st .recs)) 6 (λ r. finding Refused (find (keyOf n (c + 1)) (st .recs)) 7 (λ q. Here (placesOf n (c + 1) (st .recs))))) ≡ Refused k
         → checked refuse b 2 (finding refuse (find (keyOf n 0) (st .recs)) 6 (λ r. finding refuse (find (keyOf n (c + 1)) (st .recs)) 7 (f st))) ≡ refuse k
     range st true e' = seek st (find (keyOf n 0) (st .recs)) e'
     range st false e' = let i : 2 ≡ k = cc in ap refuse i
+
     go : (o : Option Store)
         → onStore Refused o (λ st. checked Refused (numbered n c) 2 (finding Refused (find (keyOf n 0) (st .recs)) 6 (λ r. finding Refused (find (keyOf n (c + 1)) (st .recs)) 7 (λ q. Here (placesOf n (c + 1) (st .recs)))))) ≡ Refused k
         → onStore refuse o (λ st. checked refuse (numbered n c) 2 (finding refuse (find (keyOf n 0) (st .recs)) 6 (λ r. finding refuse (find (keyOf n (c + 1)) (st .recs)) 7 (f st)))) ≡ refuse k
@@ -183,14 +190,17 @@ module _ (n c : ℕ) (s : List ℕ) (w : Places) where
           let r = standing n (c + 1) s B w (record { store = st; is = d; at = cc }) in
           let i : st ≡ r .store = same-store s d (r .is) in
           char-of r (leb-true _ _ (l .0)) (leb-true _ _ (l .1)) p x (rw i at a) (rw i at q)
+
       seek : (st : Store) → decode s ≡ some st → (leb n 32767 ≡ true) × (leb c 255 ≡ true) → (o : Option Rec) → find (keyOf n 0) (st .recs) ≡ o
           → finding Refused o 6 (λ r. finding Refused (find (keyOf n (c + 1)) (st .recs)) 7 (λ q. Here (placesOf n (c + 1) (st .recs)))) ≡ Here w → KeptChar n c s w
       seek st d l none q e' = let z : _≡_ {A = ℕ} 0 1 = cc in absurd (omega arith)
       seek st d l (some x) q e' = one st d l x q (find (keyOf n (c + 1)) (st .recs)) refl e'
+
       range : (st : Store) → decode s ≡ some st → (b : Bool) → numbered n c ≡ b
           → checked Refused b 2 (finding Refused (find (keyOf n 0) (st .recs)) 6 (λ r. finding Refused (find (keyOf n (c + 1)) (st .recs)) 7 (λ q. Here (placesOf n (c + 1) (st .recs))))) ≡ Here w → KeptChar n c s w
       range st d true q e' = seek st d (both (leb n 32767) (leb c 255) q) (find (keyOf n 0) (st .recs)) refl e'
       range st d false q e' = let z : _≡_ {A = ℕ} 0 1 = cc in absurd (omega arith)
+
       go : (o : Option Store) → decode s ≡ o
           → onStore Refused o (λ st. checked Refused (numbered n c) 2 (finding Refused (find (keyOf n 0) (st .recs)) 6 (λ r. finding Refused (find (keyOf n (c + 1)) (st .recs)) 7 (λ q. Here (placesOf n (c + 1) (st .recs)))))) ≡ Here w → KeptChar n c s w
       go none d e' = let z : _≡_ {A = ℕ} 0 1 = cc in absurd (omega arith)

@@ -35,7 +35,7 @@ chars-few n p s w r =
     omega (arith, ap (λ (x : Places). x .chars) (r .at), ap (λ (x : Places). x .used) (r .at), few, r .room, r .size, r .valid .small)
 
 -- ── a font
-module _ (n : ℕ) (s : List ℕ) (w : Places) (x : KeptFont n s w) where
+module _ (n p : ℕ) (s : List ℕ) (w : Places) (x : KeptFont n p s w) where
   font-found : Found (keyOf n 0) alone (font n (x .header)) (x .ready .store .recs)
   font-found = found (keyOf n 0) 0 alone (font n (x .header)) (x .ready .store .recs) (x .ready .valid .order) (x .there)
 

@@ -38,14 +38,19 @@ pub head-put : (s : List ℕ) (at len n c : ℕ) → at + 10 ≤ length s → le
 unfolding headBytes le
 head-put s at len n c h l =
     let q : len / 256 / 256 ≡ 0 = omega arith in
-    rw (put-put s at (le 2 len) (le 2 0) (at + 2) (omega arith) (omega arith),
-    put-put s at (le 2 len ++ le 2 0) (le 2 3) (at + 4) (omega arith) (omega arith),
-    put-put s at ((le 2 len ++ le 2 0) ++ le 2 3) (le 2 n) (at + 6) (omega arith) (omega arith),
-    put-put s at (((le 2 len ++ le 2 0) ++ le 2 3) ++ le 2 n) (le 2 c) (at + 8) (omega arith) (omega arith), q)
+    rw (
+      put-put s at (le 2 len) (le 2 0) (at + 2) (omega arith) (omega arith),
+      put-put s at (le 2 len ++ le 2 0) (le 2 3) (at + 4) (omega arith) (omega arith),
+      put-put s at ((le 2 len ++ le 2 0) ++ le 2 3) (le 2 n) (at + 6) (omega arith) (omega arith),
+      put-put s at (((le 2 len ++ le 2 0) ++ le 2 3) ++ le 2 n) (le 2 c) (at + 8) (omega arith) (omega arith),
+      q,
+    )
 
 pub char-put : (s : List ℕ) (at n c : ℕ) (h d : List ℕ) → length h ≡ 16 → at + 26 + length d ≤ length s
     → put (put (put s at (headBytes (26 + length d) n c)) (at + 10) h) (at + 26) d ≡ put s at (bytesOf (character n c h d))
 unfolding headBytes bytesOf le
 char-put s at n c h d l e =
-    rw (put-put s at (headBytes (26 + length d) n c) h (at + 10) (omega arith) (omega arith),
-    put-put s at (headBytes (26 + length d) n c ++ h) d (at + 26) (omega (arith, l)) (omega (arith, l)))
+    rw (
+      put-put s at (headBytes (26 + length d) n c) h (at + 10) (omega arith) (omega arith),
+      put-put s at (headBytes (26 + length d) n c ++ h) d (at + 26) (omega (arith, l)) (omega (arith, l)),
+    )

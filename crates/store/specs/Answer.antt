@@ -46,9 +46,9 @@ unfoldable pub onCharacter : {A : Type 0} → (ℕ → A) → ℕ → ℕ → Li
 onCharacter refuse n c s f =
     onStore refuse (decode s)
     (λ st.
-      checked refuse (numbered n c) 2
-      (finding refuse (find (keyOf n 0) (st .recs)) 6
-      (λ r. finding refuse (find (keyOf n (c + 1)) (st .recs)) 7 (f st))))
+    checked refuse (numbered n c) 2
+    (finding refuse (find (keyOf n 0) (st .recs)) 6
+    (λ r. finding refuse (find (keyOf n (c + 1)) (st .recs)) 7 (f st))))
 
 -- what a call on a store answers, and the buffer afterwards
 pub record After : Type 0 where

@@ -100,12 +100,12 @@ unfoldable pub tellingFont : ℕ → List ℕ → List ℕ → Telling
 tellingFont n s out =
     onFont (untold out) n s
     (λ st r.
-      checked (untold out) (leb headerBytes (length out)) 12
-      (record { refusal = 0; count = length (charactersOf n (st .recs)); out = onto (keptOf r) out }))
+    checked (untold out) (leb headerBytes (length out)) 12
+    (record { refusal = 0; count = length (charactersOf n (st .recs)); out = onto (keptOf r) out }))
 
 unfoldable pub tellingCharacter : ℕ → ℕ → List ℕ → List ℕ → Telling
 tellingCharacter n c s out =
     onCharacter (untold out) n c s
     (λ st r.
-      checked (untold out) (leb descriptorBytes (length out)) 12
-      (record { refusal = 0; count = length (dataOf r); out = onto (keptOf r) out }))
+    checked (untold out) (leb descriptorBytes (length out)) 12
+    (record { refusal = 0; count = length (dataOf r); out = onto (keptOf r) out }))

@@ -84,9 +84,9 @@ unfoldable pub puttingBlock : ℕ → ℕ → List ℕ → List ℕ → After
 puttingBlock n c b s =
     onStore (refuse s) (decode s)
     (λ st.
-      checked (refuse s) (characterLength b) 3
-      (finding (refuse s) (find (keyOf n 0) (st .recs)) 6
-      (λ r. byKind (kindOf b) (receivingFirst n c (keptOf r) b s st) (receivingMore n c b s st) (refuse s 4))))
+    checked (refuse s) (characterLength b) 3
+    (finding (refuse s) (find (keyOf n 0) (st .recs)) 6
+    (λ r. byKind (kindOf b) (receivingFirst n c (keptOf r) b s st) (receivingMore n c b s st) (refuse s 4))))
 
 -- 1, 2, then the block's own checks
 unfoldable pub downloadingCharacter : ℕ → ℕ → List ℕ → List ℕ → After

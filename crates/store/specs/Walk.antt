@@ -4,9 +4,12 @@ use mathlib.Core.Path.{_≡_}
 use mathlib.Core.List.{List, [], _∷_, _++_}
 use mathlib.Core.Bool.{Bool, true, false, not, cond, _&&_, _||_}
 use mathlib.Core.Option.{Option, none, some}
-use lib.ListN.{length, take, drop}
+use lib.ListN.{length, getD, take, drop}
 use lib.Dec.{eqb, leb, ltb}
 use Rattle.blocks.specs.Header.{orientation}
+use Rattle.blocks.specs.Character.{class, width, height}
+use Rattle.blocks.specs.Picture.{judge}
+use Rattle.blocks.specs.declared.picture.Judged.the-variants.{Complete, Incomplete}
 use Rattle.store.specs.Layout.{lastFont, lastCode, keyOf}
 use Rattle.store.specs.Num.{_&_, field}
 use Rattle.store.specs.Model.{Rec, font, character, isKept, heldUnder, Mark, Store, Under, under, alone, allowed, sorted, unfinished, opened, number, place, headRec, sizeOf, total, split, decode}
@@ -172,7 +175,15 @@ soughtFont n s = onFont Refused n s (λ st r. Here (placesOf n 0 (st .recs)))
 unfoldable pub soughtCharacter : ℕ → ℕ → List ℕ → Sought
 soughtCharacter n c s = onCharacter Refused n c s (λ st r. Here (placesOf n (c + 1) (st .recs)))
 
--- ── putting a character into a store that stands: the font is there, and the character may stand behind it
+-- ── a character that comes to a store that stands: its numbers are in range, and its font is there
+pub record Arriving (n c : ℕ) (s : List ℕ) (w : Places) : Type 0 where
+  pub stands : Stands n (c + 1) s w
+  pub low : n ≤ lastFont
+  pub code : c ≤ lastCode
+  pub header : List ℕ
+  pub font-there : find (keyOf n 0) (stands .store .recs) ≡ some (font n header)
+
+-- and the character may stand behind it
 pub record Fitting (n c : ℕ) (h d s : List ℕ) (w : Places) : Type 0 where
   pub stands : Stands n (c + 1) s w
   pub low : n ≤ lastFont
@@ -192,3 +203,13 @@ dataAt s w = take (w .to - (w .from + 26)) (drop (w .from + 26) s)
 pub record Growing (n c : ℕ) (t s : List ℕ) (w : Places) : Type 0 where
   pub fits : Fitting n c (keptAt s w) (dataAt s w ++ t) s w
   pub there : find (keyOf n (c + 1)) (fits .stands .store .recs) ≡ some (character n c (keptAt s w) (dataAt s w))
+
+-- the orientation of the font at its place
+abbrev pub fontTurn : List ℕ → Places → ℕ
+fontTurn s w = getD s (w .lo + 20) 0
+
+-- what is kept of the character's data with a continuation's is its data and n bytes of the continuation; marked, if that is incomplete
+abbrev pub Continued : List ℕ → Places → List ℕ → ℕ → Bool → Type 0
+Continued s w b n true = (judge (class (keptAt s w)) (width (keptAt s w)) (height (keptAt s w)) (dataAt s w ++ drop 2 b) ≡ Incomplete) × (n ≡ length b - 2)
+Continued s w b n false =
+    judge (class (keptAt s w)) (width (keptAt s w)) (height (keptAt s w)) (dataAt s w ++ drop 2 b) ≡ Complete (length (dataAt s w) + n)

@@ -182,7 +182,14 @@ fn write_descriptor(s: &mut [u8], at: usize, block: &[u8])
 }
 
 // Writes a character's record: its head, and what is kept of an accepted first block, with n bytes of its data.
-pub(crate) fn write_character(s: &mut [u8], at: usize, font: usize, code: usize, block: &[u8], n: usize)
+pub(crate) fn write_character(
+    s: &mut [u8],
+    at: usize,
+    font: usize,
+    code: usize,
+    block: &[u8],
+    n: usize,
+)
     requires { ⌜ (at + 26 + n ≤ length (now s)) × (font < 65536) × (code < 65536) × (n ≤ 32768) × (16 + n ≤ length (now block)) ⌝ }
     ensures { λ _. ⌜ now (s .exit) ≡ put (now (s .entry)) at (bytesOf (character font code (keptFirst (now (block .entry))) (take n (drop 16 (now (block .entry)))))) ⌝ }
 {

@@ -4,13 +4,23 @@ ghost use mathlib.Core.Bool.{Bool, true};
 ghost use mathlib.Core.List.{_++_};
 ghost use Prim.Native.Nat.{_+_, _≤_, _<_};
 ghost use lib.ListN.{length, take, drop};
-ghost use Rattle.blocks.specs.Character.{class, width, height, keptFirst};
+ghost use Rattle.blocks.specs.Character.{class, width, height, keptFirst, characterLength, kindOf, readFirst};
+ghost use Rattle.blocks.specs.declared.character.Kind.the-variants.{First, Continuation};
+ghost use Rattle.blocks.specs.declared.Verdict.the-variants.{Taken};
 ghost use Rattle.blocks.specs.Picture.{judge};
-ghost use Rattle.store.specs.Model.{heldOf, isUnfinished};
-ghost use Rattle.store.specs.Walk.{Stands, Fitting, Growing, keptAt, dataAt};
-ghost use Rattle.store.specs.Download.{placed};
+ghost use Rattle.store.specs.Model.{heldOf, isUnfinished, markIn};
+ghost use Rattle.store.specs.Walk.{Stands, Arriving, Fitting, Growing, Continued, keptAt, dataAt, fontTurn};
+ghost use Rattle.store.specs.Download.{names, placed, puttingFirst, puttingMore, puttingBlock, downloadingCharacter};
 use crate::change;
+use crate::number;
+use crate::seek;
+use crate::walk;
+use crate::walk::Inspected;
+use crate::walk::Lookup;
 use crate::walk::Places;
+use blocks::Verdict;
+use blocks::character;
+use blocks::character::Kind;
 use blocks::field;
 use blocks::picture;
 use blocks::picture::Judged;
@@ -20,7 +30,12 @@ fn judge_block(block: &[u8]) -> Judged
     requires { ⌜ 16 ≤ length (now block) ⌝ }
     ensures { λ r. ⌜ r ≡ judge (class (now (block .entry))) (width (now (block .entry))) (height (now (block .entry))) (drop 16 (now (block .entry))) ⌝ }
 {
-    picture::judge_first(block[3], field::word(block, 10), field::word(block, 12), &block[16..])
+    picture::judge_first(
+        block[3],
+        field::word(block, 10),
+        field::word(block, 12),
+        &block[16..],
+    )
 }
 
 // The data kept of a character with the descriptor h, and then a continuation's.
@@ -28,11 +43,25 @@ fn judge_more(h: &[u8], kept: &[u8], block: &[u8]) -> Judged
     requires { ⌜ (length (now h) ≡ 16) × (2 ≤ length (now block)) ⌝ }
     ensures { λ r. ⌜ r ≡ judge (class (now (h .entry))) (width (now (h .entry))) (height (now (h .entry))) (now (kept .entry) ++ drop 2 (now (block .entry))) ⌝ }
 {
-    picture::judge_joined(h[3], field::word(h, 10), field::word(h, 12), kept, &block[2..])
+    picture::judge_joined(
+        h[3],
+        field::word(h, 10),
+        field::word(h, 12),
+        kept,
+        &block[2..],
+    )
 }
 
 // Places an accepted first block with n bytes of its data, or removes the font where there is no room.
-fn place_first(s: &mut [u8], p: Places, font: usize, code: usize, block: &[u8], n: usize, marked: bool) -> u32
+fn place_first(
+    s: &mut [u8],
+    p: Places,
+    font: usize,
+    code: usize,
+    block: &[u8],
+    n: usize,
+    marked: bool,
+) -> u32
     requires { ⌜ (n ≤ 32768) × (16 + n ≤ length (now block)) × Fitting font code (keptFirst (now block)) (take n (drop 16 (now block))) (now s) p ⌝ }
     requires { ⌜ marked ≡ isUnfinished (heldOf (keptFirst (now block)) (take n (drop 16 (now block)))) ⌝ }
     ensures { λ r. ⌜ r ≡ placed font code (keptFirst (now (block .entry))) (take n (drop 16 (now (block .entry)))) (now (s .entry)) .answer ⌝ }
@@ -52,7 +81,15 @@ fn place_first(s: &mut [u8], p: Places, font: usize, code: usize, block: &[u8], 
 }
 
 // Places n more bytes of a continuation behind the data of its character, or removes the font where there is no room.
-fn place_more(s: &mut [u8], p: Places, font: usize, code: usize, block: &[u8], n: usize, marked: bool) -> u32
+fn place_more(
+    s: &mut [u8],
+    p: Places,
+    font: usize,
+    code: usize,
+    block: &[u8],
+    n: usize,
+    marked: bool,
+) -> u32
     requires { ⌜ (2 + n ≤ length (now block)) × Growing font code (take n (drop 2 (now block))) (now s) p ⌝ }
     requires { ⌜ marked ≡ isUnfinished (heldOf (keptAt (now s) p) (dataAt (now s) p ++ take n (drop 2 (now block)))) ⌝ }
     ensures { λ r. ⌜ r ≡ placed font code (keptAt (now (s .entry)) p) (dataAt (now (s .entry)) p ++ take n (drop 2 (now (block .entry)))) (now (s .entry)) .answer ⌝ }
@@ -69,4 +106,124 @@ fn place_more(s: &mut [u8], p: Places, font: usize, code: usize, block: &[u8], n
     change::extend_character(s, from, old, block, n);
     change::mark_character(s, marked, font, code);
     0
+}
+
+// An accepted first block: what is kept of its data goes into the store.
+fn receive_first(s: &mut [u8], p: Places, font: usize, code: usize, block: &[u8]) -> u32
+    requires { ⌜ Arriving font code (now s) p × (characterLength (now block) ≡ true) × (kindOf (now block) ≡ First) ⌝ }
+    requires { ⌜ readFirst (now block) (fontTurn (now s) p) ≡ Taken ⌝ }
+    ensures { λ r. ⌜ r ≡ puttingFirst font code (now (block .entry)) (now (s .entry)) .answer ⌝ }
+    ensures { λ _. ⌜ now (s .exit) ≡ puttingFirst font code (now (block .entry)) (now (s .entry)) .bytes ⌝ }
+{
+    match judge_block(block) {
+        Judged::PastWidth {
+            row: _,
+            filled: _,
+            run: _,
+        } => 8,
+        Judged::Complete(n) => place_first(s, p, font, code, block, n, false),
+        Judged::Incomplete => place_first(s, p, font, code, block, block.len() - 16, true),
+    }
+}
+
+fn put_first(s: &mut [u8], p: Places, font: usize, code: usize, block: &[u8]) -> u32
+    requires { ⌜ Arriving font code (now s) p × (characterLength (now block) ≡ true) × (kindOf (now block) ≡ First) ⌝ }
+    ensures { λ r. ⌜ r ≡ puttingFirst font code (now (block .entry)) (now (s .entry)) .answer ⌝ }
+    ensures { λ _. ⌜ now (s .exit) ≡ puttingFirst font code (now (block .entry)) (now (s .entry)) .bytes ⌝ }
+{
+    let at = p.lo + 20;
+    match character::read_first(block, s[at]) {
+        Verdict::Refused(k) => k as u32,
+        Verdict::Taken => receive_first(s, p, font, code, block),
+    }
+}
+
+// Whether the open mark names this character.
+fn is_open(s: &[u8], font: usize, code: usize) -> bool
+    requires { ⌜ 12 ≤ length (now s) ⌝ }
+    ensures { λ r. ⌜ r ≡ names font code (markIn (now (s .entry))) ⌝ }
+{
+    if number::le16(s, 6) != 1 {
+        return false;
+    }
+    if number::le16(s, 8) != font {
+        return false;
+    }
+    number::le16(s, 10) == code
+}
+
+// n more bytes of a continuation, where a character's data may not pass 32,768 bytes.
+fn receive_more(
+    s: &mut [u8],
+    p: Places,
+    font: usize,
+    code: usize,
+    block: &[u8],
+    n: usize,
+    marked: bool,
+) -> u32
+    requires { ⌜ (2 + n ≤ length (now block)) × Arriving font code (now s) p × (names font code (markIn (now s)) ≡ true) ⌝ }
+    requires { ⌜ Continued (now s) p (now block) n marked ⌝ }
+    ensures { λ r. ⌜ r ≡ puttingMore font code (now (block .entry)) (now (s .entry)) .answer ⌝ }
+    ensures { λ _. ⌜ now (s .exit) ≡ puttingMore font code (now (block .entry)) (now (s .entry)) .bytes ⌝ }
+{
+    if 32768 < p.to - (p.from + 26) + n {
+        return 9;
+    }
+    place_more(s, p, font, code, block, n, marked)
+}
+
+fn put_more(s: &mut [u8], p: Places, font: usize, code: usize, block: &[u8]) -> u32
+    requires { ⌜ Arriving font code (now s) p × (characterLength (now block) ≡ true) ⌝ }
+    ensures { λ r. ⌜ r ≡ puttingMore font code (now (block .entry)) (now (s .entry)) .answer ⌝ }
+    ensures { λ _. ⌜ now (s .exit) ≡ puttingMore font code (now (block .entry)) (now (s .entry)) .bytes ⌝ }
+{
+    if !is_open(s, font, code) {
+        return 7;
+    }
+    let h = p.from + 10;
+    let d = p.from + 26;
+    let to = p.to;
+    match judge_more(&s[h..d], &s[d..to], block) {
+        Judged::PastWidth {
+            row: _,
+            filled: _,
+            run: _,
+        } => 8,
+        Judged::Complete(k) => receive_more(s, p, font, code, block, k - (to - d), false),
+        Judged::Incomplete => receive_more(s, p, font, code, block, block.len() - 2, true),
+    }
+}
+
+// A block for a store that is one, with numbers in range and their places known.
+pub(crate) fn put_block(s: &mut [u8], p: Places, font: u32, code: u32, block: &[u8]) -> u32
+    requires { ⌜ Stands font (code + 1) (now s) p × (font ≤ 32767) × (code ≤ 255) ⌝ }
+    ensures { λ r. ⌜ r ≡ puttingBlock font code (now (block .entry)) (now (s .entry)) .answer ⌝ }
+    ensures { λ _. ⌜ now (s .exit) ≡ puttingBlock font code (now (block .entry)) (now (s .entry)) .bytes ⌝ }
+{
+    if !character::length_allowed(block) {
+        return 3;
+    }
+    let Lookup::At(_) = walk::look_up(p.lo, p.hi) else {
+        return 6;
+    };
+    match character::kind_of(block) {
+        Kind::First => put_first(s, p, font as usize, code as usize, block),
+        Kind::Continuation => put_more(s, p, font as usize, code as usize, block),
+        Kind::Unknown => 4,
+    }
+}
+
+// Downloads a character block.
+pub fn download_character(s: &mut [u8], block: &[u8], font: u32, code: u32) -> u32
+    ensures { λ r. ⌜ r ≡ downloadingCharacter font code (now (block .entry)) (now (s .entry)) .answer ⌝ }
+    ensures { λ _. ⌜ now (s .exit) ≡ downloadingCharacter font code (now (block .entry)) (now (s .entry)) .bytes ⌝ }
+{
+    let Inspected::Found(p) = walk::inspect(s, font as usize, code as usize + 1) else {
+        return 1;
+    };
+    if !seek::in_range(font, code) {
+        return 2;
+    }
+    put_block(s, p, font, code, block)
 }

@@ -9,7 +9,7 @@ unmark-font-requires : tie.Need-unmark-font-requires
 unmark-font-requires c κs = omega (arith, c .before .before .before .splice .kept .0)
 
 returns : tie.Need-returns
-returns c = 
+returns c =
     let k6 = c .before .before .before .before .before .before in
     let k9 = k6 .before .before .before in
     c .before .before .unmark-font .ensures ∙ ap (unmarkedFor (k9 .args .font)) (k6 .splice .ensures)

@@ -4,12 +4,12 @@ use Rattle.store.proofs.change.mark_character.Statement.{statement}
 use Rattle.store.proofs.change.mark_character.Tie as tie
 
 returns : tie.Need-returns
-returns c = 
+returns c =
     let k4 = c .before .before .before .before in
     c .before .before .remark .ensures ∙ rw (k4 .if1 .taken)
 
 returns-2 : tie.Need-returns-2
-returns-2 c = 
+returns-2 c =
     let k4 = c .before .before .before .before in
     c .before .before .remark2 .ensures ∙ rw (k4 .if1 .left)
 

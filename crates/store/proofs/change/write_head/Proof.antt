@@ -10,7 +10,7 @@ use Rattle.store.proofs.change.write_head.Statement.{statement}
 use Rattle.store.proofs.change.write_head.Tie as tie
 
 returns : tie.Need-returns
-returns c = 
+returns c =
     let k6 = c .before .before .before .before .before .before in
     let k10 = k6 .before .before .before .before in
     let k14 = k10 .before .before .before .before in

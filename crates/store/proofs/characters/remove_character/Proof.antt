@@ -29,13 +29,13 @@ unmark-character-requires c κs = let r = at-found (c .before .before .before .b
 
 returns : tie.Need-returns
 unfolding removingCharacter
-returns c = 
+returns c =
     let k3 = c .before .before .before in
     answered (char-refused _ _ _ _ _ _ (sym (k3 .seek-character .ensures) ∙ c .before .k .given .1))
 
 returns-2 : tie.Need-returns-2
 unfolding removingCharacter
-returns-2 c = 
+returns-2 c =
     let k6 = c .before .before .before .before .before .before in
     let k15 = k6 .before .before .before .before .before .before .before .before .before in
     let x = at-found (c .before .before .before .before .before .before .before .before .before) in

@@ -28,7 +28,7 @@ unfolding tellingCharacter
 told n k s out w x = char-call n k s w (untold out) _ x
 
 returns : tie.Need-returns
-returns c = 
+returns c =
     let k8 = c .before .before .before .before .before .before .before .before in
     let x = at-found (c .before .before) in
     rw (c .untold2 .ensures .0, c .untold2 .ensures .1) (sym (told _ _ _ (now (k8 .args .out)) _ x ∙ rw (lt-leb 16 (length (now (k8 .args .out))) (c .before .if1 .taken))))
@@ -47,7 +47,7 @@ cast-t16 c = let x = at-found (c .before .before .before .before .before .before
 
 returns-2 : tie.Need-returns-2
 unfolding tellingCharacter
-returns-2 c = 
+returns-2 c =
     let k4 = c .before .before .before .before in
     rw (c .untold .ensures .0, c .untold .ensures .1) (sym (char-refused _ _ _ _ _ _ (sym (k4 .seek-character .ensures) ∙ c .before .before .k .given .1)))
 

@@ -6,7 +6,7 @@ use Rattle.store.proofs.download.judge_block.Statement.{statement}
 use Rattle.store.proofs.download.judge_block.Tie as tie
 
 returns : tie.Need-returns
-returns c = 
+returns c =
     let k3 = c .before .before .before in
     let k6 = k3 .before .before .before in
     c .judge-first .ensures ∙ rw (k3 .word .ensures, c .before .before .word2 .ensures, to-end 16 (now (k6 .args .block)))

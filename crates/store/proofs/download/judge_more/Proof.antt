@@ -6,7 +6,7 @@ use Rattle.store.proofs.download.judge_more.Statement.{statement}
 use Rattle.store.proofs.download.judge_more.Tie as tie
 
 returns : tie.Need-returns
-returns c = 
+returns c =
     let k3 = c .before .before .before in
     let k8 = k3 .before .before .before .before .before in
     c .judge-joined .ensures ∙ rw (k3 .word .ensures, c .before .before .word2 .ensures, to-end 2 (now (k8 .args .block)))

@@ -59,12 +59,13 @@ unfolding markFor
 returns-2 c = let x = at-start (c .before .before .before .before .before .before .before .before .before .before .before .before .before .before .before) in
     let l = data-length (c .before .before .before .before .before .before .before .before .before .before .before .before .before .before .before) in
     let a = c .before .before .before .before .before .before .before .before .before .before .before .before .before .before .before .before .args in
-    let e = answered (place-done _ _ _ _ _ _ x (omega (arith, c .before .before .before .before .before .before .before .before .before .before .before .before .if1 .left, l))) in
-    (e .0,
-    c .before .before .mark-character .ensures
-    ∙ ap (λ (y : Bool). remarked (cond y (record { on = 1; fontOf = a .font; codeOf = a .code }) shut) (c .before .before .before .before .before .before .write-character .last .0)) (c .before .before .before .before .before .before .before .before .before .before .before .before .before .before .before .before .pre .1)
-    ∙ ap (remarked (markFor (a .font) (a .code) (keptFirst (now (a .block))) (take (a .n) (drop 16 (now (a .block)))))) (c .before .before .before .before .before .before .write-character .ensures ∙ ap (λ (y : List ℕ). put y (a .p .from) (bytesOf (character (a .font) (a .code) (keptFirst (now (a .block))) (take (a .n) (drop 16 (now (a .block))))))) (c .before .before .before .before .before .before .before .before .before .before .splice .ensures ∙ ap (λ (y : ℕ). moved (a .p .from) (a .p .to - a .p .from) (a .p .used) (26 + y) (now (a .s))) (sym l)))
-    ∙ e .1)
+    let e = answered (place-done _ _ _ _ _ _ x (omega (arith, c .before .before .before .before .before .before .before .before .before .before .before .before .if1 .left, l))) in (
+      e .0,
+      c .before .before .mark-character .ensures
+          ∙ ap (λ (y : Bool). remarked (cond y (record { on = 1; fontOf = a .font; codeOf = a .code }) shut) (c .before .before .before .before .before .before .write-character .last .0)) (c .before .before .before .before .before .before .before .before .before .before .before .before .before .before .before .before .pre .1)
+          ∙ ap (remarked (markFor (a .font) (a .code) (keptFirst (now (a .block))) (take (a .n) (drop 16 (now (a .block)))))) (c .before .before .before .before .before .before .write-character .ensures ∙ ap (λ (y : List ℕ). put y (a .p .from) (bytesOf (character (a .font) (a .code) (keptFirst (now (a .block))) (take (a .n) (drop 16 (now (a .block))))))) (c .before .before .before .before .before .before .before .before .before .before .splice .ensures ∙ ap (λ (y : ℕ). moved (a .p .from) (a .p .to - a .p .from) (a .p .used) (26 + y) (now (a .s))) (sym l)))
+          ∙ e .1,
+    )
 
 pub place-first-spec : {M : Type 1} → statement M
 place-first-spec =

@@ -85,14 +85,15 @@ returns-2 c = let k = c .before .before .before .before .before .before .before 
     let t = take (a .n) (drop 2 (now (a .block))) in
     let e = answered (place-done _ _ _ _ _ _ x (omega (arith, c .before .before .before .before .before .before .before .before .before .before .before .before .if1 .left, z .old, z .more, x .ready .last))) in
     let old = a .p .to - a .p .from in
-    let f : a .p .used + length t ≤ length s = omega (arith, c .before .before .before .before .before .before .before .before .before .before .before .before .if1 .left, l) in
-    (e .0,
-    c .before .before .mark-character .ensures
-    ∙ ap (λ (y : Bool). remarked (cond y (record { on = 1; fontOf = a .font; codeOf = a .code }) shut) (c .before .before .before .before .before .before .extend-character .last .0)) (c .before .before .before .before .before .before .before .before .before .before .before .before .before .before .before .before .pre .1)
-    ∙ ap (remarked (markFor (a .font) (a .code) (keptAt s (a .p)) (dataAt s (a .p) ++ t)))
-      (c .before .before .before .before .before .before .extend-character .ensures ∙ ap (λ (y : List ℕ). put (put y (a .p .from) (le 2 (old + a .n))) (a .p .from + old) t) (c .before .before .before .before .before .before .before .before .before .before .splice .ensures)
-      ∙ ap (λ (y : ℕ). put (put (moved (a .p .from) old (a .p .used) (old + y) s) (a .p .from) (le 2 (old + y))) (a .p .from + old) t) (sym l) ∙ grow-put _ _ _ _ _ (bytes-at k) (c .before .before .before .before .before .before .before .before .before .before .before .before .before .before .before .before .pre .0 .1) f)
-    ∙ e .1)
+    let f : a .p .used + length t ≤ length s = omega (arith, c .before .before .before .before .before .before .before .before .before .before .before .before .if1 .left, l) in (
+      e .0,
+      c .before .before .mark-character .ensures
+          ∙ ap (λ (y : Bool). remarked (cond y (record { on = 1; fontOf = a .font; codeOf = a .code }) shut) (c .before .before .before .before .before .before .extend-character .last .0)) (c .before .before .before .before .before .before .before .before .before .before .before .before .before .before .before .before .pre .1)
+          ∙ ap (remarked (markFor (a .font) (a .code) (keptAt s (a .p)) (dataAt s (a .p) ++ t)))
+          (c .before .before .before .before .before .before .extend-character .ensures ∙ ap (λ (y : List ℕ). put (put y (a .p .from) (le 2 (old + a .n))) (a .p .from + old) t) (c .before .before .before .before .before .before .before .before .before .before .splice .ensures)
+          ∙ ap (λ (y : ℕ). put (put (moved (a .p .from) old (a .p .used) (old + y) s) (a .p .from) (le 2 (old + y))) (a .p .from + old) t) (sym l) ∙ grow-put _ _ _ _ _ (bytes-at k) (c .before .before .before .before .before .before .before .before .before .before .before .before .before .before .before .before .pre .0 .1) f)
+          ∙ e .1,
+    )
 
 pub place-more-spec : {M : Type 1} → statement M
 place-more-spec =

@@ -18,12 +18,12 @@ use Rattle.store.proofs.fonts.tell_font.Statement.{statement}
 use Rattle.store.proofs.fonts.tell_font.Tie as tie
 
 -- behind the seeking
-at-found : (c : tie.After-known-told2) → KeptFont (c .before .before .before .before .before .before .args .font) (now (c .before .before .before .before .before .before .args .s)) (c .before .p .given .0 .0)
+at-found : (c : tie.After-known-told2) → KeptFont (c .before .before .before .before .before .before .args .font) 0 (now (c .before .before .before .before .before .before .args .s)) (c .before .p .given .0 .0)
 at-found c =
     font-sought _ _ (c .before .p .given .0 .0) (λ i. c .before .before .before .before .before .shared-slice-known .given i .fits) (sym (c .before .before .before .seek-font .ensures) ∙ c .before .p .given .1)
 
 -- what is told of a font that is there
-told : (n : ℕ) (s out : List ℕ) (w : Places) (x : KeptFont n s w)
+told : (n : ℕ) (s out : List ℕ) (w : Places) (x : KeptFont n 0 s w)
     → tellingFont n s out ≡ checked (untold out) (leb 64 (length out)) 12 (record { refusal = 0; count = length (charactersOf n (x .ready .store .recs)); out = onto (x .header) out })
 unfolding tellingFont
 told n s out w x = font-call n s w (untold out) _ x
@@ -32,20 +32,20 @@ same : {k m : ℕ} {a b : List ℕ} → k ≡ m → a ≡ b → _≡_ {A = Telli
 same p q = rw (p, q)
 
 returns : tie.Need-returns
-returns c = 
+returns c =
     let k8 = c .before .before .before .before .before .before .before .before in
     let x = at-found (c .before .before) in
     rw (c .untold2 .ensures .0, c .untold2 .ensures .1) (sym (told _ _ (now (k8 .args .out)) _ x ∙ rw (lt-leb 64 (length (now (k8 .args .out))) (c .before .if1 .taken))))
 
 copy-header-requires : tie.Need-copy-header-requires
-copy-header-requires c κs = let x = at-found (c .before .before) in (omega (arith, font-span _ _ _ x, x .ready .end, x .ready .room), c .before .if1 .left)
+copy-header-requires c κs = let x = at-found (c .before .before) in (omega (arith, font-span _ _ _ _ x, x .ready .end, x .ready .room), c .before .if1 .left)
 
 cast-t14 : tie.Need-cast-t14
 cast-t14 c = let x = at-found (c .before .before .before .before .before .before) in omega (arith, chars-few _ _ _ _ (x .ready))
 
 returns-2 : tie.Need-returns-2
 unfolding tellingFont
-returns-2 c = 
+returns-2 c =
     let k4 = c .before .before .before .before in
     rw (c .untold .ensures .0, c .untold .ensures .1) (sym (font-refused _ _ _ _ _ (sym (k4 .seek-font .ensures) ∙ c .before .before .k .given .1)))
 
@@ -54,7 +54,7 @@ returns-3 c =
     let k = c .before .before .before in
     let x = at-found (k .before .before .before) in
     let a = k .before .before .before .before .before .before .before .before .before .args in
-    same (ap (λ (y : Places). y .chars) (x .ready .at)) (k .copy-header .ensures ∙ ap (λ (h : List ℕ). onto h (now (a .out))) (font-kept _ _ _ x))
+    same (ap (λ (y : Places). y .chars) (x .ready .at)) (k .copy-header .ensures ∙ ap (λ (h : List ℕ). onto h (now (a .out))) (font-kept _ _ _ _ x))
     ∙ sym (told _ _ (now (a .out)) _ x ∙ rw (le-leb 64 (length (now (a .out))) (k .before .before .if1 .left)))
 
 pub tell-font-spec : {M : Type 1} → statement M

@@ -10,7 +10,7 @@ returns : tie.Need-returns
 returns c = not-begun _ (not-store 0 0 _ (sym (c .before .before .inspect .ensures) ∙ c .enum-told2 .given .1))
 
 returns-2 : tie.Need-returns-2
-returns-2 c = 
+returns-2 c =
     let k3 = c .before .before .before in
     let k4 = k3 .before in
     let r = ready 0 0 (now (k4 .args .s)) (λ i. k3 .shared-slice-known .given i .fits) (c .enum-told .given .0 .0) (sym (c .before .before .inspect .ensures) ∙ c .enum-told .given .1) in begun _ (r .store) (r .is)

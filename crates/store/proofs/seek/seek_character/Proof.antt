@@ -20,13 +20,13 @@ returns-2 : tie.Need-returns-2
 returns-2 c = sym (char-range _ _ _ _ (at-found (c .before .before)) (failed (c .before .in-range .ensures) (c .if1 .taken)))
 
 returns-3 : tie.Need-returns-3
-returns-3 c = 
+returns-3 c =
     let k3 = c .before .before .before in
     let k4 = k3 .before in
     sym (char-no-font _ _ _ _ (at-found (c .before .before .before .before .before)) (passed (k4 .in-range .ensures) (k3 .if1 .left)) (looked-not _ _ (sym (c .before .before .look-up .ensures) ∙ c .enum-told3 .given .1)))
 
 returns-4 : tie.Need-returns-4
-returns-4 c = 
+returns-4 c =
     let k3 = c .before .before .before in
     let k5 = k3 .before .before in
     let k6 = k5 .before in
@@ -34,7 +34,7 @@ returns-4 c =
     sym (char-none _ _ _ _ (at-found (c .before .before .before .before .before .before .before .before)) (passed (k7 .in-range .ensures) (k6 .if1 .left)) (looked-at _ _ _ (sym (k5 .look-up .ensures) ∙ k3 .enum-told2 .given .1) .0) (looked-not _ _ (sym (c .before .before .look-up2 .ensures) ∙ c .enum-told5 .given .1)))
 
 returns-5 : tie.Need-returns-5
-returns-5 c = 
+returns-5 c =
     let k3 = c .before .before .before in
     let k5 = k3 .before .before in
     let k6 = k5 .before in

@@ -18,12 +18,12 @@ returns-2 : tie.Need-returns-2
 returns-2 c = sym (font-range _ _ _ (at-found (c .before)) (c .if1 .taken))
 
 returns-3 : tie.Need-returns-3
-returns-3 c = 
+returns-3 c =
     let k3 = c .before .before .before in
     sym (font-none _ _ _ (at-found (c .before .before .before .before)) (k3 .if1 .left) (looked-not _ _ (sym (c .before .before .look-up .ensures) ∙ c .enum-told3 .given .1)))
 
 returns-4 : tie.Need-returns-4
-returns-4 c = 
+returns-4 c =
     let k3 = c .before .before .before in
     sym (font-here _ _ _ (at-found (c .before .before .before .before)) (k3 .if1 .left) (looked-at _ _ _ (sym (c .before .before .look-up .ensures) ∙ c .enum-told2 .given .1) .0))
 
