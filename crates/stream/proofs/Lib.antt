@@ -1,0 +1,5 @@
+pub mod Tests
+pub mod Commands
+pub mod Putting
+pub mod Decimals
+pub mod Spellings

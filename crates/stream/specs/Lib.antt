@@ -1,0 +1,4 @@
+pub mod Command
+pub mod Put
+pub mod Digits
+pub mod Writing
