@@ -1,0 +1,217 @@
+//! The calls to be timed, on both sides. Nothing is copied or allocated here,
+//! so that a timed call is the call alone.
+
+use marlinfold_reference as reference;
+use reference::Request;
+
+mod c {
+    #[repr(C)]
+    #[derive(Clone, Copy)]
+    pub struct Two {
+        pub refusal: u32,
+        pub number: u32,
+    }
+
+    #[repr(C)]
+    #[derive(Clone, Copy)]
+    pub struct StreamRead {
+        pub refusal: u32,
+        pub done: u64,
+        pub refused: u64,
+        pub place: u64,
+    }
+
+    // As include/marlinfold.h declares them.
+    extern "C" {
+        pub fn mf_make_fresh(store: *mut u8, store_len: usize) -> u32;
+        pub fn mf_download_font(
+            store: *mut u8,
+            store_len: usize,
+            block: *const u8,
+            block_len: usize,
+            font: u32,
+        ) -> u32;
+        pub fn mf_download_character(
+            store: *mut u8,
+            store_len: usize,
+            block: *const u8,
+            block_len: usize,
+            font: u32,
+            code: u32,
+        ) -> u32;
+        pub fn mf_remove_font(store: *mut u8, store_len: usize, font: u32) -> u32;
+        pub fn mf_remove_character(store: *mut u8, store_len: usize, font: u32, code: u32) -> u32;
+        pub fn mf_choose(
+            store: *const u8,
+            store_len: usize,
+            symbol_set: u32,
+            spacing: u32,
+            pitch: u32,
+            height: u32,
+            style: u32,
+            weight: i32,
+            typeface: u32,
+            orientation: u32,
+        ) -> Two;
+        pub fn mf_tell_font(
+            store: *const u8,
+            store_len: usize,
+            out: *mut u8,
+            out_len: usize,
+            font: u32,
+        ) -> Two;
+        pub fn mf_tell_character(
+            store: *const u8,
+            store_len: usize,
+            out: *mut u8,
+            out_len: usize,
+            font: u32,
+            code: u32,
+        ) -> Two;
+        pub fn mf_draw_row(
+            store: *const u8,
+            store_len: usize,
+            out: *mut u8,
+            out_len: usize,
+            font: u32,
+            code: u32,
+            row: u32,
+        ) -> u32;
+        pub fn mf_draw_picture(
+            store: *const u8,
+            store_len: usize,
+            out: *mut u8,
+            out_len: usize,
+            font: u32,
+            code: u32,
+        ) -> u32;
+        pub fn mf_write_font(
+            store: *const u8,
+            store_len: usize,
+            out: *mut u8,
+            out_len: usize,
+            font: u32,
+        ) -> Two;
+        pub fn mf_read_stream(
+            store: *mut u8,
+            store_len: usize,
+            stream: *const u8,
+            stream_len: usize,
+        ) -> StreamRead;
+    }
+}
+
+/// One call with its numbers; blocks, streams and outputs come beside it.
+#[derive(Clone, Copy)]
+pub enum Call {
+    MakeFresh,
+    DownloadFont { font: u32 },
+    DownloadCharacter { font: u32, code: u32 },
+    RemoveFont { font: u32 },
+    RemoveCharacter { font: u32, code: u32 },
+    Choose(Request),
+    TellFont { font: u32 },
+    TellCharacter { font: u32, code: u32 },
+    DrawRow { font: u32, code: u32, row: u32 },
+    DrawPicture { font: u32, code: u32 },
+    WriteFont { font: u32 },
+    ReadStream,
+}
+
+/// The refusal and the other numbers.
+pub type Answer = [u64; 4];
+
+fn bare(refusal: u32) -> Answer {
+    [u64::from(refusal), 0, 0, 0]
+}
+
+fn two(refusal: u32, number: u32) -> Answer {
+    [u64::from(refusal), u64::from(number), 0, 0]
+}
+
+pub fn ours(call: Call, store: &mut [u8], input: &[u8], out: &mut [u8]) -> Answer {
+    let (at, len) = (store.as_mut_ptr(), store.len());
+    let (block, block_len) = (input.as_ptr(), input.len());
+    let (to, to_len) = (out.as_mut_ptr(), out.len());
+    let pair = |answer: c::Two| two(answer.refusal, answer.number);
+    // SAFETY: each pointer is valid for the length beside it, and the three
+    // slices don't overlap.
+    unsafe {
+        match call {
+            Call::MakeFresh => bare(c::mf_make_fresh(at, len)),
+            Call::DownloadFont { font } => {
+                bare(c::mf_download_font(at, len, block, block_len, font))
+            }
+            Call::DownloadCharacter { font, code } => bare(c::mf_download_character(
+                at, len, block, block_len, font, code,
+            )),
+            Call::RemoveFont { font } => bare(c::mf_remove_font(at, len, font)),
+            Call::RemoveCharacter { font, code } => {
+                bare(c::mf_remove_character(at, len, font, code))
+            }
+            Call::Choose(r) => pair(c::mf_choose(
+                at,
+                len,
+                r.symbol_set,
+                r.spacing,
+                r.pitch,
+                r.height,
+                r.style,
+                r.weight,
+                r.typeface,
+                r.orientation,
+            )),
+            Call::TellFont { font } => pair(c::mf_tell_font(at, len, to, to_len, font)),
+            Call::TellCharacter { font, code } => {
+                pair(c::mf_tell_character(at, len, to, to_len, font, code))
+            }
+            Call::DrawRow { font, code, row } => {
+                bare(c::mf_draw_row(at, len, to, to_len, font, code, row))
+            }
+            Call::DrawPicture { font, code } => {
+                bare(c::mf_draw_picture(at, len, to, to_len, font, code))
+            }
+            Call::WriteFont { font } => pair(c::mf_write_font(at, len, to, to_len, font)),
+            Call::ReadStream => {
+                let read = c::mf_read_stream(at, len, block, block_len);
+                [u64::from(read.refusal), read.done, read.refused, read.place]
+            }
+        }
+    }
+}
+
+pub fn theirs(call: Call, store: &mut [u8], input: &[u8], out: &mut [u8]) -> Answer {
+    match call {
+        Call::MakeFresh => bare(reference::make_fresh(store)),
+        Call::DownloadFont { font } => bare(reference::download_font(store, input, font)),
+        Call::DownloadCharacter { font, code } => {
+            bare(reference::download_character(store, input, font, code))
+        }
+        Call::RemoveFont { font } => bare(reference::remove_font(store, font)),
+        Call::RemoveCharacter { font, code } => {
+            bare(reference::remove_character(store, font, code))
+        }
+        Call::Choose(request) => {
+            let chosen = reference::choose(store, &request);
+            two(chosen.refusal, chosen.font)
+        }
+        Call::TellFont { font } => {
+            let told = reference::tell_font(store, out, font);
+            two(told.refusal, told.count)
+        }
+        Call::TellCharacter { font, code } => {
+            let told = reference::tell_character(store, out, font, code);
+            two(told.refusal, told.count)
+        }
+        Call::DrawRow { font, code, row } => bare(reference::draw_row(store, out, font, code, row)),
+        Call::DrawPicture { font, code } => bare(reference::draw_picture(store, out, font, code)),
+        Call::WriteFont { font } => {
+            let written = reference::write_font(store, out, font);
+            two(written.refusal, written.length)
+        }
+        Call::ReadStream => {
+            let read = reference::read_stream(store, input);
+            [u64::from(read.refusal), read.done, read.refused, read.place]
+        }
+    }
+}

@@ -1,0 +1,367 @@
+//! The named inputs, each in a store of 4, 16 and 64 KiB.
+
+use crate::calls::Call;
+use marlinfold_reference::{self as reference, Request};
+
+/// A call with all that it needs, at one size.
+pub struct Input {
+    pub store: Vec<u8>,
+    pub call: Call,
+    /// A block or a stream.
+    pub given: Vec<u8>,
+    pub out: usize,
+}
+
+/// A name, and its input for a store of a length.
+pub type Named = (&'static str, fn(usize) -> Input);
+
+pub const INPUTS: [Named; 21] = [
+    ("choose, store full of fonts", choose_among_fonts),
+    ("choose, class 2 characters kept", choose_beside_runs),
+    ("choose, class 1 characters kept", choose_beside_dots),
+    ("choose, store nearly empty", choose_nearly_empty),
+    ("make fresh", make_fresh),
+    ("font at the front of a full store", font_at_the_front),
+    ("font in place of a full one", font_replaced),
+    (
+        "character at the front of a full font",
+        character_at_the_front,
+    ),
+    ("large class 2 first block", large_first_block),
+    ("large class 2 continuation", large_continuation),
+    ("remove the first of many fonts", remove_first_font),
+    (
+        "remove the first of many characters",
+        remove_first_character,
+    ),
+    ("tell the last of many fonts", tell_last_font),
+    ("tell the last of many characters", tell_last_character),
+    ("draw a class 2 picture", draw_runs),
+    ("draw a class 1 picture", draw_dots),
+    ("draw the last row, class 2", draw_last_row),
+    ("write a full font", write_full_font),
+    ("read a stream of rising fonts", read_fonts),
+    ("read a stream of characters", read_characters),
+    ("read a stream of falling fonts", read_falling_fonts),
+];
+
+const REQUEST: Request = Request {
+    symbol_set: 277,
+    spacing: 0,
+    pitch: 1000,
+    height: 1200,
+    style: 0,
+    weight: 2,
+    typeface: 3,
+    orientation: 0,
+};
+
+/// A header whose fields vary with its number, so that choosing must look.
+fn header(number: usize) -> Vec<u8> {
+    let mut block = vec![0; 64];
+    block[1] = 64;
+    block[7] = 35;
+    block[9] = 30;
+    block[11] = 50;
+    block[14..16].copy_from_slice(&(if number % 7 == 6 { 341_u16 } else { 277 }).to_be_bytes());
+    block[16..18].copy_from_slice(&(120 - (number % 3) as u16).to_be_bytes());
+    block[18..20].copy_from_slice(&(200 + (number % 5) as u16).to_be_bytes());
+    block[24] = (number % 8) as u8;
+    block[25] = (number % 4) as u8;
+    block
+}
+
+fn first_block(class: u8, width: usize, height: usize, data: &[u8]) -> Vec<u8> {
+    let mut block = vec![4, 0, 14, class, 0, 0, 0, 2, 0, 22];
+    block.extend((width as u16).to_be_bytes());
+    block.extend((height as u16).to_be_bytes());
+    block.extend([0, 120]);
+    block.extend(data);
+    block
+}
+
+/// Rows of letter-like runs: strokes of 3 dots up to, not including, `longest`.
+fn runs(width: usize, height: usize, longest: usize) -> Vec<u8> {
+    let mut turn = 0;
+    let row = |_| {
+        // No repeats.
+        let mut row = vec![0];
+        let mut left = width;
+        while left > 0 {
+            turn = (turn * 5 + 7) % 1021;
+            let run = (3 + turn % (longest - 3)).min(left);
+            row.push(run as u8);
+            left -= run;
+        }
+        row
+    };
+    (0..height).flat_map(row).collect()
+}
+
+fn fresh(length: usize) -> Vec<u8> {
+    let mut store = vec![0; length];
+    assert_eq!(reference::make_fresh(&mut store), 0);
+    store
+}
+
+/// Fonts 1, 2, .. as long as `spare` bytes are left.
+fn full_of_fonts(length: usize, spare: usize) -> (Vec<u8>, usize) {
+    let mut store = fresh(length);
+    let fonts = (length - 12 - spare) / 72;
+    for number in 1..=fonts {
+        let block = header(number);
+        assert_eq!(
+            reference::download_font(&mut store, &block, number as u32),
+            0
+        );
+    }
+    (store, fonts)
+}
+
+/// Font 5 with characters of codes 1, 2, .. as long as `spare` bytes are left.
+fn full_of_characters(length: usize, spare: usize, class: u8) -> (Vec<u8>, u32) {
+    let mut store = fresh(length);
+    assert_eq!(reference::download_font(&mut store, &header(1), 5), 0);
+    // 255 codes fill a store of 64 KiB; fewer, as large, a smaller one.
+    let data = match class {
+        1 => vec![0x5A; 224],
+        _ => runs(96, 20, 17),
+    };
+    let (width, height) = if class == 1 { (64, 28) } else { (96, 20) };
+    let block = first_block(class, width, height, &data);
+    let record = 26 + data.len();
+    let codes = ((length - 84 - spare) / record).min(255) as u32;
+    for code in 1..=codes {
+        assert_eq!(
+            reference::download_character(&mut store, &block, 5, code),
+            0
+        );
+    }
+    (store, codes)
+}
+
+fn input(store: Vec<u8>, call: Call) -> Input {
+    Input {
+        store,
+        call,
+        given: Vec::new(),
+        out: 0,
+    }
+}
+
+fn choose_among_fonts(length: usize) -> Input {
+    // 900 fonts in 64 KiB.
+    input(full_of_fonts(length, length / 100).0, Call::Choose(REQUEST))
+}
+
+fn choose_beside_runs(length: usize) -> Input {
+    input(full_of_characters(length, 0, 2).0, Call::Choose(REQUEST))
+}
+
+fn choose_beside_dots(length: usize) -> Input {
+    input(full_of_characters(length, 0, 1).0, Call::Choose(REQUEST))
+}
+
+fn choose_nearly_empty(length: usize) -> Input {
+    let mut store = fresh(length);
+    reference::download_font(&mut store, &header(1), 5);
+    input(store, Call::Choose(REQUEST))
+}
+
+fn make_fresh(length: usize) -> Input {
+    input(full_of_fonts(length, 0).0, Call::MakeFresh)
+}
+
+fn font_at_the_front(length: usize) -> Input {
+    Input {
+        given: header(2),
+        ..input(full_of_fonts(length, 72).0, Call::DownloadFont { font: 0 })
+    }
+}
+
+fn font_replaced(length: usize) -> Input {
+    let store = full_of_characters(length, 0, 1).0;
+    Input {
+        given: header(2),
+        ..input(store, Call::DownloadFont { font: 5 })
+    }
+}
+
+fn character_at_the_front(length: usize) -> Input {
+    let store = full_of_characters(length, 250, 1).0;
+    Input {
+        given: first_block(1, 64, 28, &[0xA5; 224]),
+        ..input(store, Call::DownloadCharacter { font: 5, code: 0 })
+    }
+}
+
+/// A class 2 character that takes about half the store.
+fn large(length: usize) -> (usize, usize, Vec<u8>) {
+    let mut height = 1;
+    while runs(1024, height + 1, 10).len() < length / 2 - 200 {
+        height += 1;
+    }
+    (1024, height, runs(1024, height, 10))
+}
+
+fn large_first_block(length: usize) -> Input {
+    let (width, height, data) = large(length);
+    let mut store = fresh(length);
+    reference::download_font(&mut store, &header(1), 5);
+    Input {
+        given: first_block(2, width, height, &data),
+        ..input(store, Call::DownloadCharacter { font: 5, code: 65 })
+    }
+}
+
+fn large_continuation(length: usize) -> Input {
+    let (width, height, data) = large(length);
+    let mut store = fresh(length);
+    reference::download_font(&mut store, &header(1), 5);
+    let (head, rest) = data.split_at(data.len() / 2);
+    let block = first_block(2, width, height, head);
+    assert_eq!(reference::download_character(&mut store, &block, 5, 65), 0);
+    Input {
+        given: [&[4, 1], rest].concat(),
+        ..input(store, Call::DownloadCharacter { font: 5, code: 65 })
+    }
+}
+
+fn remove_first_font(length: usize) -> Input {
+    input(full_of_fonts(length, 0).0, Call::RemoveFont { font: 1 })
+}
+
+fn remove_first_character(length: usize) -> Input {
+    let store = full_of_characters(length, 0, 1).0;
+    input(store, Call::RemoveCharacter { font: 5, code: 1 })
+}
+
+fn tell_last_font(length: usize) -> Input {
+    let (store, fonts) = full_of_fonts(length, 0);
+    Input {
+        out: 64,
+        ..input(store, Call::TellFont { font: fonts as u32 })
+    }
+}
+
+fn tell_last_character(length: usize) -> Input {
+    let (store, codes) = full_of_characters(length, 0, 1);
+    Input {
+        out: 16,
+        ..input(
+            store,
+            Call::TellCharacter {
+                font: 5,
+                code: codes,
+            },
+        )
+    }
+}
+
+/// A picture 1024 dots wide, of 256 rows in 64 KiB.
+fn picture(length: usize, class: u8) -> (Vec<u8>, usize) {
+    let height = length / 256;
+    let mut store = fresh(length);
+    reference::download_font(&mut store, &header(1), 5);
+    // In few enough bytes: strokes of 12 dots, and then of 30.
+    let data: Vec<u8> = match class {
+        1 => (0..128 * height).map(|at| at as u8).collect(),
+        _ => {
+            let row: Vec<u8> = std::iter::once(0)
+                .chain((0..24).flat_map(|_| [12, 30]))
+                .chain([8, 8])
+                .collect();
+            assert_eq!(
+                row[1..].iter().map(|&run| u32::from(run)).sum::<u32>(),
+                1024
+            );
+            row.repeat(height)
+        }
+    };
+    let mut sent = data.len().min(32_751);
+    let block = first_block(class, 1024, height, &data[..sent]);
+    assert_eq!(reference::download_character(&mut store, &block, 5, 65), 0);
+    if sent < data.len() {
+        let block = [&[4, 1], &data[sent..]].concat();
+        assert_eq!(reference::download_character(&mut store, &block, 5, 65), 0);
+        sent = data.len();
+    }
+    assert_eq!(sent, data.len());
+    (store, height)
+}
+
+fn draw_runs(length: usize) -> Input {
+    let (store, height) = picture(length, 2);
+    Input {
+        out: 128 * height,
+        ..input(store, Call::DrawPicture { font: 5, code: 65 })
+    }
+}
+
+fn draw_dots(length: usize) -> Input {
+    let (store, height) = picture(length, 1);
+    Input {
+        out: 128 * height,
+        ..input(store, Call::DrawPicture { font: 5, code: 65 })
+    }
+}
+
+fn draw_last_row(length: usize) -> Input {
+    let (store, height) = picture(length, 2);
+    let call = Call::DrawRow {
+        font: 5,
+        code: 65,
+        row: height as u32 - 1,
+    };
+    Input {
+        out: 128,
+        ..input(store, call)
+    }
+}
+
+fn write_full_font(length: usize) -> Input {
+    let (store, _) = full_of_characters(length, 0, 1);
+    Input {
+        out: length + 2048,
+        ..input(store, Call::WriteFont { font: 5 })
+    }
+}
+
+fn stream_of_fonts(fonts: impl Iterator<Item = usize>) -> Vec<u8> {
+    let mut stream = Vec::new();
+    for number in fonts {
+        stream.extend(format!("\x1b*c{number}D\x1b)s64W").bytes());
+        stream.extend(header(number));
+    }
+    stream
+}
+
+/// As many fonts as give a stream of nearly the store's length.
+fn fonts_in_a_stream(length: usize) -> usize {
+    length / 80
+}
+
+fn read_fonts(length: usize) -> Input {
+    Input {
+        given: stream_of_fonts(1..=fonts_in_a_stream(length)),
+        ..input(fresh(length), Call::ReadStream)
+    }
+}
+
+fn read_falling_fonts(length: usize) -> Input {
+    Input {
+        given: stream_of_fonts((1..=fonts_in_a_stream(length)).rev()),
+        ..input(fresh(length), Call::ReadStream)
+    }
+}
+
+fn read_characters(length: usize) -> Input {
+    let (store, _) = full_of_characters(length, 0, 2);
+    let mut stream = vec![0; length + 2048];
+    let written = reference::write_font(&store, &mut stream, 5);
+    stream.truncate(written.length as usize);
+    Input {
+        given: stream,
+        ..input(fresh(length), Call::ReadStream)
+    }
+}

@@ -1,0 +1,274 @@
+/* Calls each of the twelve functions from C and prints what document 01's
+ * listing example and its trials say; tests/run compares it with calls.expected. */
+#include "marlinfold.h"
+
+#include <stdio.h>
+#include <string.h>
+
+static uint8_t store[16384];
+static uint8_t out[MF_PICTURE_MAX];
+
+/* The fields that the trials vary; cell sizes as a usual font has them. */
+static void header(uint8_t block[64], unsigned set, unsigned spacing, unsigned height,
+                   int weight, unsigned face, unsigned orientation)
+{
+    memset(block, 0, 64);
+    block[1] = 64;
+    block[7] = 35;
+    block[9] = 30;
+    block[11] = 50;
+    block[12] = (uint8_t)orientation;
+    block[13] = (uint8_t)spacing;
+    block[14] = (uint8_t)(set / 256);
+    block[15] = (uint8_t)(set % 256);
+    block[17] = 120;
+    block[18] = (uint8_t)(height / 256);
+    block[19] = (uint8_t)(height % 256);
+    block[24] = (uint8_t)weight;
+    block[25] = (uint8_t)face;
+}
+
+/* Document 01's fonts, by their numbers. */
+static void named(uint8_t block[64], unsigned font)
+{
+    header(block, 277, MF_FIXED, 200, 0, 3, MF_PORTRAIT);
+    if (font == 2)
+        header(block, 277, MF_FIXED, 200, 3, 3, MF_PORTRAIT);
+    if (font == 9)
+        header(block, 277, MF_FIXED, 200, 0, 3, MF_LANDSCAPE);
+    if (font == 7)
+        header(block, 341, MF_PROPORTIONAL, 150, 0, 4, MF_PORTRAIT);
+}
+
+static void answer(const char *name, uint32_t refusal)
+{
+    printf("%s: %u\n", name, (unsigned)refusal);
+}
+
+static uint32_t download(unsigned font)
+{
+    uint8_t block[64];
+    named(block, font);
+    return mf_download_font(store, sizeof store, block, sizeof block, font);
+}
+
+/* A portrait first block with its data; its length. */
+static size_t first_block(uint8_t *block, unsigned class_, unsigned width, unsigned height,
+                          const uint8_t *data, size_t length)
+{
+    const uint8_t head[16] = {4, 0, 14, (uint8_t)class_, 0, 0, 0, 2, 0, 22,
+                              (uint8_t)(width / 256), (uint8_t)(width % 256),
+                              (uint8_t)(height / 256), (uint8_t)(height % 256), 0, 120};
+    memcpy(block, head, 16);
+    memcpy(block + 16, data, length);
+    return 16 + length;
+}
+
+static size_t append(uint8_t *stream, size_t at, const void *bytes, size_t length)
+{
+    memcpy(stream + at, bytes, length);
+    return at + length;
+}
+
+/* "For ESC*c5D, header A, ESC*c65E, an 18-byte character of one dot row 10 wide,
+ * ESC*c2D, header B" */
+static void listing(void)
+{
+    const uint8_t row[2] = {0xFF, 0xC0};
+    uint8_t stream[512], block[64];
+    size_t length = 0;
+    mf_stream_read read;
+    uint32_t font;
+
+    length = append(stream, length, "\x1b*c5D\x1b)s64W", 11);
+    named(block, 5);
+    length = append(stream, length, block, 64);
+    length = append(stream, length, "\x1b*c65E\x1b(s18W", 12);
+    length = append(stream, length, block, first_block(block, 1, 10, 1, row, 2));
+    length = append(stream, length, "\x1b*c2D\x1b)s64W", 11);
+    named(block, 2);
+    length = append(stream, length, block, 64);
+
+    mf_make_fresh(store, sizeof store);
+    read = mf_read_stream(store, sizeof store, stream, length);
+    puts("id set spacing pitch height style weight face chars");
+    for (font = 0; font <= MF_FONT_MAX; font++) {
+        mf_told told = mf_tell_font(store, sizeof store, block, sizeof block, font);
+        if (told.refusal == MF_DONE)
+            printf("%u %u %u %u %u %u %d %u %u\n", (unsigned)font, (unsigned)mf_field(block, 14),
+                   block[13], (unsigned)mf_field(block, 16), (unsigned)mf_field(block, 18),
+                   block[4] * 256u + block[23], block[24] < 128 ? block[24] : block[24] - 256,
+                   block[26] * 256u + block[25], (unsigned)told.count);
+    }
+    printf("done %u refused %u", (unsigned)read.done, (unsigned)read.refused);
+    if (read.refusal == MF_STREAM_BROKEN)
+        printf(" stopped %u", (unsigned)read.place);
+    puts("");
+
+    /* Cut within the last command: 13 at its ESC. */
+    mf_make_fresh(store, sizeof store);
+    read = mf_read_stream(store, sizeof store, stream, length - 1);
+    printf("cut: refusal %u done %u refused %u place %u\n", (unsigned)read.refusal,
+           (unsigned)read.done, (unsigned)read.refused, (unsigned)read.place);
+}
+
+static void choose(const char *name, uint32_t set, int32_t weight, uint32_t orientation)
+{
+    mf_chosen chosen = mf_choose(store, sizeof store, set, MF_FIXED, 1000, 1200, 0, weight, 3,
+                                 orientation);
+    if (chosen.refusal == MF_DONE)
+        printf("%s: %u\n", name, (unsigned)chosen.font);
+    else
+        printf("%s: refusal %u, font %u\n", name, (unsigned)chosen.refusal,
+               (unsigned)chosen.font);
+}
+
+static void choosing(void)
+{
+    mf_make_fresh(store, sizeof store);
+    answer("A", download(5));
+    answer("B", download(2));
+    answer("C", download(9));
+    answer("D", download(7));
+    choose("P1 weight 3", 277, 3, MF_PORTRAIT);
+    choose("P2 weight 0", 277, 0, MF_PORTRAIT);
+    choose("P2 landscape page", 277, 0, MF_LANDSCAPE);
+    choose("P3 weight 1", 277, 1, MF_PORTRAIT);
+    choose("P4 weight -1", 277, -1, MF_PORTRAIT);
+    choose("P5 set 85", 85, 0, MF_PORTRAIT);
+    choose("P6 set 341", 341, 0, MF_PORTRAIT);
+    answer("A removed", mf_remove_font(store, sizeof store, 5));
+    answer("B removed", mf_remove_font(store, sizeof store, 2));
+    answer("C removed", mf_remove_font(store, sizeof store, 9));
+    choose("P7 only D, set 85", 85, 0, MF_PORTRAIT);
+    choose("weight 8", 277, 8, MF_PORTRAIT);
+    choose("weight -8", 277, -8, MF_PORTRAIT);
+}
+
+static uint32_t character(unsigned class_, unsigned width, unsigned height, const uint8_t *data,
+                          size_t length)
+{
+    uint8_t block[64];
+    length = first_block(block, class_, width, height, data, length);
+    return mf_download_character(store, sizeof store, block, length, 5, 65);
+}
+
+static void bytes(const char *name, uint32_t refusal, const uint8_t *from, size_t length)
+{
+    size_t at;
+    printf("%s: %u,", name, (unsigned)refusal);
+    for (at = 0; at < length; at++)
+        printf(" %u", from[at]);
+    puts("");
+}
+
+static void drawing(void)
+{
+    const uint8_t p10[] = {1, 2, 3, 5, 0, 0, 10};
+    const uint8_t p11[] = {0, 255, 0, 45};
+    const uint8_t p12[] = {0, 4, 7};
+    const uint8_t more[] = {4, 1, 0, 0, 10};
+    const uint8_t padded[] = {0xFF, 0xFF};
+    uint8_t kept[MF_CHARACTER_BYTES];
+    size_t size = mf_picture_bytes(10, 3);
+    mf_told told;
+    uint32_t row;
+
+    mf_make_fresh(store, sizeof store);
+    download(5);
+    answer("P10", character(2, 10, 3, p10, sizeof p10));
+    bytes("P10 picture", mf_draw_picture(store, sizeof store, out, size, 5, 65), out, size);
+    for (row = 0; row < 4; row++) {
+        memset(out, 9, 2);
+        bytes("P10 row", mf_draw_row(store, sizeof store, out, 2, 5, 65, row), out, 2);
+    }
+    answer("picture, output short", mf_draw_picture(store, sizeof store, out, size - 1, 5, 65));
+    answer("row, output short", mf_draw_row(store, sizeof store, out, 1, 5, 65, 0));
+    told = mf_tell_character(store, sizeof store, kept, sizeof kept, 5, 65);
+    printf("told: %u, %u data bytes, left %d top %d width %u height %u delta %u\n",
+           (unsigned)told.refusal, (unsigned)told.count, (int)mf_signed_field(kept, 6),
+           (int)mf_signed_field(kept, 8), (unsigned)mf_field(kept, 10),
+           (unsigned)mf_field(kept, 12), (unsigned)mf_field(kept, 14));
+    /* All but the last row; then that. */
+    answer("incomplete", character(2, 10, 3, p10, 4));
+    answer("continuation", mf_download_character(store, sizeof store, more, sizeof more, 5, 65));
+    answer("closed by it", mf_download_character(store, sizeof store, more, sizeof more, 5, 65));
+    bytes("joined picture", mf_draw_picture(store, sizeof store, out, size, 5, 65), out, size);
+    answer("P11", character(2, 300, 1, p11, sizeof p11));
+    bytes("P11 row", mf_draw_row(store, sizeof store, out, sizeof out, 5, 65, 0), out,
+          mf_row_bytes(300));
+    answer("P12", character(2, 10, 1, p12, sizeof p12));
+    answer("padding", character(1, 10, 1, padded, sizeof padded));
+    bytes("padding not drawn", mf_draw_picture(store, sizeof store, out, 2, 5, 65), out, 2);
+    answer("1024 by 256", character(1, 1024, 256, padded, 0));
+    answer("1024 by 257", character(1, 1024, 257, padded, 0));
+    answer("removed", mf_remove_character(store, sizeof store, 5, 65));
+    answer("removed again", mf_remove_character(store, sizeof store, 5, 65));
+}
+
+static void writing(void)
+{
+    const uint8_t row[2] = {0xFF, 0xC0};
+    static uint8_t stream[MF_WRITTEN_MAX(sizeof store)];
+    static uint8_t again[sizeof store];
+    mf_written written;
+    mf_stream_read read;
+
+    mf_make_fresh(store, sizeof store);
+    download(5);
+    character(1, 10, 1, row, sizeof row);
+    written = mf_write_font(store, sizeof store, stream, sizeof stream, 5);
+    printf("written: %u, %u bytes", (unsigned)written.refusal, (unsigned)written.length);
+    mf_make_fresh(again, sizeof again);
+    read = mf_read_stream(again, sizeof again, stream, written.length);
+    printf(", read again: %u, done %u refused %u, the same store: %s\n", (unsigned)read.refusal,
+           (unsigned)read.done, (unsigned)read.refused,
+           memcmp(store, again, sizeof store) == 0 ? "yes" : "no");
+    written = mf_write_font(store, sizeof store, stream, written.length - 1, 5);
+    printf("one byte short: %u, %u\n", (unsigned)written.refusal, (unsigned)written.length);
+}
+
+/* The header's names against the numbers answered; document 01's edges. */
+static void refusals(void)
+{
+    uint8_t block[64];
+    mf_make_fresh(store, sizeof store);
+    named(block, 5);
+#define SHOW(name, call) printf(#name " %d: %u\n", name, (unsigned)(call))
+    SHOW(MF_NOT_A_STORE, mf_make_fresh(store, MF_STORE_MIN - 1));
+    SHOW(MF_OUT_OF_RANGE, download(MF_FONT_MAX + 1));
+    SHOW(MF_BLOCK_LENGTH, mf_download_font(store, sizeof store, block, 63, 5));
+    SHOW(MF_BLOCK_LENGTH, mf_download_font(store, sizeof store, block, 0, 5));
+    block[2] = 1;
+    SHOW(MF_NOT_TAKEN, mf_download_font(store, sizeof store, block, 64, 5));
+    block[2] = 0;
+    block[24] = 248;
+    SHOW(MF_FIELD_VALUE, mf_download_font(store, sizeof store, block, 64, 5));
+    SHOW(MF_NO_FONT, mf_remove_font(store, sizeof store, 5));
+    block[24] = 249;
+    SHOW(MF_DONE, mf_download_font(store, sizeof store, block, 64, 5));
+    SHOW(MF_NO_CHARACTER, mf_draw_row(store, sizeof store, out, sizeof out, 5, 65, 0));
+    SHOW(MF_RUN_PAST_ROW, character(2, 10, 1, (const uint8_t *)"\0\4\7", 3));
+    SHOW(MF_TOO_LARGE, character(1, 1024, 257, block, 0));
+    mf_make_fresh(store, sizeof store);
+    SHOW(MF_NONE_TO_CHOOSE, mf_choose(store, sizeof store, 277, 0, 0, 0, 0, 0, 0, 0).refusal);
+    SHOW(MF_STREAM_BROKEN,
+         mf_read_stream(store, sizeof store, (const uint8_t *)"?", 1).refusal);
+    download(5);
+    SHOW(MF_OUTPUT_SHORT, mf_tell_font(store, sizeof store, out, 63, 5).refusal);
+    named(block, 5);
+    mf_make_fresh(store, 84);
+    answer("font in 84 bytes", mf_download_font(store, 84, block, 64, 5));
+    mf_make_fresh(store, 83);
+    SHOW(MF_NO_ROOM, mf_download_font(store, 83, block, 64, 5));
+}
+
+int main(void)
+{
+    listing();
+    choosing();
+    drawing();
+    writing();
+    refusals();
+    return 0;
+}

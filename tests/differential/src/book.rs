@@ -1,0 +1,259 @@
+//! Demand 3's book: the fonts meant, made from the calls and their answers and
+//! never from the store; and the nine steps as document 01 words them.
+
+use crate::calls::{Answer, Call, Request};
+use std::collections::BTreeMap;
+
+pub type Header = [u8; 64];
+
+#[derive(Clone, Default)]
+pub struct Book {
+    pub fonts: BTreeMap<u32, Header>,
+}
+
+fn field(header: &Header, at: usize) -> u32 {
+    256 * u32::from(header[at]) + u32::from(header[at + 1])
+}
+
+/// "the kept bytes the rules make of its block", an accepted one's.
+fn kept(block: &[u8]) -> Header {
+    let mut kept = [0; 64];
+    kept.copy_from_slice(&block[..64]);
+    kept[0] = 0;
+    kept[1] = 64;
+    kept[5] = 0;
+    if field(&kept, 16) > 16800 {
+        kept[16] = (16800_u32 / 256) as u8;
+        kept[17] = (16800_u32 % 256) as u8;
+    }
+    if field(&kept, 18) > 10922 {
+        kept[18] = (10922_u32 / 256) as u8;
+        kept[19] = (10922_u32 % 256) as u8;
+    }
+    kept
+}
+
+impl Book {
+    /// What a call and its answer make of the book; a stream comes as the
+    /// downloads that it spells.
+    pub fn note(&mut self, call: &Call, answer: &Answer) {
+        match (call, answer.refusal) {
+            (Call::MakeFresh, 0) => self.fonts.clear(),
+            (Call::DownloadFont { block, font }, 0) => {
+                self.fonts.insert(*font, kept(block));
+            }
+            (Call::RemoveFont { font }, 0) | (Call::DownloadCharacter { font, .. }, 10) => {
+                self.fonts.remove(font);
+            }
+            _ => {}
+        }
+    }
+}
+
+/// A font of the book, with the numbers that the steps read.
+#[derive(Clone, Copy)]
+pub struct Font<'a> {
+    pub number: u32,
+    header: &'a Header,
+}
+
+impl<'a> Font<'a> {
+    pub fn new(number: u32, header: &'a Header) -> Font<'a> {
+        Font { number, header }
+    }
+
+    pub fn symbol_set(&self) -> u32 {
+        field(self.header, 14)
+    }
+
+    fn spacing(&self) -> u32 {
+        u32::from(self.header[13])
+    }
+
+    fn pitch(&self) -> u32 {
+        field(self.header, 16)
+    }
+
+    fn height(&self) -> u32 {
+        field(self.header, 18)
+    }
+
+    fn style(&self) -> u32 {
+        256 * u32::from(self.header[4]) + u32::from(self.header[23])
+    }
+
+    fn weight(&self) -> i32 {
+        match i32::from(self.header[24]) {
+            byte @ 128.. => byte - 256,
+            byte => byte,
+        }
+    }
+
+    fn typeface(&self) -> u32 {
+        256 * u32::from(self.header[26]) + u32::from(self.header[25])
+    }
+
+    fn orientation(&self) -> u32 {
+        u32::from(self.header[12])
+    }
+
+    /// "A font takes part exactly if it has the set asked for or Roman-8."
+    pub fn takes_part(&self, request: &Request) -> bool {
+        self.symbol_set() == request.symbol_set || self.symbol_set() == 277
+    }
+}
+
+/// Those with it, if any has it; else all of them.
+fn if_any<'a>(fonts: &[Font<'a>], has: impl Fn(&Font) -> bool) -> Vec<Font<'a>> {
+    let with: Vec<Font> = fonts.iter().copied().filter(|font| has(font)).collect();
+    if with.is_empty() {
+        fonts.to_vec()
+    } else {
+        with
+    }
+}
+
+/// The nine steps on these fonts: the number left, or none.
+pub fn chosen(request: &Request, fonts: &[Font]) -> Option<u32> {
+    // 1
+    let with = |set: u32| -> Vec<Font> {
+        let all = fonts.iter().copied();
+        all.filter(|font| font.symbol_set() == set).collect()
+    };
+    let mut left = with(request.symbol_set);
+    if left.is_empty() {
+        left = with(277);
+    }
+    if left.is_empty() {
+        return None;
+    }
+    // 2
+    left = if_any(&left, |font| font.spacing() == request.spacing);
+    // 3
+    if left.iter().all(|font| font.spacing() == 0) {
+        let fits = |pitch: u32| u64::from(request.pitch) * u64::from(pitch) <= 120_000;
+        let pitches = || left.iter().map(Font::pitch);
+        let wanted = match pitches().filter(|&pitch| fits(pitch)).max() {
+            Some(greatest) => greatest,
+            None => pitches().min()?,
+        };
+        left.retain(|font| font.pitch() == wanted);
+    }
+    // 4
+    let distance = |font: &Font| match request.height.abs_diff(6 * font.height()) {
+        ..=25 => 0,
+        far => far,
+    };
+    let least = left.iter().map(distance).min()?;
+    left.retain(|font| distance(font) == least);
+    // 5
+    left = if_any(&left, |font| font.style() == request.style);
+    // 6
+    let weights = || left.iter().map(Font::weight);
+    let asked = request.weight;
+    let thicker = weights().filter(|&weight| weight > asked).min();
+    let thinner = weights().filter(|&weight| weight < asked).max();
+    let wanted = if weights().any(|weight| weight == asked) {
+        asked
+    } else if asked >= 0 {
+        thicker.or(thinner)?
+    } else {
+        thinner.or(thicker)?
+    };
+    left.retain(|font| font.weight() == wanted);
+    // 7
+    left = if_any(&left, |font| font.typeface() == request.typeface);
+    // 8
+    left = if_any(&left, |font| font.orientation() == request.orientation);
+    // 9
+    left.iter().map(|font| font.number).min()
+}
+
+/// "A beats B if these steps, worked on those of the two alone that take part,
+/// leave A."
+pub fn beats(a: Font, b: Font, request: &Request) -> bool {
+    let mut two = vec![a, b];
+    two.retain(|font| font.takes_part(request));
+    chosen(request, &two) == Some(a.number)
+}
+
+/// What a stream spells: its whole commands before any 13, as downloads with
+/// their numbers, the others as done or refused; and the place of a 13.
+pub struct Spelled {
+    pub downloads: Vec<Call>,
+    pub done: u64,
+    pub refused: u64,
+    pub broken: Option<u64>,
+}
+
+pub fn spelled(stream: &[u8]) -> Spelled {
+    let mut spelled = Spelled {
+        downloads: Vec::new(),
+        done: 0,
+        refused: 0,
+        broken: None,
+    };
+    let (mut font, mut code) = (0, 0);
+    let mut at = 0;
+    while at < stream.len() {
+        let Some((group, number, last, after)) = command(stream, at) else {
+            spelled.broken = Some(at as u64);
+            break;
+        };
+        at = after;
+        let block = || stream[after - number..after].to_vec();
+        match (group, last) {
+            (b'*', b'D') if number <= 32767 => {
+                font = number as u32;
+                spelled.done += 1;
+            }
+            (b'*', b'E') if number <= 255 => {
+                code = number as u32;
+                spelled.done += 1;
+            }
+            (b'*', _) => spelled.refused += 1,
+            (b')', _) => spelled.downloads.push(Call::DownloadFont {
+                block: block(),
+                font,
+            }),
+            _ => spelled.downloads.push(Call::DownloadCharacter {
+                block: block(),
+                font,
+                code,
+            }),
+        }
+    }
+    spelled
+}
+
+/// The whole command at a place: its group, number, last byte, and what comes
+/// after it (its block passed).
+fn command(stream: &[u8], start: usize) -> Option<(u8, usize, u8, usize)> {
+    let byte = |at: usize| stream.get(at).copied();
+    if byte(start)? != 27 {
+        return None;
+    }
+    let group = byte(start + 1)?;
+    let letter = byte(start + 2)?;
+    let mut at = start + 3;
+    let mut number = 0;
+    while byte(at)?.is_ascii_digit() {
+        number = 10 * number + usize::from(byte(at)? - b'0');
+        at += 1;
+        if at - start > 8 {
+            return None;
+        }
+    }
+    if at == start + 3 {
+        return None;
+    }
+    let last = byte(at)?;
+    let after = at + 1;
+    match (group, letter, last) {
+        (b'*', b'c', b'D' | b'E') => Some((group, number, last, after)),
+        (b')' | b'(', b's', b'W') if number <= 32767 && after + number <= stream.len() => {
+            Some((group, number, last, after + number))
+        }
+        _ => None,
+    }
+}

@@ -1,0 +1,541 @@
+//! The twelve calls, through the C interface and of the reference, each with
+//! the same arguments and an answer of the same form.
+
+use crate::chance::Chance;
+use marlinfold_reference as reference;
+pub use reference::Request;
+use std::fmt;
+
+mod c {
+    #[repr(C)]
+    pub struct Chosen {
+        pub refusal: u32,
+        pub font: u32,
+    }
+
+    #[repr(C)]
+    pub struct Told {
+        pub refusal: u32,
+        pub count: u32,
+    }
+
+    #[repr(C)]
+    pub struct Written {
+        pub refusal: u32,
+        pub length: u32,
+    }
+
+    #[repr(C)]
+    pub struct StreamRead {
+        pub refusal: u32,
+        pub done: u64,
+        pub refused: u64,
+        pub place: u64,
+    }
+
+    // As include/marlinfold.h declares them.
+    extern "C" {
+        pub fn mf_make_fresh(store: *mut u8, store_len: usize) -> u32;
+        pub fn mf_download_font(
+            store: *mut u8,
+            store_len: usize,
+            block: *const u8,
+            block_len: usize,
+            font: u32,
+        ) -> u32;
+        pub fn mf_download_character(
+            store: *mut u8,
+            store_len: usize,
+            block: *const u8,
+            block_len: usize,
+            font: u32,
+            code: u32,
+        ) -> u32;
+        pub fn mf_remove_font(store: *mut u8, store_len: usize, font: u32) -> u32;
+        pub fn mf_remove_character(store: *mut u8, store_len: usize, font: u32, code: u32) -> u32;
+        pub fn mf_choose(
+            store: *const u8,
+            store_len: usize,
+            symbol_set: u32,
+            spacing: u32,
+            pitch: u32,
+            height: u32,
+            style: u32,
+            weight: i32,
+            typeface: u32,
+            orientation: u32,
+        ) -> Chosen;
+        pub fn mf_tell_font(
+            store: *const u8,
+            store_len: usize,
+            out: *mut u8,
+            out_len: usize,
+            font: u32,
+        ) -> Told;
+        pub fn mf_tell_character(
+            store: *const u8,
+            store_len: usize,
+            out: *mut u8,
+            out_len: usize,
+            font: u32,
+            code: u32,
+        ) -> Told;
+        pub fn mf_draw_row(
+            store: *const u8,
+            store_len: usize,
+            out: *mut u8,
+            out_len: usize,
+            font: u32,
+            code: u32,
+            row: u32,
+        ) -> u32;
+        pub fn mf_draw_picture(
+            store: *const u8,
+            store_len: usize,
+            out: *mut u8,
+            out_len: usize,
+            font: u32,
+            code: u32,
+        ) -> u32;
+        pub fn mf_write_font(
+            store: *const u8,
+            store_len: usize,
+            out: *mut u8,
+            out_len: usize,
+            font: u32,
+        ) -> Written;
+        pub fn mf_read_stream(
+            store: *mut u8,
+            store_len: usize,
+            stream: *const u8,
+            stream_len: usize,
+        ) -> StreamRead;
+    }
+}
+
+/// One call with its arguments, the store aside; an `out` is what its output
+/// holds before.
+#[derive(Clone)]
+pub enum Call {
+    MakeFresh,
+    DownloadFont {
+        block: Vec<u8>,
+        font: u32,
+    },
+    DownloadCharacter {
+        block: Vec<u8>,
+        font: u32,
+        code: u32,
+    },
+    RemoveFont {
+        font: u32,
+    },
+    RemoveCharacter {
+        font: u32,
+        code: u32,
+    },
+    Choose(Request),
+    TellFont {
+        out: Vec<u8>,
+        font: u32,
+    },
+    TellCharacter {
+        out: Vec<u8>,
+        font: u32,
+        code: u32,
+    },
+    DrawRow {
+        out: Vec<u8>,
+        font: u32,
+        code: u32,
+        row: u32,
+    },
+    DrawPicture {
+        out: Vec<u8>,
+        font: u32,
+        code: u32,
+    },
+    WriteFont {
+        out: Vec<u8>,
+        font: u32,
+    },
+    ReadStream {
+        stream: Vec<u8>,
+    },
+}
+
+pub const NAMES: [&str; 12] = [
+    "make_fresh",
+    "download_font",
+    "download_character",
+    "remove_font",
+    "remove_character",
+    "choose",
+    "tell_font",
+    "tell_character",
+    "draw_row",
+    "draw_picture",
+    "write_font",
+    "read_stream",
+];
+
+/// The refusals that document 01 lists for each call, 0 among them.
+pub const POSSIBLE: [&[usize]; 12] = [
+    &[0, 1],
+    &[0, 1, 2, 3, 4, 5, 10],
+    &[0, 1, 2, 3, 4, 5, 6, 7, 8, 9, 10],
+    &[0, 1, 2, 6],
+    &[0, 1, 2, 6, 7],
+    &[0, 1, 2, 11],
+    &[0, 1, 2, 6, 12],
+    &[0, 1, 2, 6, 7, 12],
+    &[0, 1, 2, 6, 7, 12],
+    &[0, 1, 2, 6, 7, 12],
+    &[0, 1, 2, 6, 12],
+    &[0, 1, 13],
+];
+
+impl Call {
+    /// Its place in `NAMES`.
+    pub fn index(&self) -> usize {
+        match self {
+            Call::MakeFresh => 0,
+            Call::DownloadFont { .. } => 1,
+            Call::DownloadCharacter { .. } => 2,
+            Call::RemoveFont { .. } => 3,
+            Call::RemoveCharacter { .. } => 4,
+            Call::Choose(_) => 5,
+            Call::TellFont { .. } => 6,
+            Call::TellCharacter { .. } => 7,
+            Call::DrawRow { .. } => 8,
+            Call::DrawPicture { .. } => 9,
+            Call::WriteFont { .. } => 10,
+            Call::ReadStream { .. } => 11,
+        }
+    }
+}
+
+/// Bytes for a report: all of a few, the beginning of many.
+struct Shown<'a>(&'a [u8]);
+
+impl fmt::Display for Shown<'_> {
+    fn fmt(&self, f: &mut fmt::Formatter) -> fmt::Result {
+        write!(f, "{} bytes", self.0.len())?;
+        for byte in self.0.iter().take(96) {
+            write!(f, " {byte:02x}")?;
+        }
+        if self.0.len() > 96 {
+            write!(f, " ..")?;
+        }
+        Ok(())
+    }
+}
+
+impl fmt::Display for Call {
+    fn fmt(&self, f: &mut fmt::Formatter) -> fmt::Result {
+        write!(f, "{}", NAMES[self.index()])?;
+        match self {
+            Call::MakeFresh => Ok(()),
+            Call::DownloadFont { block, font } => write!(f, " font {font}, {}", Shown(block)),
+            Call::DownloadCharacter { block, font, code } => {
+                write!(f, " font {font} code {code}, {}", Shown(block))
+            }
+            Call::RemoveFont { font } => write!(f, " font {font}"),
+            Call::RemoveCharacter { font, code } => write!(f, " font {font} code {code}"),
+            Call::Choose(request) => write!(f, " {request:?}"),
+            Call::TellFont { out, font } | Call::WriteFont { out, font } => {
+                write!(f, " font {font}, output of {}", out.len())
+            }
+            Call::TellCharacter { out, font, code } | Call::DrawPicture { out, font, code } => {
+                write!(f, " font {font} code {code}, output of {}", out.len())
+            }
+            Call::DrawRow {
+                out,
+                font,
+                code,
+                row,
+            } => write!(
+                f,
+                " font {font} code {code} row {row}, output of {}",
+                out.len()
+            ),
+            Call::ReadStream { stream } => write!(f, " {}", Shown(stream)),
+        }
+    }
+}
+
+/// The refusal, then the call's other numbers, 0 where it has fewer.
+#[derive(Clone, Copy, PartialEq, Eq, Debug)]
+pub struct Answer {
+    pub refusal: u32,
+    pub numbers: [u64; 3],
+}
+
+impl Answer {
+    fn bare(refusal: u32) -> Answer {
+        Answer::one(refusal, 0)
+    }
+
+    fn one(refusal: u32, number: u32) -> Answer {
+        Answer {
+            refusal,
+            numbers: [u64::from(number), 0, 0],
+        }
+    }
+
+    /// The first number, where it is one of 32 bits.
+    pub fn number(&self) -> u32 {
+        self.numbers[0] as u32
+    }
+}
+
+/// A call's answer, and what its output holds afterwards (empty if it has none).
+pub struct Outcome {
+    pub answer: Answer,
+    pub out: Vec<u8>,
+}
+
+/// A buffer as it is lent through the C interface, guard bytes around it.
+pub struct Lent {
+    bytes: Vec<u8>,
+    start: usize,
+    end: usize,
+}
+
+/// How buffers are lent: with guard bytes, or (for a memory checker, which then
+/// sees every access outside) as allocations of exactly their length.
+#[derive(Clone, Copy)]
+pub struct Lending {
+    pub exact: bool,
+}
+
+const GUARD: usize = 48;
+
+fn guard_byte(at: usize) -> u8 {
+    (at as u8).wrapping_mul(37) ^ 0xA5
+}
+
+impl Lending {
+    pub fn lend(self, content: &[u8], chance: &mut Chance) -> Lent {
+        if self.exact {
+            // `to_vec` allocates no more than it holds.
+            let bytes = content.to_vec();
+            let end = bytes.len();
+            return Lent {
+                bytes,
+                start: 0,
+                end,
+            };
+        }
+        // Any alignment.
+        let start = GUARD + chance.below(16);
+        let end = start + content.len();
+        let mut bytes = Vec::with_capacity(end + GUARD);
+        bytes.extend((0..start).map(guard_byte));
+        bytes.extend_from_slice(content);
+        bytes.extend((end..end + GUARD).map(guard_byte));
+        Lent { bytes, start, end }
+    }
+}
+
+impl Lent {
+    pub fn content(&self) -> &[u8] {
+        &self.bytes[self.start..self.end]
+    }
+
+    pub fn content_mut(&mut self) -> &mut [u8] {
+        &mut self.bytes[self.start..self.end]
+    }
+
+    fn len(&self) -> usize {
+        self.end - self.start
+    }
+
+    /// Also for what the library must not write: that it doesn't is tested, so
+    /// the pointer must be one through which it could.
+    fn pointer(&mut self) -> *mut u8 {
+        self.content_mut().as_mut_ptr()
+    }
+
+    pub fn check_guards(&self, what: &str) -> Result<(), String> {
+        let outside = (0..self.start).chain(self.end..self.bytes.len());
+        for at in outside {
+            if self.bytes[at] != guard_byte(at) {
+                return Err(format!(
+                    "{what}: wrote at {} of a buffer of {}",
+                    at as isize - self.start as isize,
+                    self.len()
+                ));
+            }
+        }
+        Ok(())
+    }
+}
+
+/// The call through the C interface.
+pub fn ours(
+    call: &Call,
+    store: &mut Lent,
+    lending: Lending,
+    chance: &mut Chance,
+) -> Result<Outcome, String> {
+    let (at, len) = (store.pointer(), store.len());
+    let mut only_read: &[u8] = &[];
+    let mut out = None;
+    let mut read = None;
+    match call {
+        Call::DownloadFont { block, .. }
+        | Call::DownloadCharacter { block, .. }
+        | Call::ReadStream { stream: block } => {
+            only_read = block;
+            read = Some(lending.lend(block, chance));
+        }
+        Call::TellFont { out: before, .. }
+        | Call::TellCharacter { out: before, .. }
+        | Call::DrawRow { out: before, .. }
+        | Call::DrawPicture { out: before, .. }
+        | Call::WriteFont { out: before, .. } => out = Some(lending.lend(before, chance)),
+        _ => {}
+    }
+    let (block, block_len) = match &mut read {
+        Some(lent) => (lent.pointer().cast_const(), lent.len()),
+        None => (std::ptr::dangling(), 0),
+    };
+    let (to, to_len) = match &mut out {
+        Some(lent) => (lent.pointer(), lent.len()),
+        None => (std::ptr::dangling_mut(), 0),
+    };
+    // SAFETY: each pointer is valid for the length beside it, none overlap, and
+    // none is kept after the call.
+    let answer = unsafe {
+        match *call {
+            Call::MakeFresh => Answer::bare(c::mf_make_fresh(at, len)),
+            Call::DownloadFont { font, .. } => {
+                Answer::bare(c::mf_download_font(at, len, block, block_len, font))
+            }
+            Call::DownloadCharacter { font, code, .. } => Answer::bare(c::mf_download_character(
+                at, len, block, block_len, font, code,
+            )),
+            Call::RemoveFont { font } => Answer::bare(c::mf_remove_font(at, len, font)),
+            Call::RemoveCharacter { font, code } => {
+                Answer::bare(c::mf_remove_character(at, len, font, code))
+            }
+            Call::Choose(request) => {
+                let chosen = c::mf_choose(
+                    at,
+                    len,
+                    request.symbol_set,
+                    request.spacing,
+                    request.pitch,
+                    request.height,
+                    request.style,
+                    request.weight,
+                    request.typeface,
+                    request.orientation,
+                );
+                Answer::one(chosen.refusal, chosen.font)
+            }
+            Call::TellFont { font, .. } => {
+                let told = c::mf_tell_font(at, len, to, to_len, font);
+                Answer::one(told.refusal, told.count)
+            }
+            Call::TellCharacter { font, code, .. } => {
+                let told = c::mf_tell_character(at, len, to, to_len, font, code);
+                Answer::one(told.refusal, told.count)
+            }
+            Call::DrawRow {
+                font, code, row, ..
+            } => Answer::bare(c::mf_draw_row(at, len, to, to_len, font, code, row)),
+            Call::DrawPicture { font, code, .. } => {
+                Answer::bare(c::mf_draw_picture(at, len, to, to_len, font, code))
+            }
+            Call::WriteFont { font, .. } => {
+                let written = c::mf_write_font(at, len, to, to_len, font);
+                Answer::one(written.refusal, written.length)
+            }
+            Call::ReadStream { .. } => {
+                let read = c::mf_read_stream(at, len, block, block_len);
+                Answer {
+                    refusal: read.refusal,
+                    numbers: [read.done, read.refused, read.place],
+                }
+            }
+        }
+    };
+    store.check_guards("store")?;
+    if let Some(lent) = read {
+        lent.check_guards("block")?;
+        if lent.content() != only_read {
+            return Err("block: changed".into());
+        }
+    }
+    let out = match out {
+        Some(lent) => {
+            lent.check_guards("output")?;
+            lent.content().to_vec()
+        }
+        None => Vec::new(),
+    };
+    Ok(Outcome { answer, out })
+}
+
+/// The same call of the reference.
+pub fn theirs(call: &Call, store: &mut [u8]) -> Outcome {
+    let mut output = Vec::new();
+    let answer = match call {
+        Call::MakeFresh => Answer::bare(reference::make_fresh(store)),
+        Call::DownloadFont { block, font } => {
+            Answer::bare(reference::download_font(store, block, *font))
+        }
+        Call::DownloadCharacter { block, font, code } => {
+            Answer::bare(reference::download_character(store, block, *font, *code))
+        }
+        Call::RemoveFont { font } => Answer::bare(reference::remove_font(store, *font)),
+        Call::RemoveCharacter { font, code } => {
+            Answer::bare(reference::remove_character(store, *font, *code))
+        }
+        Call::Choose(request) => {
+            let chosen = reference::choose(store, request);
+            Answer::one(chosen.refusal, chosen.font)
+        }
+        Call::TellFont { out, font } => {
+            output.clone_from(out);
+            let told = reference::tell_font(store, &mut output, *font);
+            Answer::one(told.refusal, told.count)
+        }
+        Call::TellCharacter { out, font, code } => {
+            output.clone_from(out);
+            let told = reference::tell_character(store, &mut output, *font, *code);
+            Answer::one(told.refusal, told.count)
+        }
+        Call::DrawRow {
+            out,
+            font,
+            code,
+            row,
+        } => {
+            output.clone_from(out);
+            Answer::bare(reference::draw_row(store, &mut output, *font, *code, *row))
+        }
+        Call::DrawPicture { out, font, code } => {
+            output.clone_from(out);
+            Answer::bare(reference::draw_picture(store, &mut output, *font, *code))
+        }
+        Call::WriteFont { out, font } => {
+            output.clone_from(out);
+            let written = reference::write_font(store, &mut output, *font);
+            Answer::one(written.refusal, written.length)
+        }
+        Call::ReadStream { stream } => {
+            let read = reference::read_stream(store, stream);
+            Answer {
+                refusal: read.refusal,
+                numbers: [read.done, read.refused, read.place],
+            }
+        }
+    };
+    Outcome {
+        answer,
+        out: output,
+    }
+}

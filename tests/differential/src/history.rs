@@ -1,0 +1,594 @@
+//! One history: a store on both sides, the book, chance calls, and after each
+//! what demands 1 to 3 ask.
+
+use crate::book::{self, Book, Font};
+use crate::calls::{ours, theirs, Answer, Call, Lending, Lent, Request};
+use crate::chance::Chance;
+use crate::generate::{self, Generator, Reading, Theme};
+use crate::met::Met;
+use marlinfold_reference as reference;
+
+/// A difference, in words.
+pub type Found<T> = Result<T, String>;
+
+/// The same store on both sides.
+struct Pair {
+    ours: Lent,
+    theirs: Vec<u8>,
+}
+
+pub struct History<'a> {
+    chance: Chance,
+    theme: Theme,
+    lending: Lending,
+    trace: bool,
+    met: &'a mut Met,
+    book: Book,
+}
+
+/// Runs one history; the difference found, if one is.
+pub fn run(
+    seed: u64,
+    number: u64,
+    lending: Lending,
+    small: bool,
+    trace: bool,
+    met: &mut Met,
+) -> Found<()> {
+    let mut chance = Chance::new(seed, number);
+    let (theme, length, calls) = match chance.below(40) {
+        0 | 1 if !small => {
+            let length = chance.of(&[32860, 32861, 32877, 32878, 32879, 40000, 65535, 65536]);
+            (Theme::Giants, length, 24)
+        }
+        2 if !small => (Theme::Fonts, chance.of(&[4096, 16384, 65536]), 60),
+        3..=4 => (Theme::Fonts, chance.between(300, 3000), 60),
+        5 => (
+            Theme::Small,
+            chance.of(&[12, 13, 18, 83, 84, 85, 155, 156, 157]),
+            20,
+        ),
+        6 if !small => (Theme::Small, chance.between(20_000, 65_536), 40),
+        7 if !small => (Theme::Small, chance.of(&[65535, 65536]), 40),
+        8..=20 => (Theme::Small, chance.between(110, 600), 60),
+        _ => (Theme::Small, chance.between(300, 3000), 60),
+    };
+    let mut history = History {
+        chance,
+        theme,
+        lending,
+        trace,
+        met,
+        book: Book::default(),
+    };
+    history.lengths_that_are_none()?;
+    let before = match history.chance.once_in(2) {
+        true => history.chance.bytes(length),
+        false => vec![0; length],
+    };
+    let mut pair = history.pair(&before);
+    if history.chance.once_in(4) {
+        // Before it is fresh, a buffer is no store.
+        let call = history.generator().call(&before);
+        history.both(&mut pair, &call)?;
+    }
+    history.step(&mut pair, Call::MakeFresh)?;
+    let trips = if theme == Theme::Giants { 4 } else { 16 };
+    for _ in 0..calls {
+        let call = history.generator().call(&pair.theirs);
+        history.step(&mut pair, call)?;
+        if history.chance.once_in(8) {
+            history.changed(&pair)?;
+        }
+        if history.chance.once_in(trips) {
+            history.round_trip(&pair)?;
+        }
+    }
+    Ok(())
+}
+
+impl History<'_> {
+    fn generator(&mut self) -> Generator<'_> {
+        Generator {
+            chance: &mut self.chance,
+            theme: self.theme,
+        }
+    }
+
+    fn pair(&mut self, bytes: &[u8]) -> Pair {
+        Pair {
+            ours: self.lending.lend(bytes, &mut self.chance),
+            theirs: bytes.to_vec(),
+        }
+    }
+
+    /// Buffers of lengths that no store has.
+    fn lengths_that_are_none(&mut self) -> Found<()> {
+        if self.chance.once_in(8) {
+            let length = self.chance.of(&[0, 1, 11, 65537, 70000]);
+            let mut bytes = vec![0; length];
+            if length > 12 {
+                // A store but for its length.
+                bytes[..6].copy_from_slice(&[12, 0, 0, 0, 1, 0]);
+            }
+            let mut pair = self.pair(&bytes);
+            self.both(&mut pair, &Call::MakeFresh)?;
+            let call = self.generator().call(&bytes);
+            self.both(&mut pair, &call)?;
+        }
+        Ok(())
+    }
+
+    /// The call through the C interface alone.
+    fn only_ours(&mut self, store: &mut Lent, call: &Call) -> Found<(Answer, Vec<u8>)> {
+        if self.trace {
+            eprintln!("  {call}");
+        }
+        let outcome = ours(call, store, self.lending, &mut self.chance)
+            .map_err(|what| format!("{call}\n  {what}"))?;
+        Ok((outcome.answer, outcome.out))
+    }
+
+    /// The call on both sides: the same answer, output and store. A refusal
+    /// leaves both as they were (demand 1).
+    fn both(&mut self, pair: &mut Pair, call: &Call) -> Found<Answer> {
+        Ok(self.both_with_output(pair, call)?.0)
+    }
+
+    fn both_with_output(&mut self, pair: &mut Pair, call: &Call) -> Found<(Answer, Vec<u8>)> {
+        let before = pair.theirs.clone();
+        let (answer, out) = self.only_ours(&mut pair.ours, call)?;
+        let expected = theirs(call, &mut pair.theirs);
+        let complain = |what: String| Err(format!("{call}\n  {what}"));
+        if answer != expected.answer {
+            return complain(format!("answered {answer:?}, not {:?}", expected.answer));
+        }
+        if let Some(at) = first_difference(&out, &expected.out) {
+            return complain(format!(
+                "answered {answer:?}; output of {} differs first at {at}",
+                out.len()
+            ));
+        }
+        if let Some(at) = first_difference(pair.ours.content(), &pair.theirs) {
+            return complain(format!(
+                "answered {answer:?}; store of {} differs first at {at}",
+                before.len()
+            ));
+        }
+        let strikes = matches!(call, Call::DownloadCharacter { .. }) && answer.refusal == 10;
+        if answer.refusal != 0 && !strikes && answer.refusal != 13 {
+            if before != pair.theirs {
+                return complain(format!("refused with {answer:?}, but the store changed"));
+            }
+            if answer.numbers != [0; 3] {
+                return complain(format!("refused with {answer:?}, numbers not 0"));
+            }
+        }
+        self.met.count(call, &answer)?;
+        self.situations(call, &answer, &before, &pair.theirs);
+        Ok((answer, out))
+    }
+
+    /// A call of the history: made on both sides, noted in the book, and then
+    /// demand 3 asked.
+    fn step(&mut self, pair: &mut Pair, call: Call) -> Found<()> {
+        let before = pair.theirs.clone();
+        let answer = self.both(pair, &call)?;
+        if let Call::ReadStream { stream } = &call {
+            self.stream_one_by_one(&before, stream, &answer, pair)?;
+        } else {
+            self.book.note(&call, &answer);
+        }
+        let requests = if before.len() > 20_000 { 1 } else { 2 };
+        for _ in 0..requests {
+            let request = self.generator().good_request(&pair.theirs);
+            self.demand_3(pair, &request)?;
+        }
+        self.told_as_in_the_book(pair)
+    }
+
+    /// "A stream counts as the downloads spelled by its whole commands before
+    /// any 13, with the answers they get when made one by one in its place."
+    fn stream_one_by_one(
+        &mut self,
+        before: &[u8],
+        stream: &[u8],
+        answer: &Answer,
+        pair: &Pair,
+    ) -> Found<()> {
+        let spelled = book::spelled(stream);
+        let mut alone = self.lending.lend(before, &mut self.chance);
+        let (mut done, mut refused) = (spelled.done, spelled.refused);
+        for call in &spelled.downloads {
+            let (answer, _) = self.only_ours(&mut alone, call)?;
+            self.book.note(call, &answer);
+            match answer.refusal {
+                0 => done += 1,
+                _ => refused += 1,
+            }
+        }
+        let expected = Answer {
+            refusal: if spelled.broken.is_some() { 13 } else { 0 },
+            numbers: [done, refused, spelled.broken.unwrap_or(0)],
+        };
+        if *answer != expected {
+            return Err(format!(
+                "stream answered {answer:?}, its commands one by one {expected:?}"
+            ));
+        }
+        if alone.content() != pair.ours.content() {
+            return Err("a stream's commands made one by one leave another store".into());
+        }
+        Ok(())
+    }
+
+    /// The choice on the store as last left, against the book.
+    fn demand_3(&mut self, pair: &mut Pair, request: &Request) -> Found<()> {
+        let book = self.book.clone();
+        let choice = self.choice(&mut pair.ours, request, &book)?;
+        if choice.is_none() && !book.fonts.is_empty() {
+            self.met.situation("none takes part though fonts are kept");
+        }
+        if choice.is_some() && book.fonts.len() >= 500 {
+            self.met.situation("choice among 500 fonts or more");
+        }
+        if self.chance.once_in(3) {
+            self.one_more_removal(pair, request, choice)?;
+        }
+        if self.chance.once_in(3) {
+            self.one_more_font(pair, request, choice)?;
+        }
+        Ok(())
+    }
+
+    /// What choosing answers, checked: "is one of these, beats every other, is
+    /// the only one that no other beats; refused exactly when none takes part".
+    fn choice(&mut self, store: &mut Lent, request: &Request, book: &Book) -> Found<Option<u32>> {
+        let call = Call::Choose(*request);
+        let (answer, _) = self.only_ours(store, &call)?;
+        let complain = |what: &str| Err(format!("{call}\n  answered {answer:?}: {what}"));
+        let fonts: Vec<Font> = book
+            .fonts
+            .iter()
+            .map(|(&number, header)| Font::new(number, header))
+            .collect();
+        if !fonts.iter().any(|font| font.takes_part(request)) {
+            if answer.refusal != 11 || answer.numbers != [0; 3] {
+                return complain("but none takes part");
+            }
+            return Ok(None);
+        }
+        if answer.refusal != 0 {
+            return complain("but some font takes part");
+        }
+        let Some(choice) = fonts.iter().find(|font| font.number == answer.number()) else {
+            return complain("no font of the book");
+        };
+        for other in &fonts {
+            if other.number == choice.number {
+                continue;
+            }
+            if !book::beats(*choice, *other, request) {
+                return complain(&format!("does not beat {}", other.number));
+            }
+            if book::beats(*other, *choice, request) {
+                return complain(&format!("is beaten by {}", other.number));
+            }
+        }
+        if fonts.len() <= 16 {
+            let beaten = |font: &Font| {
+                fonts
+                    .iter()
+                    .any(|other| other.number != font.number && book::beats(*other, *font, request))
+            };
+            if fonts.iter().filter(|font| !beaten(font)).count() != 1 {
+                return complain("not the only one that no other beats");
+            }
+        }
+        if choice.symbol_set() != request.symbol_set {
+            self.met.situation("Roman-8 chosen for another set");
+        }
+        Ok(Some(choice.number))
+    }
+
+    /// "one more call that removes a font that wasn't chosen, also for lack of
+    /// room, leaves the choice standing"
+    fn one_more_removal(
+        &mut self,
+        pair: &Pair,
+        request: &Request,
+        choice: Option<u32>,
+    ) -> Found<()> {
+        let mut others: Vec<u32> = self.book.fonts.keys().copied().collect();
+        others.retain(|&font| Some(font) != choice);
+        if others.is_empty() {
+            return Ok(());
+        }
+        let font = self.chance.of(&others);
+        let for_room = match self.chance.once_in(2) {
+            true => self.generator().block_without_room(&pair.theirs, font),
+            false => None,
+        };
+        let (call, removed, situation) = match for_room {
+            Some(block) => (
+                Call::DownloadCharacter {
+                    block,
+                    font,
+                    code: 200,
+                },
+                10,
+                "a font struck for lack of room leaves the choice",
+            ),
+            None => (
+                Call::RemoveFont { font },
+                0,
+                "a font removed leaves the choice",
+            ),
+        };
+        let mut copy = self.pair(&pair.theirs);
+        let answer = self.both(&mut copy, &call)?;
+        if answer.refusal != removed {
+            return Err(format!("{call}\n  answered {answer:?}, not {removed}"));
+        }
+        let mut book = self.book.clone();
+        book.note(&call, &answer);
+        let now = self.choice(&mut copy.ours, request, &book)?;
+        if now != choice {
+            return Err(format!(
+                "{call}\n  changed the choice from {choice:?} to {now:?} for {request:?}"
+            ));
+        }
+        self.met.situation(situation);
+        Ok(())
+    }
+
+    /// "one that accepts a font under an unused number leaves it standing or
+    /// makes the new font the choice"
+    fn one_more_font(&mut self, pair: &Pair, request: &Request, choice: Option<u32>) -> Found<()> {
+        let font = self.chance.of(&[0, 1, 3, 4, 7, 299, 301, 32765, 32767]);
+        if self.book.fonts.contains_key(&font) {
+            return Ok(());
+        }
+        let block = self.generator().good_header();
+        let call = Call::DownloadFont { block, font };
+        let mut copy = self.pair(&pair.theirs);
+        let answer = self.both(&mut copy, &call)?;
+        if answer.refusal != 0 {
+            return Ok(());
+        }
+        let mut book = self.book.clone();
+        book.note(&call, &answer);
+        let now = self.choice(&mut copy.ours, request, &book)?;
+        if now == choice {
+            self.met.situation("a font accepted leaves the choice");
+        } else if now == Some(font) {
+            self.met.situation("a font accepted becomes the choice");
+        } else {
+            return Err(format!(
+                "{call}\n  changed the choice from {choice:?} to {now:?} for {request:?}"
+            ));
+        }
+        Ok(())
+    }
+
+    /// A font of the book is told with the book's bytes, and one that isn't in
+    /// it is refused with 6.
+    fn told_as_in_the_book(&mut self, pair: &mut Pair) -> Found<()> {
+        let font = match self.generator().font_number(&pair.theirs) {
+            font @ 0..=32767 => font,
+            _ => 0,
+        };
+        let call = Call::TellFont {
+            out: vec![0x55; 64],
+            font,
+        };
+        let (answer, out) = self.only_ours(&mut pair.ours, &call)?;
+        let right = match self.book.fonts.get(&font) {
+            Some(header) => answer.refusal == 0 && out == header,
+            None => answer.refusal == 6 && out == [0x55; 64],
+        };
+        match right {
+            true => Ok(()),
+            false => Err(format!(
+                "{call}\n  answered {answer:?}; the book has it: {}",
+                self.book.fonts.contains_key(&font)
+            )),
+        }
+    }
+
+    /// A few calls on a copy with one byte changed or records put otherwise.
+    fn changed(&mut self, pair: &Pair) -> Found<()> {
+        let bytes = self.generator().changed(&pair.theirs);
+        self.met.situation(match reference::is_store(&bytes) {
+            true => "a changed buffer is still a store",
+            false => "a changed buffer is no store",
+        });
+        let mut copy = self.pair(&bytes);
+        for _ in 0..3 {
+            let call = self.generator().call(&copy.theirs);
+            self.both(&mut copy, &call).map_err(|what| {
+                format!(
+                    "on a changed store {:02x?}\n  {what}",
+                    &bytes[..bytes.len().min(400)]
+                )
+            })?;
+        }
+        Ok(())
+    }
+
+    /// Demand 2's second half: a font written out and read into a fresh store
+    /// of the same length is the same font.
+    fn round_trip(&mut self, pair: &Pair) -> Found<()> {
+        let fonts: Vec<u32> = self.book.fonts.keys().copied().collect();
+        if fonts.is_empty() {
+            return Ok(());
+        }
+        let font = self.chance.of(&fonts);
+        let length = pair.theirs.len();
+        let mut copy = self.pair(&pair.theirs);
+        let write = Call::WriteFont {
+            out: vec![0; length + 2048],
+            font,
+        };
+        let (written, stream) = self.both_with_output(&mut copy, &write)?;
+        if written.refusal != 0 {
+            return Err(format!("{write}\n  answered {written:?}"));
+        }
+        let stream = stream[..written.number() as usize].to_vec();
+        let mut again = self.pair(&vec![0; length]);
+        self.both(&mut again, &Call::MakeFresh)?;
+        let read = Call::ReadStream { stream };
+        let answer = self.both(&mut again, &read)?;
+        let records: Vec<generate::Record> = generate::records(&pair.theirs)
+            .into_iter()
+            .filter(|record| record.font == font)
+            .collect();
+        let long = |record: &&generate::Record| record.length > 26 + 32751;
+        let split = records.iter().filter(long).count();
+        let done = (2 * records.len() + split) as u64;
+        if answer.refusal != 0 || answer.numbers != [done, 0, 0] {
+            return Err(format!("round trip: {read}\n  answered {answer:?}"));
+        }
+        // The font's records, byte for byte, and nothing else behind the mark.
+        let mut expected: Vec<u8> = Vec::with_capacity(length);
+        for record in &records {
+            expected.extend(&pair.theirs[record.at..record.at + record.length]);
+        }
+        expected.resize(length - 12, 0);
+        if expected != again.ours.content()[12..] {
+            return Err(format!(
+                "round trip of font {font}: other records\n  {read}"
+            ));
+        }
+        // And as the calls tell it.
+        let mut calls = vec![Call::TellFont {
+            out: vec![0; 64],
+            font,
+        }];
+        for record in &records {
+            if let Some(code) = record.code {
+                let out = vec![0; 16];
+                calls.push(Call::TellCharacter { out, font, code });
+                let out = vec![0; 32768];
+                calls.push(Call::DrawPicture { out, font, code });
+            }
+        }
+        for call in calls.iter().take(7) {
+            let first = self.only_ours(&mut copy.ours, call)?;
+            if first != self.only_ours(&mut again.ours, call)? {
+                return Err(format!("round trip of font {font}: other answer\n  {call}"));
+            }
+        }
+        self.met.situation("round trip");
+        if split > 0 {
+            self.met.situation("round trip with a continuation");
+        }
+        if records.len() > 200 {
+            self.met.situation("round trip of 200 characters or more");
+        }
+        Ok(())
+    }
+
+    /// Counts what else is worth having met.
+    fn situations(&mut self, call: &Call, answer: &Answer, before: &[u8], after: &[u8]) {
+        if !reference::is_store(before) {
+            return;
+        }
+        let open = generate::open(before);
+        let kept = |font: u32| generate::records(before).iter().any(|r| r.font == font);
+        let met = &mut *self.met;
+        match (call, answer.refusal) {
+            (Call::DownloadFont { font, .. }, 0) if kept(*font) => {
+                met.situation("font replaced");
+                if open.is_some_and(|(of, _)| of == *font) {
+                    met.situation("font of the open character replaced");
+                }
+            }
+            (Call::DownloadFont { .. }, 0) if open.is_some() => {
+                met.situation("font block while a character is open");
+            }
+            (Call::DownloadCharacter { block, font, code }, refusal) => {
+                let first = block.get(1) == Some(&0);
+                let named = open == Some((*font, *code));
+                match (refusal, first) {
+                    (0, true) => {
+                        let old = generate::character(before, *font, *code);
+                        if old.is_some() {
+                            met.situation("character replaced");
+                        }
+                        if named {
+                            met.situation("open character replaced");
+                        }
+                        if let Some(new) = generate::character(after, *font, *code) {
+                            met.situation(match Reading::is_complete(&new) {
+                                true => "first block, complete",
+                                false => "first block, incomplete",
+                            });
+                            if new.data.len() < block.len() - 16 {
+                                met.situation("data beyond a picture dropped");
+                            }
+                        }
+                    }
+                    (0, false) if block.len() == 2 => met.situation("continuation without data"),
+                    (0, false) if generate::open(after).is_none() => {
+                        met.situation("continuation that completes");
+                    }
+                    (0, false) => met.situation("continuation that doesn't complete"),
+                    (8, true) => met.situation("run past the row in a first block"),
+                    (8, false) => met.situation("run past the row in a continuation"),
+                    (9, true) => met.situation("picture too large"),
+                    (9, false) => met.situation("kept data too large"),
+                    (10, true) if named => met.situation("no room for the open character anew"),
+                    (10, true) => met.situation("no room for a first block"),
+                    (10, false) => met.situation("no room for a continuation"),
+                    (1..=5, true) if named => {
+                        met.situation("refused first block for the open character");
+                    }
+                    _ => {}
+                }
+                if refusal == 10 && open.is_some() && generate::open(after).is_some() {
+                    met.situation("no room, a character of another font stays open");
+                }
+            }
+            (Call::RemoveFont { font }, 0) => match open {
+                Some((of, _)) if of == *font => met.situation("font of the open character removed"),
+                Some(_) => met.situation("font removed, a character of another stays open"),
+                None => {}
+            },
+            (Call::RemoveCharacter { font, code }, 0) => match open {
+                Some(open) if open == (*font, *code) => met.situation("open character removed"),
+                Some(_) => met.situation("character removed, another stays open"),
+                None => {}
+            },
+            (
+                Call::DrawRow {
+                    font, code, row, ..
+                },
+                refusal,
+            ) => {
+                if let Some(kept) = generate::character(before, *font, *code) {
+                    if refusal == 2 {
+                        met.situation("row not below the height");
+                    } else if refusal == 0 && *row as usize + 1 == kept.height {
+                        met.situation("last row drawn");
+                    }
+                }
+            }
+            (Call::ReadStream { .. }, 13) if answer.numbers[0] > 0 => {
+                met.situation("stream broken after commands done");
+            }
+            (Call::ReadStream { .. }, 0) if answer.numbers[1] > 0 => {
+                met.situation("stream with refused commands");
+            }
+            _ => {}
+        }
+    }
+}
+
+fn first_difference(a: &[u8], b: &[u8]) -> Option<usize> {
+    if a == b {
+        return None;
+    }
+    let shorter = a.len().min(b.len());
+    Some((0..shorter).find(|&at| a[at] != b[at]).unwrap_or(shorter))
+}

@@ -1,0 +1,120 @@
+//! What the histories met: each refusal in each call, and situations by name.
+
+use crate::calls::{Answer, Call, NAMES, POSSIBLE};
+
+/// Every one must be met by a whole run.
+const SITUATIONS: [&str; 40] = [
+    "font replaced",
+    "font of the open character replaced",
+    "font block while a character is open",
+    "character replaced",
+    "open character replaced",
+    "first block, complete",
+    "first block, incomplete",
+    "data beyond a picture dropped",
+    "continuation without data",
+    "continuation that completes",
+    "continuation that doesn't complete",
+    "run past the row in a first block",
+    "run past the row in a continuation",
+    "picture too large",
+    "kept data too large",
+    "no room for a first block",
+    "no room for the open character anew",
+    "no room for a continuation",
+    "no room, a character of another font stays open",
+    "refused first block for the open character",
+    "font of the open character removed",
+    "font removed, a character of another stays open",
+    "open character removed",
+    "character removed, another stays open",
+    "row not below the height",
+    "last row drawn",
+    "stream with refused commands",
+    "stream broken after commands done",
+    "Roman-8 chosen for another set",
+    "none takes part though fonts are kept",
+    "choice among 500 fonts or more",
+    "a font removed leaves the choice",
+    "a font struck for lack of room leaves the choice",
+    "a font accepted leaves the choice",
+    "a font accepted becomes the choice",
+    "a changed buffer is still a store",
+    "a changed buffer is no store",
+    "round trip",
+    "round trip with a continuation",
+    "round trip of 200 characters or more",
+];
+
+pub struct Met {
+    answers: [[u64; 14]; 12],
+    situations: [u64; SITUATIONS.len()],
+}
+
+impl Met {
+    pub fn new() -> Met {
+        Met {
+            answers: [[0; 14]; 12],
+            situations: [0; SITUATIONS.len()],
+        }
+    }
+
+    /// A refusal that document 01 doesn't list for the call is a difference,
+    /// whatever the reference says.
+    pub fn count(&mut self, call: &Call, answer: &Answer) -> Result<(), String> {
+        let (index, refusal) = (call.index(), answer.refusal as usize);
+        if !POSSIBLE[index].contains(&refusal) {
+            return Err(format!("{call}\n  answered {answer:?}, which it never may"));
+        }
+        self.answers[index][refusal] += 1;
+        Ok(())
+    }
+
+    pub fn situation(&mut self, name: &str) {
+        let index = SITUATIONS.iter().position(|&known| known == name);
+        self.situations[index.expect("a named situation")] += 1;
+    }
+
+    /// What another thread's histories met.
+    pub fn add(&mut self, other: &Met) {
+        let ours = self.answers.iter_mut().flatten();
+        for (times, more) in ours.zip(other.answers.iter().flatten()) {
+            *times += more;
+        }
+        for (times, more) in self.situations.iter_mut().zip(other.situations) {
+            *times += more;
+        }
+    }
+
+    pub fn calls(&self) -> u64 {
+        self.answers.iter().flatten().sum()
+    }
+
+    /// Prints the tables; how many possible things were never met.
+    pub fn report(&self) -> usize {
+        let mut never = 0;
+        print!("{:18}", "call");
+        for refusal in 0..14 {
+            print!("{refusal:>8}");
+        }
+        println!();
+        for (index, name) in NAMES.iter().enumerate() {
+            print!("{name:18}");
+            for refusal in 0..14 {
+                let times = self.answers[index][refusal];
+                if !POSSIBLE[index].contains(&refusal) {
+                    print!("{:>8}", ".");
+                } else {
+                    print!("{times:>8}");
+                    never += usize::from(times == 0);
+                }
+            }
+            println!();
+        }
+        for (name, times) in SITUATIONS.iter().zip(self.situations) {
+            println!("{times:>8}  {name}");
+            never += usize::from(times == 0);
+        }
+        never
+    }
+}
