@@ -24,3 +24,4 @@ pub mod KeptFonts
 pub mod Downloads
 pub mod Extends
 pub mod Receives
+pub mod Drawings

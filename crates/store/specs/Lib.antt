@@ -5,6 +5,7 @@ pub mod Order
 pub mod Answer
 pub mod Calls
 pub mod Download
+pub mod Drawing
 pub mod Change
 pub mod Walk
 pub mod Fonts

@@ -2,6 +2,7 @@
 pub mod change;
 pub mod characters;
 pub mod download;
+pub mod drawing;
 pub mod fonts;
 pub mod kept_fonts;
 pub mod number;

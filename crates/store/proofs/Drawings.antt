@@ -1,0 +1,85 @@
+-- What drawing a character that is there answers. Assumes nothing.
+use mathlib.Core.Path.{_≡_, refl, sym, ap, _∙_}
+use mathlib.Core.List.{List, _++_}
+use mathlib.Core.Bool.{Bool, true, false, _&&_}
+use Prim.Native.Nat.{ℕ, _+_, _-_, _<_, _≤_}
+use native.Mathlib.Omega.{arith}
+use lib.ListN.{length, take, drop}
+use borrow.Author.Tests.{le-leb, lt-leb, lt-ltb, le-ltb}
+use Rattle.blocks.specs.Header.{orientation}
+use lib.Dec.{eqb}
+use Rattle.blocks.specs.Field.{within, byte, signedWithin}
+use Rattle.blocks.specs.Character.{class, width, height, leftOffset, topOffset, rowSize, pictureSize, readFirst, firstChecks, isKeptFirst}
+use Rattle.blocks.specs.Rows.{rowBytes, picture}
+use Rattle.blocks.specs.declared.Verdict.the-variants.{Taken}
+use Rattle.blocks.proofs.Checks.{both, taken, within-low}
+use Rattle.blocks.proofs.KeptFirst.{is-kept-first}
+use Rattle.blocks.proofs.Pictures.{length-row, length-picture}
+use Rattle.store.specs.Layout.{keyOf}
+use Rattle.store.specs.Model.{font, character, alone, under, allowed}
+use Rattle.store.specs.Order.{below, after}
+use Rattle.store.specs.Answer.{After, refuse, checked}
+use Rattle.store.specs.Calls.{onto}
+use Rattle.store.specs.Drawing.{drawn, rowOf, pictureOf, drawingRow, drawingPicture}
+use Rattle.store.specs.declared.walk.Places.{Places}
+use Rattle.store.proofs.Records.{allowed-char}
+use Rattle.store.proofs.Lookup.{after-font}
+use Rattle.store.proofs.Seeks.{KeptChar, char-call}
+use Rattle.store.proofs.Spots.{char-found, char-span, char-kept, char-bytes}
+
+-- ── a kept character has a width
+read-width : (k : List ℕ) (o : ℕ) → readFirst k o ≡ Taken → 0 < width k
+unfolding readFirst
+read-width k o e =
+    let f = taken (firstChecks k o) e .1 .1 .0 in
+    let a : Bool = eqb (byte k 4) o && signedWithin 16 16384 (leftOffset k) && signedWithin 16 16384 (topOffset k) in
+    let p = both (a && within 1 16384 (width k)) (within 1 16384 (height k)) f in
+    within-low 1 16384 (width k) (both a (within 1 16384 (width k)) (p .0) .1)
+
+module _ (n c : ℕ) (s : List ℕ) (w : Places) (x : KeptChar n c s w) where
+  char-descriptor : isKeptFirst (x .kept) (orientation (x .header)) ≡ true
+  unfolding under
+  char-descriptor =
+      let t : after alone (below (keyOf n (c + 1)) (x .ready .store .recs)) ≡ under alone (font n (x .header)) = after-font n (c + 1) (x .header) (x .ready .store .recs) (x .ready .valid .order) (x .font-there) (omega arith) (omega (arith, x .code)) in
+      let o : allowed (under alone (font n (x .header))) (character n c (x .kept) (x .bytes)) ≡ true = rw t at (char-found n c s w x .ok) in
+      allowed-char (under alone (font n (x .header))) n c (x .kept) (x .bytes) o .kept
+
+  pub char-width : 0 < width (x .kept)
+  char-width = read-width (x .kept) (orientation (x .header)) (is-kept-first (x .kept) (orientation (x .header)) char-descriptor .1)
+
+  -- as the code cuts the descriptor and the data out of the store
+  pub kept-cut : take (w .from + 26 - (w .from + 10)) (drop (w .from + 10) s) ≡ x .kept
+  kept-cut = let i : w .from + 26 - (w .from + 10) ≡ 16 = omega arith in ap (λ (k : ℕ). take k (drop (w .from + 10) s)) i ∙ char-kept n c s w x
+
+  pub data-cut : take (w .to - (w .from + 26)) (drop (w .from + 26) s) ≡ x .bytes
+  data-cut = let i : w .to - (w .from + 26) ≡ length (x .bytes) = omega (arith, char-span n c s w x) in ap (λ (k : ℕ). take k (drop (w .from + 26) s)) i ∙ char-bytes n c s w x
+
+  pub row-call : (row : ℕ) (out : List ℕ) → drawingRow n c row s out ≡ rowOf (x .kept) (x .bytes) row out
+  unfolding drawingRow
+  row-call row out = char-call n c s w (refuse out) _ x
+
+  pub picture-call : (out : List ℕ) → drawingPicture n c s out ≡ pictureOf (x .kept) (x .bytes) out
+  unfolding drawingPicture
+  picture-call out = char-call n c s w (refuse out) _ x
+
+-- ── into an output
+module _ (h d out : List ℕ) where
+  pub row-high : (row : ℕ) → height h ≤ row → rowOf h d row out ≡ refuse out 2
+  unfolding rowOf
+  row-high row l = rw (le-ltb row (height h) l)
+
+  pub row-short : (row : ℕ) → row < height h → length out < rowSize (width h) → rowOf h d row out ≡ refuse out 12
+  unfolding rowOf
+  row-short row l m = rw (lt-ltb row (height h) l, lt-leb (rowSize (width h)) (length out) m)
+
+  pub row-drawn : (row : ℕ) → row < height h → rowSize (width h) ≤ length out → rowOf h d row out ≡ record { answer = 0; bytes = rowBytes (class h) (width h) d row ++ drop (rowSize (width h)) out }
+  unfolding rowOf
+  row-drawn row l m = rw (lt-ltb row (height h) l, le-leb (rowSize (width h)) (length out) m, length-row (class h) (width h) d row)
+
+  pub picture-short : length out < pictureSize (width h) (height h) → pictureOf h d out ≡ refuse out 12
+  unfolding pictureOf
+  picture-short m = rw (lt-leb (pictureSize (width h) (height h)) (length out) m)
+
+  pub picture-drawn : pictureSize (width h) (height h) ≤ length out → pictureOf h d out ≡ record { answer = 0; bytes = picture (class h) (width h) d (height h) ++ drop (pictureSize (width h) (height h)) out }
+  unfolding pictureOf
+  picture-drawn m = rw (le-leb (pictureSize (width h) (height h)) (length out) m, length-picture (class h) (width h) d (height h))
