@@ -37,7 +37,7 @@ pub to-end : (k : ℕ) (xs : List ℕ) → take (length xs - k) (drop k xs) ≡ 
 to-end k xs = take-all (length xs - k) (drop k xs) (simp length-drop (omega arith))
 
 -- ── the new record
-new-allowed : (n c : ℕ) (g h d : List ℕ) → n ≤ 32767 → c ≤ 255 → isKept (heldUnder (orientation g) h d) ≡ true → allowed (under alone (font n g)) (character n c h d) ≡ true
+pub new-allowed : (n c : ℕ) (g h d : List ℕ) → n ≤ 32767 → c ≤ 255 → isKept (heldUnder (orientation g) h d) ≡ true → allowed (under alone (font n g)) (character n c h d) ≡ true
 unfolding allowed under
 new-allowed n c g h d a b e = both _ _ (eq-eqb (n + 1) (n + 1) refl) (both _ _ (le-leb _ _ a) (both _ _ (le-leb _ _ b) e))
 
@@ -50,7 +50,7 @@ unfolding opened unfinished number place _&_
 new-opened n c h d rs q = rw (eq-eqb (keyOf n (c + 1)) (keyOf n (c + 1)) refl, q)
 
 -- the mark after it
-mark-new : (n c : ℕ) (h d : List ℕ) (rs : List Rec) → n ≤ 32767 → c ≤ 255 → markOk (markFor n c h d) (withCharacter n c (character n c h d ∷ []) rs) ≡ true
+pub mark-new : (n c : ℕ) (h d : List ℕ) (rs : List Rec) → n ≤ 32767 → c ≤ 255 → markOk (markFor n c h d) (withCharacter n c (character n c h d ∷ []) rs) ≡ true
 unfolding markFor
 mark-new n c h d rs a b = go (isUnfinished (heldOf h d)) refl
   where
@@ -61,7 +61,7 @@ mark-new n c h d rs a b = go (isUnfinished (heldOf h d)) refl
         (opened-append k (below k rs) (character n c h d ∷ from (k + 1) rs) ∙ rw (new-opened n c h d (from (k + 1) rs) q) (or-true (opened k (below k rs))))
     go false q = shut-ok (withCharacter n c (character n c h d ∷ []) rs)
 
-char-run : (n c : ℕ) (h d : List ℕ) → Shaped (character n c h d) → length (run (character n c h d ∷ [])) ≡ total (character n c h d ∷ [])
+pub char-run : (n c : ℕ) (h d : List ℕ) → Shaped (character n c h d) → length (run (character n c h d ∷ [])) ≡ total (character n c h d ∷ [])
 unfolding run total
 char-run n c h d e = omega (arith, length-append (bytesOf (character n c h d)) [], size-bytes (character n c h d) e)
 

@@ -75,7 +75,7 @@ module _ (s : List ℕ) where
   fresh-done a b = rw (le-leb 12 (length s) a, le-leb (length s) 65536 b)
 
 -- ── downloading
-font-run : (n : ℕ) (h : List ℕ) → length h ≡ 64 → n ≤ 32767 → length (run (font n h ∷ [])) ≡ total (font n h ∷ [])
+pub font-run : (n : ℕ) (h : List ℕ) → length h ≡ 64 → n ≤ 32767 → length (run (font n h ∷ [])) ≡ total (font n h ∷ [])
 unfolding run total
 font-run n h l m = omega (arith, length-append (bytesOf (font n h)) [], size-bytes (font n h) (l, m))
 

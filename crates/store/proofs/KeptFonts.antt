@@ -37,7 +37,7 @@ stands-at s rs e = zero? (allZero s) refl (sym (split-eq s) ∙ e)
     zero? true q e' = at-end (cc) q
     zero? false q e' = head? (headRec s) refl e'
 
-headed-size : (s : List ℕ) (r : Rec) → Headed s r → (26 ≤ length s) × (sizeOf r ≤ length s) × (0 < sizeOf r)
+pub headed-size : (s : List ℕ) (r : Rec) → Headed s r → (26 ≤ length s) × (sizeOf r ≤ length s) × (0 < sizeOf r)
 unfolding sizeOf
 headed-size s r (is-font f k l) = omega arith
 headed-size s r (is-character f k l) =
@@ -66,7 +66,7 @@ no-font : (s : List ℕ) (ts : List Rec) → fontsIn (charOf s ∷ ts) ≡ fonts
 unfolding fontsIn
 no-font s ts = refl
 
-char-size : (s : List ℕ) → field 4 0 s ≤ length s → 26 ≤ field 4 0 s → sizeOf (charOf s) ≡ field 4 0 s
+pub char-size : (s : List ℕ) → field 4 0 s ≤ length s → 26 ≤ field 4 0 s → sizeOf (charOf s) ≡ field 4 0 s
 unfolding sizeOf
 char-size s f b = simp (length-take, length-drop) (omega arith)
 

@@ -25,3 +25,5 @@ pub mod Downloads
 pub mod Extends
 pub mod Receives
 pub mod Drawings
+pub mod Locates
+pub mod Again

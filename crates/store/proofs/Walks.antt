@@ -91,7 +91,7 @@ unfolding countIf
 length-cond true r rs = omega arith
 length-cond false r rs = omega arith
 
-total-below : (k : ℕ) (r : Rec) (rs : List Rec) (n : ℕ) → n + total (below k (r ∷ rs)) ≡ n + countIf (ltb (key r) k) (sizeOf r) + total (below k rs)
+pub total-below : (k : ℕ) (r : Rec) (rs : List Rec) (n : ℕ) → n + total (below k (r ∷ rs)) ≡ n + countIf (ltb (key r) k) (sizeOf r) + total (below k rs)
 unfolding keep
 total-below k r rs n = omega (arith, total-cond (ltb (key r) k) r (below k rs))
 
@@ -100,12 +100,12 @@ unfolding _&_
 and-is true b = refl
 and-is false b = refl
 
-count-chars : (n m : ℕ) (r : Rec) (rs : List Rec)
+pub count-chars : (n m : ℕ) (r : Rec) (rs : List Rec)
     → m + length (charactersOf n (r ∷ rs)) ≡ m + countIf (eqb (number r) n && not (eqb (place r) 0)) 1 + length (charactersOf n rs)
 unfolding charactersOf keep
 count-chars n m r rs = rw (← (and-is (eqb (number r) n) (not (eqb (place r) 0)))) (omega (arith, length-cond (eqb (number r) n & not (eqb (place r) 0)) r (charactersOf n rs)))
 
-total-more : (r : Rec) (rs : List Rec) (n : ℕ) → n + total (r ∷ rs) ≡ n + sizeOf r + total rs
+pub total-more : (r : Rec) (rs : List Rec) (n : ℕ) → n + total (r ∷ rs) ≡ n + sizeOf r + total rs
 unfolding total
 total-more r rs n = omega arith
 

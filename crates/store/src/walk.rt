@@ -203,7 +203,7 @@ fn look(s: &[u8], at: usize, owner: usize, turn: u8) -> Head
 }
 
 // n, and m more if the test holds.
-fn add_if(n: usize, test: bool, m: usize) -> usize
+pub(crate) fn add_if(n: usize, test: bool, m: usize) -> usize
     requires { ⌜ (n ≤ 65536) × (m ≤ 65536) ⌝ }
     ensures { λ r. ⌜ r ≡ n + countIf test m ⌝ }
 {
