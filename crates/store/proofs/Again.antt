@@ -7,7 +7,7 @@ use Prim.Native.Nat.{ℕ, _+_, _*_, _-_, _<_, _≤_}
 use native.Mathlib.Omega.{arith}
 use lib.ListN.{length, drop}
 use lib.Dec.{leb}
-use borrow.Author.Tests.{leb-true}
+use borrow.Author.Tests.{leb-true, le-leb}
 use Rattle.blocks.specs.Header.{orientation, readHeader, keptHeader}
 use Rattle.blocks.specs.Character.{class, width, height, characterLength, kindOf, readFirst, keptFirst, isKeptFirst}
 use Rattle.blocks.specs.Picture.{judge, keptData}
@@ -152,3 +152,24 @@ character-again n c b s B k =
         let t : find (keyOf n 0) (st .recs) ≡ some (font n (y .0)) = q ∙ ap some (y .1) in
         subst (λ (x : Rec). Left (byKind (kindOf b) (receivingFirst n c (keptOf x) b s st) (receivingMore n c b s st) (refuse s 4))) (sym (y .1))
         (by-kind s k (kindOf b) _ _ (λ e. first-left n c s k st v low code (y .0) t b e) (λ e. more-left n c s k st v low code (y .0) t b))
+
+-- ── the calls on a known store, by the code's findings
+module _ (n : ℕ) (b s : List ℕ) (k : isStore s ≡ true) (l : n ≤ 32767) where
+  pub known-refused : (m : ℕ) → readHeader b ≡ Refused m → downloadingFont n b s ≡ refuse s m
+  unfolding downloadingFont onStore
+  known-refused m e = rw (is-store s k .1, le-leb n 32767 l, e)
+
+  pub known-taken : readHeader b ≡ Taken → downloadingFont n b s ≡ puttingFont n b s
+  unfolding downloadingFont puttingFont onStore
+  known-taken e = rw (is-store s k .1, le-leb n 32767 l, e)
+
+  pub known-block : (c : ℕ) → c ≤ 255 → downloadingCharacter n c b s ≡ puttingBlock n c b s
+  unfolding downloadingCharacter onStore
+  known-block c m = rw (is-store s k .1, le-leb n 32767 l, le-leb c 255 m)
+
+-- what a call leaves, as its contract says
+pub font-left : (n : ℕ) (b s t : List ℕ) → Bytes s → isStore s ≡ true → t ≡ downloadingFont n b s .bytes → (t ≡ downloadingFont n b s .bytes) × (isStore t ≡ true)
+font-left n b s t B k e = (e, rw e (font-again n b s B k))
+
+pub character-left : (n c : ℕ) (b s t : List ℕ) → Bytes s → isStore s ≡ true → t ≡ downloadingCharacter n c b s .bytes → (t ≡ downloadingCharacter n c b s .bytes) × (isStore t ≡ true)
+character-left n c b s t B k e = (e, rw e (character-again n c b s B k))

@@ -5,6 +5,7 @@ pub mod download;
 pub mod drawing;
 pub mod fonts;
 pub mod kept_fonts;
+pub mod known;
 pub mod locate;
 pub mod number;
 pub mod seek;
