@@ -27,3 +27,4 @@ pub mod Receives
 pub mod Drawings
 pub mod Locates
 pub mod Again
+pub mod Leaves

@@ -1,8 +1,9 @@
 -- What the store promises of its kept fonts, to a caller that knows nothing of its form.
 use Prim.Native.Nat.{ℕ, suc, _+_, _≤_, _<_}
 use mathlib.Core.Path.{_≡_}
-use mathlib.Core.List.{List, [], _∷_}
-use mathlib.Core.Bool.{Bool, true, false}
+use mathlib.Core.List.{List, [], _∷_, _++_}
+use mathlib.Core.Bool.{Bool, true, false, cond}
+use lib.Dec.{ltb}
 use mathlib.Core.Option.{Option, none, some}
 use lib.ListN.{length, take, drop}
 use Rattle.store.specs.Model.{Rec, font, character, Store, Under, sorted, split, decode}
@@ -38,6 +39,21 @@ fontsBy (some st) = fontsIn (st .recs)
 unfoldable pub fontsOf : List ℕ → List Font
 fontsOf s = fontsBy (decode s)
 
+-- ── what the calls leave of them
+-- those with a number below n, and above
+unfoldable pub fontsBelow : ℕ → List Font → List Font
+fontsBelow n [] = []
+fontsBelow n (f ∷ l) = cond (ltb (f .number) n) (f ∷ fontsBelow n l) (fontsBelow n l)
+
+unfoldable pub fontsAbove : ℕ → List Font → List Font
+fontsAbove n [] = []
+fontsAbove n (f ∷ l) = cond (ltb n (f .number)) (f ∷ fontsAbove n l) (fontsAbove n l)
+
+-- the font with number n gives way to new ones of that number
+unfoldable pub fontsWith : ℕ → List Font → List Font → List Font
+fontsWith n new l = fontsBelow n l ++ (new ++ fontsAbove n l)
+
+-- ── one after the other
 -- those from a place of the run of records on
 abbrev pub fontsAmong : Option (List Rec) → List Font
 fontsAmong none = []
