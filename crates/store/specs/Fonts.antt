@@ -3,7 +3,7 @@ use Prim.Native.Nat.{ℕ, suc, _+_, _≤_, _<_}
 use mathlib.Core.Path.{_≡_}
 use mathlib.Core.List.{List, [], _∷_, _++_}
 use mathlib.Core.Bool.{Bool, true, false, cond}
-use lib.Dec.{ltb}
+use lib.Dec.{eqb, ltb}
 use mathlib.Core.Option.{Option, none, some}
 use lib.ListN.{length, take, drop}
 use Rattle.store.specs.Model.{Rec, font, character, Store, Under, sorted, split, decode}
@@ -52,6 +52,10 @@ fontsAbove n (f ∷ l) = cond (ltb n (f .number)) (f ∷ fontsAbove n l) (fontsA
 -- the font with number n gives way to new ones of that number
 unfoldable pub fontsWith : ℕ → List Font → List Font → List Font
 fontsWith n new l = fontsBelow n l ++ (new ++ fontsAbove n l)
+
+-- a call on font n that, answered k, lets it give way to new ones, and leaves the fonts otherwise
+abbrev pub fontsAfter : ℕ → ℕ → List Font → ℕ → List Font → List Font
+fontsAfter k n new answer l = cond (eqb answer k) (fontsWith n new l) l
 
 -- ── one after the other
 -- those from a place of the run of records on
