@@ -2,6 +2,7 @@
 ghost use mathlib.Core.Path.{_≡_};
 
 // Document 01's refusal number, and the characters of a font or the data bytes of a character.
+#[repr(C)]
 pub struct Told {
     pub refusal: u32,
     pub count: u32,
