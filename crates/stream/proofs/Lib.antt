@@ -3,3 +3,4 @@ pub mod Commands
 pub mod Putting
 pub mod Decimals
 pub mod Spellings
+pub mod Readings

@@ -2,3 +2,4 @@ pub mod Command
 pub mod Put
 pub mod Digits
 pub mod Writing
+pub mod Reading

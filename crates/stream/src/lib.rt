@@ -1,4 +1,5 @@
-// The command stream: its commands read one by one, and the bytes of each written.
+// The command stream: its commands read one by one and carried out on a store, and the bytes of each written.
 pub mod command;
 pub mod digits;
+pub mod reading;
 pub mod writing;

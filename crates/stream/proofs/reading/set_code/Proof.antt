@@ -1,0 +1,20 @@
+use mathlib.Core.Path.{_≡_, sym, _∙_}
+use Rattle.stream.proofs.Readings.{set-code-low, set-code-high}
+use borrow.Author.Needs.{needs}
+use Rattle.stream.proofs.reading.set_code.Statement.{statement}
+use Rattle.stream.proofs.reading.set_code.Tie as tie
+
+returns : tie.Need-returns
+returns c = c .count .ensures ∙ sym (set-code-high _ _ (c .before .if1 .taken))
+
+returns-2 : tie.Need-returns-2
+returns-2 c = c .count2 .ensures ∙ sym (set-code-low _ _ (c .before .if1 .left))
+
+pub set-code-spec : {M : Type 1} → statement M
+set-code-spec =
+    tie.close
+    (tie.spec
+    (λ c κs. search needs)
+    returns
+    (λ c κs. search needs)
+    returns-2)
