@@ -10,14 +10,14 @@ fn wide(x: u8) -> usize
     x as usize
 }
 
-pub(crate) fn le16(s: &[u8], at: usize) -> usize
+pub fn le16(s: &[u8], at: usize) -> usize
     requires { ⌜ at + 2 ≤ length (now s) ⌝ }
     ensures { λ r. ⌜ (r ≡ field 2 at (now (s .entry))) × (r < 65536) ⌝ }
 {
     wide(s[at]) + 256 * wide(s[at + 1])
 }
 
-pub(crate) fn le32(s: &[u8], at: usize) -> usize
+pub fn le32(s: &[u8], at: usize) -> usize
     requires { ⌜ at + 4 ≤ length (now s) ⌝ }
     ensures { λ r. ⌜ r ≡ field 4 at (now (s .entry)) ⌝ }
 {

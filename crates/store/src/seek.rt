@@ -13,7 +13,7 @@ pub enum Sought {
 }
 
 // Checks 1, 2, 6.
-pub(crate) fn seek_font(s: &[u8], font: u32) -> Sought
+pub fn seek_font(s: &[u8], font: u32) -> Sought
     ensures { λ r. ⌜ r ≡ soughtFont font (now (s .entry)) ⌝ }
 {
     let Inspected::Found(p) = walk::inspect(s, font as usize, 0) else {

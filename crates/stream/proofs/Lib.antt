@@ -4,3 +4,5 @@ pub mod Putting
 pub mod Decimals
 pub mod Spellings
 pub mod Readings
+pub mod FontRun
+pub mod Writes

@@ -3,3 +3,5 @@ pub mod Put
 pub mod Digits
 pub mod Writing
 pub mod Reading
+pub mod Written
+pub mod Run
