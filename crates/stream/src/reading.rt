@@ -22,6 +22,7 @@ pub struct Progress {
 }
 
 // The refusal, the commands done and refused, and the place of a 13.
+#[repr(C)]
 pub struct StreamRead {
     pub refusal: u32,
     pub done: u64,

@@ -18,6 +18,7 @@ use store::seek;
 use store::seek::Sought;
 
 // What writing answers: document 01's refusal number, and the length.
+#[repr(C)]
 pub struct Written {
     pub refusal: u32,
     pub length: u32,
