@@ -5,6 +5,7 @@ ghost use Rattle.store.specs.Calls.{makingFresh, downloadingFont, removingFont,
 ghost use Rattle.store.specs.Download.{downloadingCharacter};
 ghost use Rattle.store.specs.Drawing.{drawingRow, drawingPicture};
 ghost use Rattle.choice.specs.Choosing.{choosing, refusalOf, fontOf};
+ghost use Rattle.stream.specs.Written.{writtenOf, writingFont};
 use choice::Chosen;
 use choice::Request;
 use store::characters;
@@ -12,6 +13,8 @@ use store::download;
 use store::drawing;
 use store::fonts;
 use store::telling::Told;
+use stream::write;
+use stream::write::Written;
 
 // The chosen font's number, or the refusal.
 #[repr(C)]
@@ -117,4 +120,11 @@ pub extern "C" fn mf_draw_picture(store: &[u8], out: &mut [u8], font: u32, code:
     ensures { λ _. ⌜ now (out .exit) ≡ drawingPicture font code (now (store .entry)) (now (out .entry)) .bytes ⌝ }
 {
     drawing::draw_picture(store, out, font, code)
+}
+
+#[no_mangle]
+pub extern "C" fn mf_write_font(store: &[u8], out: &mut [u8], font: u32) -> Written
+    ensures { λ r. ⌜ writtenOf r (now (out .exit)) ≡ writingFont font (now (out .entry)) (now (store .entry)) ⌝ }
+{
+    write::write_font(store, out, font)
 }
