@@ -6,6 +6,7 @@ ghost use Rattle.store.specs.Download.{downloadingCharacter};
 ghost use Rattle.store.specs.Drawing.{drawingRow, drawingPicture};
 ghost use Rattle.choice.specs.Choosing.{choosing, refusalOf, fontOf};
 ghost use Rattle.stream.specs.Written.{writtenOf, writingFont};
+ghost use Rattle.stream.specs.Reading.{reading};
 use choice::Chosen;
 use choice::Request;
 use store::characters;
@@ -13,6 +14,8 @@ use store::download;
 use store::drawing;
 use store::fonts;
 use store::telling::Told;
+use stream::reading;
+use stream::reading::StreamRead;
 use stream::write;
 use stream::write::Written;
 
@@ -67,15 +70,37 @@ fn font_chosen(a: Chosen) -> FontChosen
     ensures { λ r. ⌜ (r .refusal ≡ refusalOf a) × (r .font ≡ fontOf a) ⌝ }
 {
     match a {
-        Chosen::Number(n) => FontChosen { refusal: 0, font: n },
-        Chosen::NotStore => FontChosen { refusal: 1, font: 0 },
-        Chosen::OutOfRange => FontChosen { refusal: 2, font: 0 },
-        Chosen::NoFont => FontChosen { refusal: 11, font: 0 },
+        Chosen::Number(n) => FontChosen {
+            refusal: 0,
+            font: n,
+        },
+        Chosen::NotStore => FontChosen {
+            refusal: 1,
+            font: 0,
+        },
+        Chosen::OutOfRange => FontChosen {
+            refusal: 2,
+            font: 0,
+        },
+        Chosen::NoFont => FontChosen {
+            refusal: 11,
+            font: 0,
+        },
     }
 }
 
 #[no_mangle]
-pub extern "C" fn mf_choose(store: &[u8], symbol_set: u32, spacing: u32, pitch: u32, height: u32, style: u32, weight: u32, typeface: u32, orientation: u32) -> FontChosen
+pub extern "C" fn mf_choose(
+    store: &[u8],
+    symbol_set: u32,
+    spacing: u32,
+    pitch: u32,
+    height: u32,
+    style: u32,
+    weight: u32,
+    typeface: u32,
+    orientation: u32,
+) -> FontChosen
     ensures { λ r. ⌜ r .refusal ≡ refusalOf (choosing (now (store .entry)) (record { «symbol_set» = «symbol_set»; spacing = spacing; pitch = pitch; height = height; style = style; weight = weight; typeface = typeface; orientation = orientation })) ⌝ }
     ensures { λ r. ⌜ r .font ≡ fontOf (choosing (now (store .entry)) (record { «symbol_set» = «symbol_set»; spacing = spacing; pitch = pitch; height = height; style = style; weight = weight; typeface = typeface; orientation = orientation })) ⌝ }
 {
@@ -127,4 +152,12 @@ pub extern "C" fn mf_write_font(store: &[u8], out: &mut [u8], font: u32) -> Writ
     ensures { λ r. ⌜ writtenOf r (now (out .exit)) ≡ writingFont font (now (out .entry)) (now (store .entry)) ⌝ }
 {
     write::write_font(store, out, font)
+}
+
+#[no_mangle]
+pub extern "C" fn mf_read_stream(store: &mut [u8], stream: &[u8]) -> StreamRead
+    ensures { λ r. ⌜ r ≡ reading (now (stream .entry)) (now (store .entry)) .answer ⌝ }
+    ensures { λ _. ⌜ now (store .exit) ≡ reading (now (stream .entry)) (now (store .entry)) .bytes ⌝ }
+{
+    reading::read_stream(store, stream)
 }

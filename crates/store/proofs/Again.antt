@@ -22,7 +22,7 @@ use Rattle.blocks.proofs.KeptHeader.{kept-header, kept-length, header-long}
 use Rattle.blocks.proofs.KeptFirst.{kept-first}
 use Rattle.blocks.proofs.KeptData.{held-whole, held-unfinished}
 use Rattle.store.specs.Layout.{keyOf}
-use Rattle.store.specs.Num.{_&_, Bytes}
+use Rattle.store.specs.Num.{_&_}
 use Rattle.store.specs.Model.{Rec, font, character, Store, under, alone, allowed, sorted, markOk, heldOf, heldUnder, isKept, run, encode, decode, total}
 use Rattle.store.specs.Order.{below, find, after}
 use Rattle.store.specs.Fonts.{Font, fontsIn, isStore, fontsOf, fontsWith, fontsAfter}
@@ -31,7 +31,8 @@ use Rattle.store.specs.Calls.{fresh, makingFresh, used, withFont, putFon
 use Rattle.store.specs.Download.{names, ifWithin, byKind, markFor, putCharacter, placing, receiving, receivingFirst, receivingMore, puttingBlock, downloadingCharacter}
 use Rattle.store.proofs.Numbers.{both-l, both-r}
 use Rattle.store.proofs.Records.{shaped, allowed-char}
-use Rattle.store.proofs.Codec.{Valid, encode-decode, decode-encode}
+use Rattle.store.proofs.Codec.{Valid, decode-encode}
+use Rattle.store.proofs.Holds.{valid-decode}
 use Rattle.store.proofs.Lookup.{found, font-at, char-at, after-font}
 use Rattle.store.proofs.Replaced.{no-font, new-font, new-char}
 use Rattle.store.proofs.Totals.{length-run}
@@ -111,18 +112,18 @@ module _ (st : Store) (v : Valid st) where
 abbrev pub fontBy : ℕ → List ℕ → List Font
 fontBy n b = record { number = n; kept = keptHeader b } ∷ []
 
-pub font-leaves : (n : ℕ) (b s : List ℕ) → Bytes s → isStore s ≡ true → Left 0 n (fontBy n b) s (downloadingFont n b s)
+pub font-leaves : (n : ℕ) (b s : List ℕ) → isStore s ≡ true → Left 0 n (fontBy n b) s (downloadingFont n b s)
 unfolding downloadingFont puttingFont onStore readHeader fontsIn
-font-leaves n b s B is =
+font-leaves n b s is =
     let w = is-store s is in
     let st = w .0 in
-    let v = encode-decode s st B (w .1) .1 in
+    let v = valid-decode s st (w .1) in
     rw (w .1)
     (by-check 0 n (fontBy n b) s is (leb n 32767) 2 _ refl (λ l. by-verdict 0 n (fontBy n b) s is (headerChecks b) _ (refl, (refl, (refl, tt))) (λ e.
     by-check 0 n (fontBy n b) s is (leb (used (putFont n (keptHeader b) st)) (st .size)) 10 _ refl (λ f. with-left n 0 (font n (keptHeader b) ∷ []) s st (w .1) (put-valid st v n b (leb-true _ _ l) e (leb-true _ _ f))))))
 
-pub font-again : (n : ℕ) (b s : List ℕ) → Bytes s → isStore s ≡ true → isStore (downloadingFont n b s .bytes) ≡ true
-font-again n b s B is = font-leaves n b s B is .0
+pub font-again : (n : ℕ) (b s : List ℕ) → isStore s ≡ true → isStore (downloadingFont n b s .bytes) ≡ true
+font-again n b s is = font-leaves n b s is .0
 
 -- ── a character block
 module _ (n c : ℕ) (s : List ℕ) (is : isStore s ≡ true) (st : Store) (e : decode s ≡ some st) (v : Valid st) (low : n ≤ 32767) (code : c ≤ 255) (g : List ℕ) (there : find (keyOf n 0) (st .recs) ≡ some (font n g)) where
@@ -171,12 +172,12 @@ module _ (n c : ℕ) (s : List ℕ) (is : isStore s ≡ true) (st : Store) (e : 
           let o : allowed (under alone (font n g)) (character n c h d) ≡ true = rw t at (f .ok) in
           allowed-char (under alone (font n g)) n c h d o .kept
 
-pub character-leaves : (n c : ℕ) (b s : List ℕ) → Bytes s → isStore s ≡ true → Left 10 n [] s (downloadingCharacter n c b s)
+pub character-leaves : (n c : ℕ) (b s : List ℕ) → isStore s ≡ true → Left 10 n [] s (downloadingCharacter n c b s)
 unfolding downloadingCharacter puttingBlock onStore
-character-leaves n c b s B is =
+character-leaves n c b s is =
     let w = is-store s is in
     let st = w .0 in
-    let v = encode-decode s st B (w .1) .1 in
+    let v = valid-decode s st (w .1) in
     rw (w .1)
     (by-check 10 n [] s is (numbered n c) 2 _ refl (λ l. let i = in-range n c l in
     by-check 10 n [] s is (characterLength b) 3 _ refl (λ e.
@@ -190,8 +191,8 @@ character-leaves n c b s B is =
         subst (λ (x : Rec). Left 10 n [] s (byKind (kindOf b) (receivingFirst n c (keptOf x) b s st) (receivingMore n c b s st) (refuse s 4))) (sym (y .1))
         (by-kind 10 n [] s is (kindOf b) _ _ refl (λ e. first-left n c s is st d v low code (y .0) t b e) (λ e. more-left n c s is st d v low code (y .0) t b))
 
-pub character-again : (n c : ℕ) (b s : List ℕ) → Bytes s → isStore s ≡ true → isStore (downloadingCharacter n c b s .bytes) ≡ true
-character-again n c b s B is = character-leaves n c b s B is .0
+pub character-again : (n c : ℕ) (b s : List ℕ) → isStore s ≡ true → isStore (downloadingCharacter n c b s .bytes) ≡ true
+character-again n c b s is = character-leaves n c b s is .0
 
 -- ── making fresh, removing
 pub fresh-leaves : (s : List ℕ) → makingFresh s .answer ≡ 0 → (isStore (makingFresh s .bytes) ≡ true) × (fontsOf (makingFresh s .bytes) ≡ [])
@@ -208,11 +209,11 @@ fresh-leaves s e = go (leb 12 (length s) & leb (length s) 65536) refl e
         (encoded (fresh (length s)) v, fonts-encoded (fresh (length s)) v ∙ (unfold fontsIn in refl))
     go false q z = absurd (omega (arith, z))
 
-pub removed-leaves : (n : ℕ) (s : List ℕ) → Bytes s → isStore s ≡ true → Left 0 n [] s (removingFont n s)
+pub removed-leaves : (n : ℕ) (s : List ℕ) → isStore s ≡ true → Left 0 n [] s (removingFont n s)
 unfolding removingFont onFont onStore fontsIn
-removed-leaves n s B is =
+removed-leaves n s is =
     let w = is-store s is in
-    let v = encode-decode s (w .0) B (w .1) .1 in
+    let v = valid-decode s (w .0) (w .1) in
     rw (w .1)
     (by-check 0 n [] s is (leb n 32767) 2 _ refl (λ l. by-find 0 n [] s is (find (keyOf n 0) (w .0 .recs)) 6 _ refl (λ r q. with-left n 0 [] s (w .0) (w .1) (removed-valid (w .0) v n))))
 
@@ -230,11 +231,11 @@ module _ (s : List ℕ) (is : isStore s ≡ true) where
   same-find none m f g = (is, refl)
   same-find (some r) m f g = g r refl
 
-pub cut-leaves : (n c : ℕ) (s : List ℕ) → Bytes s → isStore s ≡ true → Same s (removingCharacter n c s)
+pub cut-leaves : (n c : ℕ) (s : List ℕ) → isStore s ≡ true → Same s (removingCharacter n c s)
 unfolding removingCharacter onCharacter onStore
-cut-leaves n c s B is =
+cut-leaves n c s is =
     let w = is-store s is in
-    let v = encode-decode s (w .0) B (w .1) .1 in
+    let v = valid-decode s (w .0) (w .1) in
     rw (w .1)
     (same-check s is (numbered n c) 2 _ (λ l.
     same-find s is (find (keyOf n 0) (w .0 .recs)) 6 _ (λ r q. same-find s is (find (keyOf n (c + 1)) (w .0 .recs)) 7 _ (λ x y. cut (w .0) (w .1) v r (in-range n c l .1) q))))
@@ -262,8 +263,8 @@ module _ (n : ℕ) (b s : List ℕ) (k : isStore s ≡ true) (l : n ≤ 32767) w
   known-block c m = rw (is-store s k .1, le-leb n 32767 l, le-leb c 255 m)
 
 -- what a call leaves, as its contract says
-pub font-left : (n : ℕ) (b s t : List ℕ) → Bytes s → isStore s ≡ true → t ≡ downloadingFont n b s .bytes → (t ≡ downloadingFont n b s .bytes) × (isStore t ≡ true)
-font-left n b s t B k e = (e, rw e (font-again n b s B k))
+pub font-left : (n : ℕ) (b s t : List ℕ) → isStore s ≡ true → t ≡ downloadingFont n b s .bytes → (t ≡ downloadingFont n b s .bytes) × (isStore t ≡ true)
+font-left n b s t k e = (e, rw e (font-again n b s k))
 
-pub character-left : (n c : ℕ) (b s t : List ℕ) → Bytes s → isStore s ≡ true → t ≡ downloadingCharacter n c b s .bytes → (t ≡ downloadingCharacter n c b s .bytes) × (isStore t ≡ true)
-character-left n c b s t B k e = (e, rw e (character-again n c b s B k))
+pub character-left : (n c : ℕ) (b s t : List ℕ) → isStore s ≡ true → t ≡ downloadingCharacter n c b s .bytes → (t ≡ downloadingCharacter n c b s .bytes) × (isStore t ≡ true)
+character-left n c b s t k e = (e, rw e (character-again n c b s k))

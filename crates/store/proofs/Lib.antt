@@ -28,3 +28,4 @@ pub mod Drawings
 pub mod Locates
 pub mod Again
 pub mod Leaves
+pub mod Holds

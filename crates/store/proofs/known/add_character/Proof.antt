@@ -20,7 +20,7 @@ returns c =
     let k7 = c .before .before .before .before .before .before .before in
     let k8 = k7 .before in
     let e = answered (known-block _ (now (k8 .args .block)) _ (k8 .pre .0) (k8 .pre .1) _ (k8 .pre .2)) in
-    (c .before .before .put-block .ensures .0 ∙ e .0, character-left _ _ (now (k8 .args .block)) _ _ (λ i. k7 .slice-known .given i .fits) (k8 .pre .0) (c .before .before .put-block .ensures .1 ∙ e .1))
+    (c .before .before .put-block .ensures .0 ∙ e .0, character-left _ _ (now (k8 .args .block)) _ _ (k8 .pre .0) (c .before .before .put-block .ensures .1 ∙ e .1))
 
 pub add-character-spec : {M : Type 1} → statement M
 add-character-spec =

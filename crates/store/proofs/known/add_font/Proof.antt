@@ -23,7 +23,7 @@ returns c =
     let k5 = k3 .before .before in
     let k6 = k5 .before in
     let e = answered (known-refused _ (now (k6 .args .block)) _ (k6 .pre .0) (k6 .pre .1) _ (sym (k3 .read-header .ensures) ∙ c .before .k .given .1)) in
-    (e .0, font-left _ (now (k6 .args .block)) _ _ (λ i. k5 .slice-known .given i .fits) (k6 .pre .0) (e .1))
+    (e .0, font-left _ (now (k6 .args .block)) _ _ (k6 .pre .0) (e .1))
 
 returns-2 : tie.Need-returns-2
 returns-2 c =
@@ -32,7 +32,7 @@ returns-2 c =
     let k10 = k8 .before .before in
     let k11 = k10 .before in
     let e = answered (known-taken _ (now (k11 .args .block)) _ (k11 .pre .0) (k11 .pre .1) (sym (k8 .read-header .ensures) ∙ k6 .enum-told .given .1)) in
-    (c .before .before .put-font .ensures .0 ∙ e .0, font-left _ (now (k11 .args .block)) _ _ (λ i. k10 .slice-known .given i .fits) (k11 .pre .0) (c .before .before .put-font .ensures .1 ∙ e .1))
+    (c .before .before .put-font .ensures .0 ∙ e .0, font-left _ (now (k11 .args .block)) _ _ (k11 .pre .0) (c .before .before .put-font .ensures .1 ∙ e .1))
 
 pub add-font-spec : {M : Type 1} → statement M
 add-font-spec =
