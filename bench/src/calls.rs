@@ -1,105 +1,9 @@
 //! The calls to be timed, on both sides. Nothing is copied or allocated here,
 //! so that a timed call is the call alone.
 
+use crate::c;
 use marlinfold_reference as reference;
 use reference::Request;
-
-mod c {
-    #[repr(C)]
-    #[derive(Clone, Copy)]
-    pub struct Two {
-        pub refusal: u32,
-        pub number: u32,
-    }
-
-    #[repr(C)]
-    #[derive(Clone, Copy)]
-    pub struct StreamRead {
-        pub refusal: u32,
-        pub done: u64,
-        pub refused: u64,
-        pub place: u64,
-    }
-
-    // As include/marlinfold.h declares them.
-    extern "C" {
-        pub fn mf_make_fresh(store: *mut u8, store_len: usize) -> u32;
-        pub fn mf_download_font(
-            store: *mut u8,
-            store_len: usize,
-            block: *const u8,
-            block_len: usize,
-            font: u32,
-        ) -> u32;
-        pub fn mf_download_character(
-            store: *mut u8,
-            store_len: usize,
-            block: *const u8,
-            block_len: usize,
-            font: u32,
-            code: u32,
-        ) -> u32;
-        pub fn mf_remove_font(store: *mut u8, store_len: usize, font: u32) -> u32;
-        pub fn mf_remove_character(store: *mut u8, store_len: usize, font: u32, code: u32) -> u32;
-        pub fn mf_choose(
-            store: *const u8,
-            store_len: usize,
-            symbol_set: u32,
-            spacing: u32,
-            pitch: u32,
-            height: u32,
-            style: u32,
-            weight: i32,
-            typeface: u32,
-            orientation: u32,
-        ) -> Two;
-        pub fn mf_tell_font(
-            store: *const u8,
-            store_len: usize,
-            out: *mut u8,
-            out_len: usize,
-            font: u32,
-        ) -> Two;
-        pub fn mf_tell_character(
-            store: *const u8,
-            store_len: usize,
-            out: *mut u8,
-            out_len: usize,
-            font: u32,
-            code: u32,
-        ) -> Two;
-        pub fn mf_draw_row(
-            store: *const u8,
-            store_len: usize,
-            out: *mut u8,
-            out_len: usize,
-            font: u32,
-            code: u32,
-            row: u32,
-        ) -> u32;
-        pub fn mf_draw_picture(
-            store: *const u8,
-            store_len: usize,
-            out: *mut u8,
-            out_len: usize,
-            font: u32,
-            code: u32,
-        ) -> u32;
-        pub fn mf_write_font(
-            store: *const u8,
-            store_len: usize,
-            out: *mut u8,
-            out_len: usize,
-            font: u32,
-        ) -> Two;
-        pub fn mf_read_stream(
-            store: *mut u8,
-            store_len: usize,
-            stream: *const u8,
-            stream_len: usize,
-        ) -> StreamRead;
-    }
-}
 
 /// One call with its numbers; blocks, streams and outputs come beside it.
 #[derive(Clone, Copy)]
@@ -133,7 +37,7 @@ pub fn ours(call: Call, store: &mut [u8], input: &[u8], out: &mut [u8]) -> Answe
     let (at, len) = (store.as_mut_ptr(), store.len());
     let (block, block_len) = (input.as_ptr(), input.len());
     let (to, to_len) = (out.as_mut_ptr(), out.len());
-    let pair = |answer: c::Two| two(answer.refusal, answer.number);
+    let told = |answer: c::Told| two(answer.refusal, answer.count);
     // SAFETY: each pointer is valid for the length beside it, and the three
     // slices don't overlap.
     unsafe {
@@ -149,21 +53,24 @@ pub fn ours(call: Call, store: &mut [u8], input: &[u8], out: &mut [u8]) -> Answe
             Call::RemoveCharacter { font, code } => {
                 bare(c::mf_remove_character(at, len, font, code))
             }
-            Call::Choose(r) => pair(c::mf_choose(
-                at,
-                len,
-                r.symbol_set,
-                r.spacing,
-                r.pitch,
-                r.height,
-                r.style,
-                r.weight,
-                r.typeface,
-                r.orientation,
-            )),
-            Call::TellFont { font } => pair(c::mf_tell_font(at, len, to, to_len, font)),
+            Call::Choose(r) => {
+                let chosen = c::mf_choose(
+                    at,
+                    len,
+                    r.symbol_set,
+                    r.spacing,
+                    r.pitch,
+                    r.height,
+                    r.style,
+                    r.weight,
+                    r.typeface,
+                    r.orientation,
+                );
+                two(chosen.refusal, chosen.font)
+            }
+            Call::TellFont { font } => told(c::mf_tell_font(at, len, to, to_len, font)),
             Call::TellCharacter { font, code } => {
-                pair(c::mf_tell_character(at, len, to, to_len, font, code))
+                told(c::mf_tell_character(at, len, to, to_len, font, code))
             }
             Call::DrawRow { font, code, row } => {
                 bare(c::mf_draw_row(at, len, to, to_len, font, code, row))
@@ -171,7 +78,10 @@ pub fn ours(call: Call, store: &mut [u8], input: &[u8], out: &mut [u8]) -> Answe
             Call::DrawPicture { font, code } => {
                 bare(c::mf_draw_picture(at, len, to, to_len, font, code))
             }
-            Call::WriteFont { font } => pair(c::mf_write_font(at, len, to, to_len, font)),
+            Call::WriteFont { font } => {
+                let written = c::mf_write_font(at, len, to, to_len, font);
+                two(written.refusal, written.length)
+            }
             Call::ReadStream => {
                 let read = c::mf_read_stream(at, len, block, block_len);
                 [u64::from(read.refusal), read.done, read.refused, read.place]

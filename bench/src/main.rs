@@ -6,6 +6,8 @@
 //! Both sides take turns on the same buffers, and the best time of each counts:
 //! what else the machine does can only make a call slower.
 
+#[path = "../../tests/differential/src/c.rs"]
+mod c;
 mod calls;
 mod inputs;
 

@@ -10,6 +10,7 @@
 //! it is made.
 
 mod book;
+mod c;
 mod calls;
 mod chance;
 mod generate;

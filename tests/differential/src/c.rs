@@ -1,0 +1,105 @@
+//! The C interface, as include/marlinfold.h declares it; the benchmark takes it from here too.
+
+#[repr(C)]
+pub struct Chosen {
+    pub refusal: u32,
+    pub font: u32,
+}
+
+#[repr(C)]
+pub struct Told {
+    pub refusal: u32,
+    pub count: u32,
+}
+
+#[repr(C)]
+pub struct Written {
+    pub refusal: u32,
+    pub length: u32,
+}
+
+#[repr(C)]
+pub struct StreamRead {
+    pub refusal: u32,
+    pub done: u64,
+    pub refused: u64,
+    pub place: u64,
+}
+
+extern "C" {
+    pub fn mf_make_fresh(store: *mut u8, store_len: usize) -> u32;
+    pub fn mf_download_font(
+        store: *mut u8,
+        store_len: usize,
+        block: *const u8,
+        block_len: usize,
+        font: u32,
+    ) -> u32;
+    pub fn mf_download_character(
+        store: *mut u8,
+        store_len: usize,
+        block: *const u8,
+        block_len: usize,
+        font: u32,
+        code: u32,
+    ) -> u32;
+    pub fn mf_remove_font(store: *mut u8, store_len: usize, font: u32) -> u32;
+    pub fn mf_remove_character(store: *mut u8, store_len: usize, font: u32, code: u32) -> u32;
+    pub fn mf_choose(
+        store: *const u8,
+        store_len: usize,
+        symbol_set: u32,
+        spacing: u32,
+        pitch: u32,
+        height: u32,
+        style: u32,
+        weight: i32,
+        typeface: u32,
+        orientation: u32,
+    ) -> Chosen;
+    pub fn mf_tell_font(
+        store: *const u8,
+        store_len: usize,
+        out: *mut u8,
+        out_len: usize,
+        font: u32,
+    ) -> Told;
+    pub fn mf_tell_character(
+        store: *const u8,
+        store_len: usize,
+        out: *mut u8,
+        out_len: usize,
+        font: u32,
+        code: u32,
+    ) -> Told;
+    pub fn mf_draw_row(
+        store: *const u8,
+        store_len: usize,
+        out: *mut u8,
+        out_len: usize,
+        font: u32,
+        code: u32,
+        row: u32,
+    ) -> u32;
+    pub fn mf_draw_picture(
+        store: *const u8,
+        store_len: usize,
+        out: *mut u8,
+        out_len: usize,
+        font: u32,
+        code: u32,
+    ) -> u32;
+    pub fn mf_write_font(
+        store: *const u8,
+        store_len: usize,
+        out: *mut u8,
+        out_len: usize,
+        font: u32,
+    ) -> Written;
+    pub fn mf_read_stream(
+        store: *mut u8,
+        store_len: usize,
+        stream: *const u8,
+        stream_len: usize,
+    ) -> StreamRead;
+}
