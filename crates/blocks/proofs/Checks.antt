@@ -1,15 +1,13 @@
 -- What a list of checks that takes a block says of each, and what `if !test(..)` tells of the test's definition. Assumes nothing.
 use Prim.Native.Nat.{ℕ, _≤_}
 use mathlib.Core.Path.{_≡_, refl, sym, _∙_}
-use mathlib.Core.Bool.{Bool, true, false, not, _&&_, cond}
+use mathlib.Core.Bool.{Bool, true, false, not, _&&_}
 use mathlib.Core.List.{List, [], _∷_}
-use native.Mathlib.Omega.{arith}
 use borrow.Author.Tests.{leb-true, not-true, not-false}
 use lib.Dec.{leb}
 use Rattle.blocks.specs.Field.{within}
 use Rattle.blocks.specs.Check.{Check, verdict}
-use Rattle.blocks.specs.declared.Verdict.{Verdict}
-use Rattle.blocks.specs.declared.Verdict.the-variants.{Taken, Refused}
+use Rattle.blocks.specs.declared.Verdict.the-variants.{Taken}
 
 pub failed : {r t : Bool} → r ≡ t → not r ≡ true → t ≡ false
 failed {r} e h = sym e ∙ not-true r h

@@ -1,17 +1,16 @@
 -- What is kept of an accepted first block's descriptor is just what `isKeptFirst` tests, and keeping it again changes nothing. Assumes nothing.
-use Prim.Native.Nat.{ℕ, _+_, _≤_, _<_}
-use mathlib.Core.Path.{_≡_, refl, sym, ap, _∙_}
-use mathlib.Core.List.{List, [], _∷_}
-use mathlib.Core.Bool.{Bool, true, false, not, _&&_, cond}
+use Prim.Native.Nat.{ℕ, _≤_}
+use mathlib.Core.Path.{_≡_, refl, _∙_}
+use mathlib.Core.List.{List}
+use mathlib.Core.Bool.{Bool, true, false, not, _&&_}
 use native.Mathlib.Omega.{arith}
-use borrow.Author.Tests.{eq-eqb, eqb-true, eqb-false, leb-true, le-leb, not-true}
-use lib.Dec.{T, leb, ltb, ltb→lt, eqb}
+use borrow.Author.Tests.{eqb-true, leb-true, not-true}
+use lib.Dec.{T, ltb, ltb→lt, eqb}
 use lib.ListN.{length, set, take, length-set}
 use lib.Seq.{getD-set-same, getD-take, length-take-le, take-all}
-use Rattle.blocks.specs.Field.{byte, word, putWord, floorWord, negative}
+use Rattle.blocks.specs.Field.{byte, word, negative}
 use Rattle.blocks.specs.Character.{kindOf, firstForm, firstFields, firstSize, firstChecks, readFirst, fixFirst, keptFirst, fixedFirst, isKeptFirst}
 use Rattle.blocks.specs.declared.Verdict.the-variants.{Taken}
-use Rattle.blocks.specs.declared.character.Kind.{Kind}
 use Rattle.blocks.specs.declared.character.Kind.the-variants.{First, Continuation, Unknown}
 use Rattle.blocks.proofs.Checks.{both, taken}
 use Rattle.blocks.proofs.Fields.{other, floor-other, floor-length, floor-zero, stay}

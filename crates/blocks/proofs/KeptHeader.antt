@@ -1,16 +1,15 @@
 -- What is kept of an accepted header is just what `isKeptHeader` tests, and keeping it again changes nothing. Assumes nothing.
-use Prim.Native.Nat.{ℕ, _+_, _≤_, _<_}
-use mathlib.Core.Path.{_≡_, refl, sym, _∙_}
+use Prim.Native.Nat.{ℕ, _≤_}
+use mathlib.Core.Path.{_≡_, _∙_}
 use mathlib.Core.List.{List, [], _∷_}
 use mathlib.Core.Bool.{Bool, true, false, not, _&&_}
 use native.Mathlib.Omega.{arith}
-use borrow.Author.Tests.{eq-eqb, eqb-true, le-leb}
+use borrow.Author.Tests.{eqb-true}
 use lib.Dec.{T, leb, ltb, ltb→lt, eqb}
 use lib.ListN.{length, set, take, length-set}
 use lib.Seq.{getD-set-same, getD-take, length-take-le, take-all}
 use Rattle.blocks.specs.Field.{byte, word, putWord, capWord, within}
-use Rattle.blocks.specs.Header.{headerForm, headerFields, headerChecks, readHeader, fixHeader, keptHeader, fixedHeader, isKeptHeader}
-use Rattle.blocks.specs.Check.{verdict}
+use Rattle.blocks.specs.Header.{headerFields, headerChecks, readHeader, fixHeader, keptHeader, fixedHeader, isKeptHeader}
 use Rattle.blocks.specs.declared.Verdict.the-variants.{Taken}
 use Rattle.blocks.proofs.Checks.{both, taken, within-low}
 use Rattle.blocks.proofs.Fields.{other, put-other, cap-other, cap-length, cap-low, stay}

@@ -6,13 +6,13 @@ use mathlib.Core.Bool.{Bool, true, false, not, cond}
 use native.Mathlib.Numerals.{add-one}
 use native.Mathlib.Omega.{arith}
 use borrow.Author.Tests.{lt-ltb, le-ltb, ltb-true, ltb-false, eqb-true, eqb-false, ne-eqb, eq-eqb, lt-leb, le-leb}
-use lib.Dec.{ltb, leb, eqb}
+use lib.Dec.{ltb, eqb}
 use lib.ListN.{length, drop, getD, length-drop, drop-of-length-le}
 use lib.Seq.{drop-cons}
 use Rattle.blocks.specs.Runs.{fillRow, endRow, stepRun, scanFrom, isFinished}
 use Rattle.blocks.specs.Line.{placeOf, insideOf, stopOf, passOf}
 use Rattle.blocks.specs.declared.runs.Place.{Place}
-use Rattle.blocks.specs.declared.runs.Place.the-variants.{Count, White, Black, Finished}
+use Rattle.blocks.specs.declared.runs.Place.the-variants.{Count, Finished}
 use Rattle.blocks.specs.declared.runs.Reader.{Reader}
 use Rattle.blocks.specs.declared.runs.Inside.{Inside}
 use Rattle.blocks.specs.declared.runs.Filled.the-variants.{Over, Whole, Part}

@@ -1,13 +1,13 @@
 -- A field of w bits is -m up to m, as a signed number, exactly if it is at most m or at least 2 ^ w - m. One law for each width and bound.
 -- Assumes nothing.
-use Prim.Native.Nat.{ℕ, zero, suc, _+_, _-_, _/_, _^_, _≤_, _<_}
+use Prim.Native.Nat.{ℕ, zero, suc, _-_, _/_, _^_, _≤_, _<_}
 use mathlib.Core.Path.{_≡_, refl, sym, _∙_}
 use mathlib.Core.Bool.{Bool, true, false, _&&_, _||_}
 use native.Mathlib.Omega.{arith}
-use borrow.Author.Tests.{le-leb, lt-leb, lt-ltb, le-ltb, leb-true, leb-false, ltb-true, ltb-false}
+use borrow.Author.Tests.{le-leb, lt-leb, lt-ltb, le-ltb, leb-true, ltb-true, ltb-false}
 use lib.Dec.{leb, ltb, leb·zero, leb·suc-suc}
-use lib.IntN.{ℤ, pos, negsuc, subℕ}
-use lib.Signed.{leZ, ltZ}
+use lib.IntN.{pos, negsuc, subℕ}
+use lib.Signed.{leZ}
 use Rattle.blocks.specs.Field.{signed, signedWithin, negative}
 
 -- two tests of which each implies the other

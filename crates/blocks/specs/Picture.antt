@@ -1,7 +1,7 @@
 -- Document 01, picture data of either class: when it is complete, and what is kept of it.
 use Prim.Native.Nat.{ℕ}
 use mathlib.Core.List.{List, []}
-use mathlib.Core.Bool.{Bool, true, false, _&&_, cond}
+use mathlib.Core.Bool.{cond}
 use lib.Dec.{leb, eqb}
 use lib.ListN.{length, take}
 use Rattle.blocks.specs.Character.{pictureSize, dataLimit}

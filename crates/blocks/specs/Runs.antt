@@ -1,7 +1,7 @@
 -- Document 01, "Rows", class 2: what the reader does with each byte, and with a run of them.
-use Prim.Native.Nat.{ℕ, suc, _+_}
+use Prim.Native.Nat.{ℕ, _+_}
 use mathlib.Core.List.{List, [], _∷_}
-use mathlib.Core.Bool.{Bool, true, false, not, cond}
+use mathlib.Core.Bool.{Bool, true, false, cond}
 use lib.Dec.{ltb, leb, eqb}
 use Rattle.blocks.specs.declared.runs.Place.{Place}
 use Rattle.blocks.specs.declared.runs.Place.the-variants.{Count, White, Black, Finished}

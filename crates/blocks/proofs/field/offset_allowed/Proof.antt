@@ -1,7 +1,6 @@
 -- `blocks::offset_allowed` meets its contract, by the law of signed fields at 16 bits. Assumes nothing.
 use mathlib.Core.Path.{sym}
 use native.Mathlib.Omega.{arith}
-use lib.Dec.{lit<}
 use Rattle.blocks.proofs.Signed.{signed-within}
 use Rattle.blocks.proofs.field.offset_allowed.Statement.{statement}
 use Rattle.blocks.proofs.field.offset_allowed.Tie as tie

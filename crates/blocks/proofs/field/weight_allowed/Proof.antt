@@ -1,7 +1,6 @@
 -- `blocks::weight_allowed` meets its contract, by the law of signed fields at 8 bits. Assumes nothing.
 use mathlib.Core.Path.{sym}
 use native.Mathlib.Omega.{arith}
-use lib.Dec.{lit<}
 use Rattle.blocks.proofs.Signed.{signed-within}
 use Rattle.blocks.proofs.field.weight_allowed.Statement.{statement}
 use Rattle.blocks.proofs.field.weight_allowed.Tie as tie

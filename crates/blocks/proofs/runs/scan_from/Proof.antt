@@ -1,6 +1,6 @@
 use Prim.Native.Nat.{_-_, _+_, _≤_}
 use native.Mathlib.Nat.{add-zero}
-use mathlib.Core.Path.{_≡_, refl, sym, _∙_}
+use mathlib.Core.Path.{_≡_, sym, _∙_}
 use lib.ListN.{length, drop}
 use Rattle.blocks.specs.Runs.{scanFrom}
 use Rattle.blocks.proofs.Scanning.{going-done, scan-done, scan-count, scan-next, scan-past, scan-end}

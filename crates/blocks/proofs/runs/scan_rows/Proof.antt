@@ -1,7 +1,6 @@
 use Prim.Native.Nat.{_-_, _+_, _≤_}
 use mathlib.Core.Path.{_≡_, refl, sym, _∙_}
-use lib.ListN.{length, drop, getD}
-use denote.Ref.{now}
+use lib.ListN.{length, drop}
 use Rattle.blocks.specs.Runs.{scanFrom}
 use Rattle.blocks.specs.declared.runs.Place.the-variants.{Count}
 use Rattle.blocks.proofs.Scanning.{scan-end}
