@@ -1,20 +1,18 @@
 -- Demand 3. Assumes nothing.
 use Prim.Native.Nat.{ℕ, _<_, _≤_}
-use mathlib.Core.Path.{_≡_, refl, sym, ap, _∙_, subst}
-use mathlib.Core.Logic.{_⊎_, inl, inr, ⊎-elim, _↔_}
+use mathlib.Core.Path.{_≡_, refl, sym, ap, _∙_}
+use mathlib.Core.Logic.{_⊎_, inl, inr, ⊎-elim}
 use mathlib.Core.List.{List, [], _∷_, _++_}
 use mathlib.Core.Bool.{Bool, true, false, cond}
-use mathlib.Core.Option.{Option, none, some}
 use native.Mathlib.Omega.{arith}
 use lib.ListN.{length}
 use lib.Dec.{eqb, leb, ltb}
 use borrow.Author.Tests.{ltb-true, ltb-false, lt-ltb, eqb-true, eqb-false, eq-eqb}
 use Rattle.blocks.specs.Header.{keptHeader}
-use Rattle.store.specs.Model.{Store, decode}
 use Rattle.store.specs.Answer.{onStore, checked, refuse, done}
 use Rattle.store.specs.Num.{_&_}
 use Rattle.store.specs.Fonts.{Font, isStore, fontsOf, fontsBelow, fontsAbove, fontsWith, fontsAfter}
-use Rattle.store.specs.Calls.{fresh, makingFresh, downloadingFont, removingFont, removingCharacter}
+use Rattle.store.specs.Calls.{fresh, makingFresh, downloadingFont, removingFont}
 use Rattle.store.specs.Download.{downloadingCharacter}
 use Rattle.store.proofs.Locates.{is-store}
 use Rattle.store.proofs.KeptFonts.{begun}
@@ -23,13 +21,13 @@ use Rattle.choice.specs.Lists.{In, keep}
 use Rattle.choice.specs.Range.{inRange}
 use Rattle.choice.specs.Steps.{choose}
 use Rattle.choice.specs.Choosing.{choosing}
-use Rattle.choice.specs.Right.{Keyed, Right, Without, With}
+use Rattle.choice.specs.Right.{Keyed, Without, With}
 use Rattle.choice.specs.declared.Request.{Request}
 use Rattle.choice.specs.declared.Chosen.the-variants.{Number}
 use Rattle.choice.proofs.Least.{in-keep, keep-out}
 use Rattle.choice.proofs.Choice.{rising-keyed}
 use Rattle.choice.proofs.Right.{claim}
-use Rattle.stream.specs.Reading.{Course, outset, part, downloaded, obey, obeyAll, spelledFrom, readFrom, reading}
+use Rattle.stream.specs.Reading.{Course, outset, part, obey, obeyAll, spelledFrom, readFrom, reading}
 use Rattle.stream.specs.declared.command.Command.{Command}
 use Rattle.stream.specs.declared.command.Command.the-variants.{SetFont, SetCode, FontBlock, CharacterBlock, Broken, End}
 use Rattle.marlinfold.specs.Demands.{Call, make-fresh, download-font, download-character, remove-font, remove-character, choose-font, tell-font, tell-character, draw-row, draw-picture, write-font, read-stream, leaves, Deed, noted, notedAll, deedOf, streamDeeds, deeds, ran, bookOf, Removes, by-removal, by-no-room, Chooses, Demand3}

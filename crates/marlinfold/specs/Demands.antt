@@ -3,7 +3,7 @@ use Prim.Native.Nat.{ℕ}
 use mathlib.Core.Path.{_≡_}
 use mathlib.Core.Logic.{_⊎_}
 use mathlib.Core.List.{List, [], _∷_, _++_}
-use mathlib.Core.Bool.{Bool, true, cond}
+use mathlib.Core.Bool.{true, cond}
 use lib.Dec.{eqb}
 use Rattle.blocks.specs.Header.{keptHeader}
 use Rattle.store.specs.Fonts.{Font, isStore, fontsAfter}

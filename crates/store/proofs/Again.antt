@@ -3,7 +3,7 @@ use mathlib.Core.Path.{_≡_, refl, sym, ap, _∙_, subst}
 use mathlib.Core.List.{List, [], _∷_, _++_}
 use mathlib.Core.Bool.{Bool, true, false, cond}
 use mathlib.Core.Option.{Option, none, some}
-use Prim.Native.Nat.{ℕ, _+_, _*_, _-_, _<_, _≤_}
+use Prim.Native.Nat.{ℕ, _+_, _-_, _≤_}
 use native.Mathlib.Omega.{arith}
 use lib.ListN.{length, drop}
 use lib.Dec.{leb, eqb}
@@ -12,7 +12,6 @@ use Rattle.blocks.specs.Check.{Check, verdict}
 use Rattle.blocks.specs.Header.{orientation, headerChecks, readHeader, keptHeader}
 use Rattle.blocks.specs.Character.{class, width, height, characterLength, kindOf, firstChecks, readFirst, keptFirst, isKeptFirst}
 use Rattle.blocks.specs.Picture.{judge, keptData}
-use Rattle.blocks.specs.declared.Verdict.{Verdict}
 use Rattle.blocks.specs.declared.Verdict.the-variants.{Taken, Refused}
 use Rattle.blocks.specs.declared.character.Kind.{Kind}
 use Rattle.blocks.specs.declared.character.Kind.the-variants.{First, Continuation, Unknown}
@@ -23,17 +22,17 @@ use Rattle.blocks.proofs.KeptFirst.{kept-first}
 use Rattle.blocks.proofs.KeptData.{held-whole, held-unfinished}
 use Rattle.store.specs.Layout.{keyOf}
 use Rattle.store.specs.Num.{_&_}
-use Rattle.store.specs.Model.{Rec, font, character, Store, under, alone, allowed, sorted, markOk, heldOf, heldUnder, isKept, run, encode, decode, total}
-use Rattle.store.specs.Order.{below, find, after}
+use Rattle.store.specs.Model.{Rec, font, character, Store, under, alone, sorted, markOk, heldUnder, isKept, run, encode, decode, total}
+use Rattle.store.specs.Order.{find}
 use Rattle.store.specs.Fonts.{Font, fontsIn, isStore, fontsOf, fontsWith, fontsAfter}
 use Rattle.store.specs.Answer.{onStore, checked, taking, finding, numbered, onFont, onCharacter, After, refuse, done}
 use Rattle.store.specs.Calls.{fresh, makingFresh, used, withFont, putFont, removingFont, removeCharacter, removingCharacter, removeFont, puttingFont, downloadingFont, withCharacter, keptOf, dataOf}
 use Rattle.store.specs.Download.{names, ifWithin, byKind, markFor, putCharacter, placing, receiving, receivingFirst, receivingMore, puttingBlock, downloadingCharacter}
 use Rattle.store.proofs.Numbers.{both-l, both-r}
-use Rattle.store.proofs.Records.{shaped, allowed-char}
+use Rattle.store.proofs.Records.{shaped}
 use Rattle.store.proofs.Codec.{Valid, decode-encode}
 use Rattle.store.proofs.Holds.{valid-decode}
-use Rattle.store.proofs.Lookup.{found, font-at, char-at, after-font}
+use Rattle.store.proofs.Lookup.{found, font-at, char-at, kept-under}
 use Rattle.store.proofs.Replaced.{no-font, new-font, new-char}
 use Rattle.store.proofs.Totals.{length-run}
 use Rattle.store.proofs.Changed.{total-replaced, valid-font, valid-char, valid-cut}
@@ -166,11 +165,7 @@ module _ (n c : ℕ) (s : List ℕ) (is : isStore s ≡ true) (st : Store) (e : 
       subst (λ (x : Rec). Left 10 n [] s (receiving n c (keptOf x) (dataOf x ++ drop 2 b) s st)) (sym (y .2)) (received-left (y .0) (y .1 ++ drop 2 b) (kept-by r (y .0) (y .1) q (y .2)))))
     where
       kept-by : (r : Rec) (h d : List ℕ) → find (keyOf n (c + 1)) (st .recs) ≡ some r → r ≡ character n c h d → isKeptFirst h (orientation g) ≡ true
-      kept-by r h d q i = unfold under in
-          let f = found (keyOf n (c + 1)) 0 alone (character n c h d) (st .recs) (v .order) (q ∙ ap some i) in
-          let t : after alone (below (keyOf n (c + 1)) (st .recs)) ≡ under alone (font n g) = after-font n (c + 1) g (st .recs) (v .order) there (omega arith) (omega arith) in
-          let o : allowed (under alone (font n g)) (character n c h d) ≡ true = rw t at (f .ok) in
-          allowed-char (under alone (font n g)) n c h d o .kept
+      kept-by r h d q i = kept-under n c g h d (st .recs) (v .order) code there (q ∙ ap some i)
 
 pub character-leaves : (n c : ℕ) (b s : List ℕ) → isStore s ≡ true → Left 10 n [] s (downloadingCharacter n c b s)
 unfolding downloadingCharacter puttingBlock onStore

@@ -1,13 +1,13 @@
 -- The bytes after records were replaced are those of the changed store, which is valid. Assumes nothing.
 use mathlib.Core.Path.{_≡_, refl, sym, ap, _∙_}
-use mathlib.Core.List.{List, [], _∷_, _++_, append-nil}
+use mathlib.Core.List.{List, [], _++_}
 use mathlib.Core.Bool.{Bool, true, false}
 use mathlib.Core.Option.{some}
-use Prim.Native.Nat.{ℕ, _+_, _-_, _*_, _<_, _≤_}
+use Prim.Native.Nat.{ℕ, _+_, _-_, _≤_}
 use native.Mathlib.Omega.{arith}
 use lib.ListN.{length, replicate, length-append}
 use Rattle.store.specs.Layout.{keyOf}
-use Rattle.store.specs.Model.{Rec, font, character, Mark, Store, bytesOf, run, markBytes, encode, alone, sorted, opened, unfinished, markOk, sizeOf, total}
+use Rattle.store.specs.Model.{Rec, font, Mark, Store, run, markBytes, encode, alone, sorted, opened, unfinished, markOk, total}
 use Rattle.store.specs.Num.{_&_}
 use Rattle.store.specs.Order.{below, from, find, replaced}
 use Rattle.store.specs.Change.{moved, put, unmarkedFor}

@@ -1,13 +1,13 @@
 -- What the calls on characters leave, by what was found. Assumes nothing.
 use mathlib.Core.Path.{_≡_, refl, sym, ap, _∙_}
-use mathlib.Core.List.{List, [], _∷_, _++_}
-use Prim.Native.Nat.{ℕ, _+_, _*_, _-_, _<_, _≤_}
+use mathlib.Core.List.{List, [], _++_}
+use Prim.Native.Nat.{ℕ, _+_, _-_, _≤_}
 use native.Mathlib.Omega.{arith}
 use lib.ListN.{length, replicate}
 use Rattle.store.specs.Layout.{keyOf}
-use Rattle.store.specs.Model.{Rec, Store, run, encode, total}
+use Rattle.store.specs.Model.{run, encode, total}
 use Rattle.store.specs.Order.{below}
-use Rattle.store.specs.Change.{moved, put, unmarkedAt}
+use Rattle.store.specs.Change.{moved, unmarkedAt}
 use Rattle.store.specs.Calls.{closedAt, withCharacter, removeCharacter}
 use Rattle.store.specs.declared.walk.Places.{Places}
 use Rattle.store.proofs.Puts.{put-nil}

@@ -1,19 +1,19 @@
 -- The laws of encode and decode.
-use mathlib.Core.Path.{_≡_, refl, sym, ap, ap₂, _∙_, subst, fun-ext}
+use mathlib.Core.Path.{_≡_, refl, sym, ap, _∙_, subst, fun-ext}
 use mathlib.Core.List.{List, [], _∷_, _++_, append-assoc}
 use mathlib.Core.Bool.{Bool, true, false, cond}
 use mathlib.Core.Option.{Option, none, some}
-use Prim.Native.Nat.{ℕ, zero, suc, _+_, _*_, _/_, _%_, _-_, _^_, _<_, _≤_}
+use Prim.Native.Nat.{ℕ, zero, suc, _+_, _-_, _<_, _≤_}
 use native.Mathlib.Omega.{arith}
-use lib.ListN.{length, getD, take, drop, replicate, length-take, length-drop, length-append, length-replicate, take-append-drop}
-use lib.Seq.{getD-take, getD-drop, drop-drop, take-at, drop-at, take-all, take-nil, length-take-le}
+use lib.ListN.{length, drop, replicate, length-drop, length-append, length-replicate}
+use lib.Seq.{drop-at}
 use lib.Dec.{eqb, leb}
-use borrow.Author.Tests.{eqb-true, eqb-false, leb-true, leb-false, le-leb, eq-eqb}
+use borrow.Author.Tests.{eqb-true, leb-true, le-leb}
 use Rattle.store.specs.Num.{_&_, num, le, field, allZero, Bytes}
-use Rattle.store.specs.Model.{Rec, font, character, Mark, Store, bytesOf, run, markBytes, padded, encode, number, place, key, allowed, Under, alone, under, sorted, opened, markOk, guard, headRec, sizeOf, consTo, andThen, splitIn, split, markIn, begins, validOr, decode}
+use Rattle.store.specs.Model.{Rec, font, character, Mark, Store, bytesOf, run, markBytes, encode, key, allowed, Under, alone, under, sorted, opened, markOk, guard, headRec, sizeOf, consTo, andThen, splitIn, split, markIn, begins, validOr, decode}
 use Rattle.store.specs.Layout.{keyOf}
-use Rattle.store.proofs.Numbers.{num-le, length-le, le-field, part, cut, zeros-are, zeros-all, zeros-field, both-l, both-r, both, bytes-drop}
-use Rattle.store.proofs.Records.{guard-none, cond-same, guard-test, guard-is, size-pos, Shaped, shaped, head-encode, head-nonzero, head-fits}
+use Rattle.store.proofs.Numbers.{num-le, cut, zeros-are, zeros-all, both-l, both-r, both, bytes-drop}
+use Rattle.store.proofs.Records.{guard-test, guard-is, size-pos, Shaped, shaped, head-encode, head-nonzero, head-fits}
 
 -- ── the fuel of split does not matter
 pub enough : (k m : ℕ) (s : List ℕ) → length s < k → length s < m → splitIn k s ≡ splitIn m s

@@ -1,32 +1,31 @@
 -- Placing a character in a store. Assumes nothing.
 use mathlib.Core.Path.{_≡_, refl, sym, ap, _∙_}
-use mathlib.Core.List.{List, [], _∷_, _++_, append-assoc, append-nil}
+use mathlib.Core.List.{List, [], _∷_, _++_, append-nil}
 use mathlib.Core.Bool.{Bool, true, false, _||_, cond}
-use mathlib.Core.Option.{Option, none, some}
-use Prim.Native.Nat.{ℕ, _+_, _*_, _-_, _/_, _<_, _≤_}
+use mathlib.Core.Option.{some}
+use Prim.Native.Nat.{ℕ, _+_, _-_, _<_, _≤_}
 use native.Mathlib.Omega.{arith}
-use lib.ListN.{length, take, drop, replicate, length-append, length-take, length-drop}
-use lib.Seq.{take-all, take-at, drop-at, drop-drop}
-use lib.Dec.{eqb, leb}
+use lib.ListN.{length, take, drop, replicate, length-append, length-drop}
+use lib.Seq.{take-all}
 use borrow.Author.Tests.{le-leb, lt-leb, eq-eqb}
 use Rattle.blocks.specs.Header.{orientation}
 use Rattle.store.specs.Layout.{keyOf}
 use Rattle.store.specs.Num.{_&_, le, Bytes}
-use Rattle.store.specs.Model.{Rec, font, character, Mark, Store, Under, under, alone, bytesOf, run, markBytes, encode, decode, allowed, heldOf, heldUnder, isKept, isUnfinished, unfinished, opened, markOk, key, number, place, sizeOf, total}
+use Rattle.store.specs.Model.{Rec, font, character, under, alone, bytesOf, run, markBytes, encode, allowed, heldOf, heldUnder, isKept, isUnfinished, unfinished, opened, markOk, number, place, sizeOf, total}
 use Rattle.store.specs.Order.{below, from, find}
 use Rattle.store.specs.Change.{moved, put, remarked, unmarkedFor}
-use Rattle.store.specs.Answer.{onStore, After, refuse, done}
-use Rattle.store.specs.Calls.{shut, used, withCharacter, removeFont}
+use Rattle.store.specs.Answer.{onStore}
+use Rattle.store.specs.Calls.{shut, used, withCharacter}
 use Rattle.store.specs.Download.{markFor, putCharacter, placing, placed}
 use Rattle.store.specs.Walk.{Fitting, Growing, keptAt, dataAt}
 use Rattle.store.specs.declared.walk.Places.{Places}
 use Rattle.store.proofs.Numbers.{both}
 use Rattle.store.proofs.Records.{Shaped, shaped}
-use Rattle.store.proofs.Codec.{Valid, size-bytes}
-use Rattle.store.proofs.Replaced.{NewChar, new-char, opened-append}
+use Rattle.store.proofs.Codec.{size-bytes}
+use Rattle.store.proofs.Replaced.{new-char, opened-append}
 use Rattle.store.proofs.Marks.{mark-open, shut-ok, remark-bytes}
-use Rattle.store.proofs.Changed.{changed, encode-changed, total-replaced, valid-char, bytes-char}
-use Rattle.store.proofs.Ready.{Ready, standing, record-bytes}
+use Rattle.store.proofs.Changed.{encode-changed, total-replaced, bytes-char}
+use Rattle.store.proofs.Ready.{Ready, standing, record-bytes, same-store}
 use Rattle.store.proofs.Seeks.{KeptChar}
 use Rattle.store.proofs.Spots.{char-span, char-shape}
 use Rattle.store.proofs.Extends.{extended}
@@ -74,9 +73,6 @@ pub record Space (n c : ℕ) (h d s : List ℕ) (w : Places) : Type 0 where
   pub header : List ℕ
   pub font-in : find (keyOf n 0) (ready .store .recs) ≡ some (font n header)
   pub ok : allowed (under alone (font n header)) (character n c h d) ≡ true
-
-same-store : (s : List ℕ) {a b : Store} → decode s ≡ some a → decode s ≡ some b → a ≡ b
-same-store s p q = cc
 
 pub space : (n c : ℕ) (h d s : List ℕ) (w : Places) → Bytes s → Fitting n c h d s w → Space n c h d s w
 space n c h d s w B f =

@@ -1,7 +1,7 @@
 -- What drawing a character that is there answers. Assumes nothing.
-use mathlib.Core.Path.{_≡_, refl, sym, ap, _∙_}
+use mathlib.Core.Path.{_≡_, ap, _∙_}
 use mathlib.Core.List.{List, _++_}
-use mathlib.Core.Bool.{Bool, true, false, _&&_}
+use mathlib.Core.Bool.{Bool, true, _&&_}
 use Prim.Native.Nat.{ℕ, _+_, _-_, _<_, _≤_}
 use native.Mathlib.Omega.{arith}
 use lib.ListN.{length, take, drop}
@@ -15,17 +15,12 @@ use Rattle.blocks.specs.declared.Verdict.the-variants.{Taken}
 use Rattle.blocks.proofs.Checks.{both, taken, within-low}
 use Rattle.blocks.proofs.KeptFirst.{is-kept-first}
 use Rattle.blocks.proofs.Pictures.{length-row, length-picture}
-use Rattle.store.specs.Layout.{keyOf}
-use Rattle.store.specs.Model.{font, character, alone, under, allowed}
-use Rattle.store.specs.Order.{below, after}
-use Rattle.store.specs.Answer.{After, refuse, checked}
-use Rattle.store.specs.Calls.{onto}
-use Rattle.store.specs.Drawing.{drawn, rowOf, pictureOf, drawingRow, drawingPicture}
+use Rattle.store.specs.Answer.{refuse}
+use Rattle.store.specs.Drawing.{rowOf, pictureOf, drawingRow, drawingPicture}
 use Rattle.store.specs.declared.walk.Places.{Places}
-use Rattle.store.proofs.Records.{allowed-char}
-use Rattle.store.proofs.Lookup.{after-font}
+use Rattle.store.proofs.Lookup.{kept-under}
 use Rattle.store.proofs.Seeks.{KeptChar, char-call}
-use Rattle.store.proofs.Spots.{char-found, char-span, char-kept, char-bytes}
+use Rattle.store.proofs.Spots.{char-span, char-kept, char-bytes}
 
 -- ── a kept character has a width
 read-width : (k : List ℕ) (o : ℕ) → readFirst k o ≡ Taken → 0 < width k
@@ -38,11 +33,7 @@ read-width k o e =
 
 module _ (n c : ℕ) (s : List ℕ) (w : Places) (x : KeptChar n c s w) where
   char-descriptor : isKeptFirst (x .kept) (orientation (x .header)) ≡ true
-  unfolding under
-  char-descriptor =
-      let t : after alone (below (keyOf n (c + 1)) (x .ready .store .recs)) ≡ under alone (font n (x .header)) = after-font n (c + 1) (x .header) (x .ready .store .recs) (x .ready .valid .order) (x .font-there) (omega arith) (omega (arith, x .code)) in
-      let o : allowed (under alone (font n (x .header))) (character n c (x .kept) (x .bytes)) ≡ true = rw t at (char-found n c s w x .ok) in
-      allowed-char (under alone (font n (x .header))) n c (x .kept) (x .bytes) o .kept
+  char-descriptor = kept-under n c (x .header) (x .kept) (x .bytes) (x .ready .store .recs) (x .ready .valid .order) (x .code) (x .font-there) (x .there)
 
   pub char-width : 0 < width (x .kept)
   char-width = read-width (x .kept) (orientation (x .header)) (is-kept-first (x .kept) (orientation (x .header)) char-descriptor .1)

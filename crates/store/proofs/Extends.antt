@@ -1,13 +1,13 @@
 -- A character's record that grows in place: its length and the new bytes are written, the rest stays. Assumes nothing.
-use mathlib.Core.Path.{_≡_, refl, sym, ap, _∙_}
-use mathlib.Core.List.{List, [], _∷_, _++_, append-assoc}
+use mathlib.Core.Path.{_≡_, sym, ap, _∙_}
+use mathlib.Core.List.{List, _++_, append-assoc}
 use Prim.Native.Nat.{ℕ, _+_, _-_, _/_, _<_, _≤_}
 use native.Mathlib.Omega.{arith}
-use lib.ListN.{length, take, drop, replicate, length-append, length-take, length-drop, take-append-drop}
-use lib.Seq.{take-at, drop-at, drop-drop, take-add, take-append-add, length-take-le}
+use lib.ListN.{length, take, drop, replicate, length-append, length-drop}
+use lib.Seq.{take-at, drop-at, take-add, take-append-add, length-take-le}
 use Rattle.store.specs.Num.{le}
 use Rattle.store.proofs.Numbers.{length-le}
-use Rattle.store.specs.Model.{Rec, character, bytesOf}
+use Rattle.store.specs.Model.{character, bytesOf}
 use Rattle.store.specs.Change.{moved, put}
 
 -- bytes put in the place of as many

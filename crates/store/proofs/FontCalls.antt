@@ -1,28 +1,27 @@
 -- What the calls on fonts answer, and the bytes that they leave, by what the inspection found. Assumes nothing.
 use mathlib.Core.Path.{_≡_, refl, sym, ap, _∙_}
 use mathlib.Core.List.{List, [], _∷_, _++_, append-nil}
-use mathlib.Core.Bool.{Bool, true, false}
-use mathlib.Core.Option.{Option, none, some}
-use Prim.Native.Nat.{ℕ, _+_, _*_, _-_, _<_, _≤_}
+use mathlib.Core.Bool.{true, false}
+use mathlib.Core.Option.{none}
+use Prim.Native.Nat.{ℕ, _+_, _-_, _<_, _≤_}
 use native.Mathlib.Omega.{arith}
-use lib.ListN.{length, drop, replicate, length-append, length-replicate, replicate-append-replicate, drop-of-length-le}
+use lib.ListN.{length, replicate, length-append, length-replicate, replicate-append-replicate, drop-of-length-le}
 use lib.Seq.{paste, take-all}
 use lib.Dec.{leb}
 use borrow.Author.Tests.{le-leb, lt-leb}
 use Rattle.blocks.specs.Header.{readHeader, keptHeader}
-use Rattle.blocks.specs.declared.Verdict.{Verdict}
 use Rattle.blocks.specs.declared.Verdict.the-variants.{Taken, Refused}
 use Rattle.blocks.proofs.KeptHeader.{kept-header, kept-length, header-long}
 use Rattle.store.specs.Layout.{keyOf}
 use Rattle.store.specs.Num.{_&_, le}
-use Rattle.store.specs.Model.{Rec, font, Store, bytesOf, run, markBytes, encode, decode, alone, sizeOf, total}
-use Rattle.store.specs.Order.{below, find, replaced}
+use Rattle.store.specs.Model.{font, bytesOf, run, markBytes, encode, decode, sizeOf, total}
+use Rattle.store.specs.Order.{below, replaced}
 use Rattle.store.specs.Change.{moved, put, unmarkedFor}
 use Rattle.store.specs.Answer.{onStore, After, refuse, done}
-use Rattle.store.specs.Calls.{shut, fresh, makingFresh, used, withFont, removeFont, putFont, puttingFont, downloadingFont}
+use Rattle.store.specs.Calls.{shut, fresh, makingFresh, used, removeFont, putFont, puttingFont, downloadingFont}
 use Rattle.store.specs.declared.walk.Places.{Places}
 use Rattle.store.proofs.Puts.{put-nil}
-use Rattle.store.proofs.Replaced.{NewFont, no-font, new-font}
+use Rattle.store.proofs.Replaced.{no-font, new-font}
 use Rattle.store.proofs.Changed.{spare-is, total-replaced, bytes-font}
 use Rattle.store.proofs.Codec.{size-bytes, encode-parts}
 use Rattle.store.proofs.Ready.{Ready}

@@ -1,8 +1,8 @@
 -- The record at a place of a buffer, by its fields. Assumes nothing.
-use mathlib.Core.Path.{_≡_, refl, sym, ap, _∙_}
+use mathlib.Core.Path.{_≡_, sym, _∙_}
 use mathlib.Core.List.{List}
-use mathlib.Core.Bool.{Bool, true, false, cond}
-use mathlib.Core.Option.{Option, none, some}
+use mathlib.Core.Bool.{true, false, cond}
+use mathlib.Core.Option.{some}
 use Prim.Native.Nat.{ℕ, _+_, _-_, _<_, _≤_}
 use native.Mathlib.Omega.{arith}
 use lib.ListN.{length, getD, take, drop, length-drop, length-take}
@@ -11,9 +11,9 @@ use lib.Dec.{eqb, leb}
 use borrow.Author.Tests.{le-leb, lt-leb, eq-eqb, ne-eqb, lt-ltb, le-ltb}
 use Rattle.blocks.specs.Header.{isKeptHeader}
 use Rattle.blocks.specs.declared.picture.Held.{Held}
-use Rattle.blocks.specs.declared.picture.Held.the-variants.{Whole, Unfinished, Foreign}
+use Rattle.blocks.specs.declared.picture.Held.the-variants.{Foreign}
 use Rattle.store.specs.Num.{_&_, field}
-use Rattle.store.specs.Model.{Rec, font, character, Under, under, allowed, heldOf, heldUnder, isKept, isUnfinished, unfinished, number, place, guard, headRec, sizeOf}
+use Rattle.store.specs.Model.{font, Under, under, allowed, heldOf, heldUnder, isKept, isUnfinished, unfinished, number, place, guard, headRec, sizeOf}
 use Rattle.store.specs.Walk.{headOf, seen, Heading}
 use Rattle.store.specs.declared.walk.Head.the-variants.{End, Rec as HeadRec, Bad}
 use Rattle.store.proofs.Fields.{field-drop}

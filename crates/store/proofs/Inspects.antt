@@ -1,6 +1,6 @@
 -- What the inspection of a buffer answers, by its first record and the walk over the others. Assumes nothing.
-use mathlib.Core.Path.{_≡_, refl, sym, ap, _∙_}
-use mathlib.Core.List.{List, [], _∷_}
+use mathlib.Core.Path.{_≡_, refl, _∙_}
+use mathlib.Core.List.{List}
 use mathlib.Core.Bool.{Bool, true, false, not, cond, _||_}
 use mathlib.Core.Option.{Option, none, some}
 use Prim.Native.Nat.{ℕ, _+_, _<_, _≤_}
@@ -8,20 +8,17 @@ use native.Mathlib.Omega.{arith}
 use native.Mathlib.Nat.{zero-add}
 use lib.ListN.{length, drop}
 use lib.Dec.{eqb, leb}
-use borrow.Author.Tests.{eqb-true, le-leb, lt-leb, eq-eqb, ne-eqb}
+use borrow.Author.Tests.{eqb-true, le-leb, lt-leb, ne-eqb}
 use Rattle.store.specs.Layout.{keyOf}
 use Rattle.store.specs.Num.{_&_, field}
-use Rattle.store.specs.Model.{Rec, Mark, Store, alone, sorted, opened, markOk, guard, split, markIn, begins, validOr, decode}
+use Rattle.store.specs.Model.{Rec, Mark, alone, sorted, opened, markOk, guard, split, markIn, begins, validOr, decode}
 use Rattle.store.specs.Calls.{charactersOf}
 use Rattle.store.specs.Walk.{start, asking, placesOf, placesFrom, walked, markSeen, surveyed, inspected}
 use Rattle.store.specs.declared.walk.Places.{Places}
-use Rattle.store.specs.declared.walk.Walk.{Walk}
 use Rattle.store.specs.declared.walk.Walk.the-variants.{Run, Broken}
 use Rattle.store.specs.declared.walk.MarkSeen.{MarkSeen}
 use Rattle.store.specs.declared.walk.MarkSeen.the-variants.{Shut, Open, Wrong}
-use Rattle.store.specs.declared.walk.Inspected.{Inspected}
 use Rattle.store.specs.declared.walk.Inspected.the-variants.{Found, NotStore}
-use Rattle.store.proofs.Numbers.{both}
 
 -- ── the first record
 module _ (s : List ℕ) where

@@ -1,25 +1,19 @@
 -- Laws of the walk over the kept fonts. Assumes nothing.
 use mathlib.Core.Path.{_≡_, refl, sym, ap, _∙_, subst}
-use mathlib.Core.List.{List, [], _∷_, _++_}
+use mathlib.Core.List.{List, [], _∷_}
 use mathlib.Core.Bool.{Bool, true, false}
 use mathlib.Core.Option.{Option, none, some}
 use Prim.Native.Nat.{ℕ, suc, _+_, _*_, _-_, _<_, _≤_}
 use native.Mathlib.Omega.{arith}
 use lib.ListN.{length, take, drop, length-take, length-drop}
 use lib.Seq.{drop-drop}
-use borrow.Author.Tests.{eq-eqb}
-use Rattle.store.specs.Layout.{keyOf}
-use Rattle.store.specs.Num.{Bytes, field, allZero}
-use Rattle.store.specs.Model.{Rec, font, character, Store, Under, under, alone, sorted, number, place, key, headRec, sizeOf, consTo, andThen, split, markIn, decode, validOr}
-use Rattle.store.specs.Fonts.{Font, fontsIn, isStore, fontsOf, fontsAt, Place, RisingFrom}
-use Rattle.store.specs.Walk.{inspected}
-use Rattle.store.specs.declared.walk.Inspected.the-variants.{Found as FoundAt, NotStore}
-use Rattle.store.specs.declared.walk.Places.{Places}
+use Rattle.store.specs.Num.{field, allZero}
+use Rattle.store.specs.Model.{Rec, font, character, Store, Under, under, alone, sorted, number, place, key, headRec, sizeOf, andThen, split, markIn, decode, validOr}
+use Rattle.store.specs.Fonts.{fontsIn, isStore, fontsOf, fontsAt, Place, RisingFrom}
 use Rattle.store.proofs.Numbers.{zeros-field, both-l}
 use Rattle.store.proofs.Fields.{field-drop}
-use Rattle.store.proofs.Records.{shaped, zero-head, Headed, is-font, is-character, head-inv, guard-test, guard-is, fontOf, charOf}
-use Rattle.store.proofs.Codec.{Sorted, sorted-inv, split-eq, consTo-some, storeOf, begins-parts}
-use Rattle.store.proofs.Ready.{not-store, ready}
+use Rattle.store.proofs.Records.{shaped, zero-head, Headed, is-font, is-character, head-inv, guard-test, guard-is, charOf}
+use Rattle.store.proofs.Codec.{sorted-inv, split-eq, consTo-some, storeOf, begins-parts}
 
 -- ── what stands at a place of the run
 pub data Standing (s : List ℕ) (rs : List Rec) : Type 0 where

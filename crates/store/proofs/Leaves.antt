@@ -1,16 +1,14 @@
 -- What the calls leave of the fonts. Assumes nothing.
-use mathlib.Core.Path.{_≡_, refl, sym, ap, _∙_, subst}
+use mathlib.Core.Path.{_≡_, refl, sym, ap, _∙_}
 use mathlib.Core.List.{List, [], _∷_, _++_}
 use mathlib.Core.Bool.{Bool, true, false, cond}
 use mathlib.Core.Logic.{⊎-elim}
-use mathlib.Core.Option.{Option, none, some}
-use Prim.Native.Nat.{ℕ, _+_, _*_, _-_, _<_, _≤_}
+use Prim.Native.Nat.{ℕ, _+_, _-_, _<_, _≤_}
 use native.Mathlib.Omega.{arith}
-use lib.ListN.{length, drop}
-use lib.Dec.{leb, ltb, eqb}
-use borrow.Author.Tests.{leb-true, leb-false, ltb-true, ltb-false, lt-ltb, le-ltb, le-leb, lt-leb, eqb-true}
+use lib.Dec.{leb, ltb}
+use borrow.Author.Tests.{ltb-true, ltb-false}
 use Rattle.store.specs.Layout.{keyOf}
-use Rattle.store.specs.Model.{Rec, font, character, Store, alone, sorted, number, place, key}
+use Rattle.store.specs.Model.{Rec, font, character, alone, sorted, number, place, key}
 use Rattle.store.specs.Order.{keep, below, from, replaced}
 use Rattle.store.specs.Fonts.{Font, fontsIn, fontsBelow, fontsAbove, fontsWith}
 use Rattle.store.proofs.Order.{split-at, below-in, below-out, from-in, from-out}

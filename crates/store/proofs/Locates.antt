@@ -1,28 +1,28 @@
 -- Places found by the heads of a store's records alone. Assumes nothing.
-use mathlib.Core.Path.{_≡_, refl, sym, ap, _∙_, subst}
+use mathlib.Core.Path.{_≡_, refl, sym, ap, _∙_}
 use mathlib.Core.List.{List, [], _∷_}
-use mathlib.Core.Bool.{Bool, true, false, not, cond, _&&_}
+use mathlib.Core.Bool.{Bool, true, false, not, _&&_}
 use mathlib.Core.Option.{Option, none, some}
-use Prim.Native.Nat.{ℕ, _+_, _-_, _*_, _<_, _≤_}
+use Prim.Native.Nat.{ℕ, _+_, _-_, _<_, _≤_}
 use native.Mathlib.Omega.{arith}
 use native.Mathlib.Nat.{add-zero, zero-add}
-use lib.ListN.{length, take, drop, length-drop}
+use lib.ListN.{length, drop, length-drop}
 use lib.Seq.{drop-drop}
 use lib.Dec.{eqb, leb, ltb}
-use borrow.Author.Tests.{eqb-true, eqb-false, leb-true, leb-false, le-leb, lt-leb, eq-eqb, ne-eqb}
+use borrow.Author.Tests.{eqb-true, eqb-false, le-leb}
 use Rattle.store.specs.Layout.{keyOf}
-use Rattle.store.specs.Num.{field, allZero}
-use Rattle.store.specs.Model.{Rec, font, character, Store, Under, under, alone, sorted, number, place, key, headRec, sizeOf, total, split, decode}
+use Rattle.store.specs.Num.{field}
+use Rattle.store.specs.Model.{Rec, font, Store, Under, under, alone, sorted, number, place, key, headRec, sizeOf, total, split, decode}
 use Rattle.store.specs.Order.{keep, below}
 use Rattle.store.specs.Calls.{charactersOf}
-use Rattle.store.specs.Fonts.{isStore, Place}
+use Rattle.store.specs.Fonts.{isStore}
 use Rattle.store.specs.Walk.{asking, countIf, placesOf, Stands, placeBy, beyond, beyondAt, isRecord, Inside}
 use Rattle.store.specs.declared.walk.Query.{Query}
 use Rattle.store.specs.declared.walk.Places.{Places}
 use Rattle.store.proofs.Numbers.{zeros-field}
 use Rattle.store.proofs.Fields.{field-drop}
-use Rattle.store.proofs.Records.{shaped, zero-head, Headed, is-font, is-character, head-inv, charOf}
-use Rattle.store.proofs.Codec.{Sorted, sorted-inv, begins-parts}
+use Rattle.store.proofs.Records.{zero-head, Headed, is-font, is-character, head-inv}
+use Rattle.store.proofs.Codec.{sorted-inv, begins-parts}
 use Rattle.store.proofs.Walks.{total-below, count-chars, total-more}
 use Rattle.store.proofs.KeptFonts.{Standing, at-end, at-record, stands-at, headed-size, char-size, decoded}
 

@@ -1,18 +1,20 @@
 -- The record with a key, and the records of a font. Assumes nothing.
 use mathlib.Core.Path.{_≡_, refl, sym, ap, _∙_, subst}
 use mathlib.Core.List.{List, [], _∷_, _++_}
-use mathlib.Core.Bool.{Bool, true, false, cond}
+use mathlib.Core.Bool.{Bool, true, false}
 use mathlib.Core.Option.{Option, none, some}
-use Prim.Native.Nat.{ℕ, _+_, _*_, _<_, _≤_}
+use Prim.Native.Nat.{ℕ, _+_, _<_, _≤_}
 use native.Mathlib.Omega.{arith}
-use lib.Dec.{eqb, leb, ltb}
+use lib.Dec.{eqb, ltb}
 use borrow.Author.Tests.{eqb-true, eqb-false, eq-eqb, ne-eqb}
+use Rattle.blocks.specs.Header.{orientation}
+use Rattle.blocks.specs.Character.{isKeptFirst}
 use Rattle.store.specs.Layout.{keyOf}
 use Rattle.store.specs.Model.{Rec, font, character, Under, under, alone, allowed, sorted, number, place, key, sizeOf, total}
 use Rattle.store.specs.Order.{keep, below, from, find, after}
-use Rattle.store.proofs.Records.{allowed-char, size-pos}
+use Rattle.store.proofs.Records.{allowed-char}
 use Rattle.store.proofs.Codec.{Sorted, sorted-inv}
-use Rattle.store.proofs.Order.{from-in, from-out, below-in, below-out, Side, before, behind, side, all-from, none-below, sorted-from, after-low, place-small}
+use Rattle.store.proofs.Order.{from-in, from-out, below-in, below-out, Side, before, behind, side, all-from, none-below, sorted-from, after-low}
 use Rattle.store.proofs.Totals.{total-at, total-append}
 
 pub find-here : (k : ℕ) (r : Rec) (rs : List Rec) → key r ≡ k → find k (r ∷ rs) ≡ some r
@@ -178,6 +180,15 @@ after-font n p h rs e q a b =
     ap (after alone) (below-below (lo + 1) (keyOf n p) 0 alone rs e (omega arith))
     ∙ after-append alone (below (lo + 1) rs) (below (keyOf n p) (from (lo + 1) rs))
     ∙ after-chars n (keyOf n p) (lo + 1) (after alone (below (lo + 1) rs)) (from (lo + 1) rs) s (omega arith) (omega arith) ∙ c
+
+-- the descriptor of a character that is there is a kept one of its font's orientation
+pub kept-under : (n c : ℕ) (g h d : List ℕ) (rs : List Rec) → sorted 0 alone rs ≡ true → c ≤ 255 → find (keyOf n 0) rs ≡ some (font n g) → find (keyOf n (c + 1)) rs ≡ some (character n c h d)
+    → isKeptFirst h (orientation g) ≡ true
+unfolding under
+kept-under n c g h d rs e l p q =
+    let t : after alone (below (keyOf n (c + 1)) rs) ≡ under alone (font n g) = after-font n (c + 1) g rs e p (omega arith) (omega arith) in
+    let o : allowed (under alone (font n g)) (character n c h d) ≡ true = rw t at (found (keyOf n (c + 1)) 0 alone (character n c h d) rs e q .ok) in
+    allowed-char (under alone (font n g)) n c h d o .kept
 
 first-is-font : (n : ℕ) (u : Under) (r : Rec) → allowed u r ≡ true → u .owner ≤ n → keyOf n 0 ≤ key r → key r < keyOf (n + 1) 0 → (h : List ℕ) × (r ≡ font n h)
 unfolding number place

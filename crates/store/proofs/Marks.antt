@@ -1,15 +1,15 @@
 -- The open mark, by its numbers and in the bytes. Assumes nothing.
-use mathlib.Core.Path.{_≡_, refl, sym, ap, _∙_}
-use mathlib.Core.List.{List, [], _∷_, _++_}
+use mathlib.Core.Path.{_≡_, refl, ap, _∙_}
+use mathlib.Core.List.{List, [], _++_}
 use mathlib.Core.Bool.{Bool, true, false, cond}
 use mathlib.Core.Logic.{_⊎_, inl, inr, ⊎-elim}
-use Prim.Native.Nat.{ℕ, _+_, _*_, _<_, _≤_}
+use Prim.Native.Nat.{ℕ, _+_, _<_, _≤_}
 use native.Mathlib.Omega.{arith}
 use lib.Dec.{eqb, leb}
 use borrow.Author.Tests.{eqb-true, eqb-false, leb-true, le-leb, eq-eqb, ne-eqb}
 use Rattle.store.specs.Layout.{keyOf}
 use Rattle.store.specs.Num.{_&_, le, field}
-use Rattle.store.specs.Model.{Rec, Mark, markBytes, alone, sorted, opened, markOk, markIn}
+use Rattle.store.specs.Model.{Rec, Mark, markBytes, alone, sorted, opened, markOk}
 use Rattle.store.specs.Order.{replaced}
 use Rattle.store.specs.Calls.{shut, closedFor, closedAt}
 use Rattle.store.specs.Change.{put, remarked, unmarkedFor, unmarkedAt}

@@ -1,11 +1,11 @@
 -- A turn of the loops that move and clear bytes.
-use mathlib.Core.Path.{_≡_, refl, sym, ap, ap₂, _∙_, subst}
+use mathlib.Core.Path.{_≡_, sym, ap, _∙_, subst}
 use mathlib.Core.List.{List, [], _∷_, _++_, append-assoc, append-nil}
-use Prim.Native.Nat.{ℕ, zero, suc, _+_, _*_, _-_, _<_, _≤_}
+use Prim.Native.Nat.{ℕ, suc, _+_, _-_, _<_, _≤_}
 use native.Mathlib.Omega.{arith}
 use native.Mathlib.Numerals.{add-one}
-use lib.ListN.{length, getD, take, drop, set, replicate, length-take, length-drop, length-append, length-replicate, getD-replicate, List·getD-append, take-append-drop}
-use lib.Seq.{paste, paste-suc, paste-zero, length-paste-head, getD-append-add, getD-drop, getD-take, take-suc, drop-cons, set-at, append-snoc, length-take-le, drop-drop, take-at, drop-at, take-take, take-length, drop-append-add}
+use lib.ListN.{length, getD, take, drop, set, replicate, length-drop, length-append, length-replicate, getD-replicate, List·getD-append}
+use lib.Seq.{paste, paste-suc, paste-zero, length-paste-head, getD-append-add, getD-drop, getD-take, take-suc, drop-cons, set-at, length-take-le, drop-drop, take-at, drop-append-add}
 use Rattle.store.specs.Change.{moved}
 
 -- what is behind a paste is as it was

@@ -1,12 +1,12 @@
 -- Laws of numbers as bytes.
 use mathlib.Core.Path.{_≡_, refl, sym, ap, ap₂, _∙_, subst}
-use mathlib.Core.List.{List, [], _∷_, _++_, append-assoc}
+use mathlib.Core.List.{List, [], _∷_, _++_}
 use mathlib.Core.Bool.{Bool, true, false}
 use mathlib.Core.Logic.{_⊎_, inl, inr}
 use Prim.Native.Nat.{ℕ, zero, suc, _+_, _*_, _/_, _%_, _-_, _^_, _<_, _≤_}
 use native.Mathlib.Omega.{arith}
-use lib.ListN.{length, getD, take, drop, replicate, length-take, length-drop, length-append, take-append-drop}
-use lib.Seq.{getD-take, getD-drop, drop-drop, take-nil, length-take-le, take-append-le}
+use lib.ListN.{length, take, drop, replicate, length-take, length-drop, take-append-drop}
+use lib.Seq.{getD-drop, drop-drop}
 use lib.Dec.{eqb, ltb}
 use borrow.Author.Tests.{eqb-true, ltb-true, ltb-false}
 use Rattle.store.specs.Num.{_&_, num, le, field, allZero, Bytes}

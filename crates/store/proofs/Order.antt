@@ -1,14 +1,14 @@
 -- Sorted records: those below a key and those from it on, and replacing those between two keys. Assumes nothing.
-use mathlib.Core.Path.{_≡_, refl, sym, ap, _∙_, subst}
-use mathlib.Core.List.{List, [], _∷_, _++_, append-assoc}
-use mathlib.Core.Bool.{Bool, true, false, cond}
-use Prim.Native.Nat.{ℕ, zero, suc, _+_, _*_, _<_, _≤_}
+use mathlib.Core.Path.{_≡_, refl, ap, _∙_, subst}
+use mathlib.Core.List.{List, [], _∷_, _++_}
+use mathlib.Core.Bool.{Bool, true, false}
+use Prim.Native.Nat.{ℕ, _+_, _<_, _≤_}
 use native.Mathlib.Omega.{arith}
-use lib.Dec.{eqb, leb, ltb}
-use borrow.Author.Tests.{eqb-true, ltb-true, ltb-false, le-leb, lt-ltb, le-ltb, lt-leb}
+use lib.Dec.{ltb}
+use borrow.Author.Tests.{ltb-true, ltb-false, le-leb, lt-ltb, le-ltb, lt-leb}
 use Rattle.store.specs.Layout.{keyOf}
 use Rattle.store.specs.Model.{Rec, font, character, Under, under, allowed, sorted, number, place, key}
-use Rattle.store.specs.Order.{keep, below, from, replaced, after}
+use Rattle.store.specs.Order.{keep, below, from, after}
 use Rattle.store.proofs.Records.{shaped, allowed-char}
 use Rattle.store.proofs.Codec.{Sorted, sorted-inv, sorted-cons}
 

@@ -1,14 +1,13 @@
 -- Laws of writing bytes. Assumes nothing.
-use mathlib.Core.Path.{_≡_, refl, sym, ap, ap₂, _∙_, subst}
+use mathlib.Core.Path.{_≡_, refl, sym, ap, _∙_}
 use mathlib.Core.List.{List, [], _∷_, _++_, append-assoc, append-nil}
-use Prim.Native.Nat.{ℕ, zero, suc, _+_, _*_, _-_, _/_, _%_, _<_, _≤_}
+use Prim.Native.Nat.{ℕ, _+_, _-_, _/_, _%_, _<_, _≤_}
 use native.Mathlib.Omega.{arith}
 use native.Mathlib.Numerals.{add-one}
-use lib.ListN.{length, getD, take, drop, set, replicate, length-append, length-take, length-drop, take-append-drop}
-use lib.Seq.{paste, paste-suc, sets, sets-eq, take-at, drop-at, drop-drop, drop-append-add, length-take-le}
+use lib.ListN.{length, getD, take, drop, set, length-append, length-take, length-drop, take-append-drop}
+use lib.Seq.{paste, paste-suc, sets-eq, take-at, drop-drop, drop-append-add, length-take-le}
 use Rattle.store.specs.Num.{le}
 use Rattle.store.specs.Change.{put}
-use Rattle.store.proofs.Numbers.{length-le}
 
 pub take-whole : (b : List ℕ) → take (length b) b ≡ b
 take-whole b = ap (λ (l : List ℕ). take (length b) l) (sym (append-nil b)) ∙ take-at b [] (length b) refl

@@ -1,28 +1,27 @@
 -- What an inspection that finds a store tells. Assumes nothing.
 use mathlib.Core.Path.{_≡_, refl, sym, ap, _∙_}
-use mathlib.Core.List.{List, [], _∷_, _++_}
+use mathlib.Core.List.{List, _++_}
 use mathlib.Core.Bool.{Bool, true, false, cond}
 use mathlib.Core.Option.{Option, none, some}
-use Prim.Native.Nat.{ℕ, _+_, _*_, _-_, _<_, _≤_}
+use Prim.Native.Nat.{ℕ, _+_, _-_, _<_, _≤_}
 use native.Mathlib.Omega.{arith}
-use lib.ListN.{length, take, drop, replicate}
-use lib.Seq.{take-at, drop-at, drop-drop}
+use lib.ListN.{length, drop, replicate}
+use lib.Seq.{drop-at}
 use lib.Dec.{ltb}
 use borrow.Author.Tests.{ltb-true, ltb-false}
 use Rattle.store.specs.Layout.{keyOf}
 use Rattle.store.specs.Num.{Bytes}
-use Rattle.store.specs.Model.{Rec, font, character, Store, alone, sorted, bytesOf, run, markBytes, encode, decode, sizeOf, total}
+use Rattle.store.specs.Model.{Rec, font, Store, alone, sorted, bytesOf, run, markBytes, encode, decode, total}
 use Rattle.store.specs.Order.{below, from, find}
 use Rattle.store.specs.Walk.{placesOf, inspected, lookedUp, Stands}
 use Rattle.store.specs.declared.walk.Places.{Places}
 use Rattle.store.specs.declared.walk.Lookup.the-variants.{At, Missing}
-use Rattle.store.specs.declared.walk.Inspected.{Inspected}
 use Rattle.store.specs.declared.walk.Inspected.the-variants.{Found as FoundAt, NotStore}
 use Rattle.store.proofs.Records.{size-pos}
 use Rattle.store.proofs.Codec.{Valid, encode-decode, length-encode, encode-parts, spare, mark-length}
 use Rattle.store.proofs.Order.{split-at}
 use Rattle.store.proofs.Totals.{total-at, length-run, length-keep, run-append}
-use Rattle.store.proofs.Lookup.{Found, found, missing, gap, below-mono, font-at, char-at}
+use Rattle.store.proofs.Lookup.{found, missing, gap, below-mono, font-at}
 
 pub record Ready (n p : ℕ) (s : List ℕ) (w : Places) : Type 0 where
   pub store : Store
@@ -85,6 +84,10 @@ module _ (n p : ℕ) (s : List ℕ) where
       go : (o : Option Store) → decode s ≡ o → inspected n p o ≡ FoundAt w → Ready n p s w
       go none q e' = let z : _≡_ {A = ℕ} 0 1 = cc in absurd (omega arith)
       go (some st) q e' = ready-of B w st q (cc)
+
+-- a buffer is one store
+pub same-store : (s : List ℕ) {a b : Store} → decode s ≡ some a → decode s ≡ some b → a ≡ b
+same-store s p q = cc
 
 pub stands : {n p : ℕ} {s : List ℕ} {w : Places} → Ready n p s w → Stands n p s w
 stands r = record { store = r .store; is = r .is; at = sym (r .at) }

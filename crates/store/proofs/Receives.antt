@@ -1,19 +1,18 @@
 -- What becomes of a character block, by what the code has found out. Assumes nothing.
 use mathlib.Core.Path.{_≡_, refl, sym, ap, _∙_}
 use mathlib.Core.List.{List, [], _∷_, _++_}
-use mathlib.Core.Bool.{Bool, true, false, _||_, cond}
-use mathlib.Core.Option.{Option, none, some}
+use mathlib.Core.Bool.{Bool, true, false, _||_}
+use mathlib.Core.Option.{none, some}
 use mathlib.Core.Logic.{_⊎_, ⊎-elim}
-use Prim.Native.Nat.{ℕ, _+_, _*_, _-_, _<_, _≤_}
+use Prim.Native.Nat.{ℕ, _+_, _-_, _<_, _≤_}
 use native.Mathlib.Omega.{arith}
-use lib.ListN.{length, getD, take, drop, length-append, length-take, length-drop, take-append-drop}
+use lib.ListN.{length, getD, take, drop, length-append, length-drop, take-append-drop}
 use lib.Seq.{take-all, getD-take, getD-drop, take-append-add, take-append-le}
 use lib.Dec.{eqb, leb}
 use borrow.Author.Tests.{eqb-true, eqb-false, eq-eqb, ne-eqb, le-leb, lt-leb, leb-true}
 use Rattle.blocks.specs.Header.{orientation}
 use Rattle.blocks.specs.Character.{class, width, height, characterLength, kindOf, readFirst, keptFirst, isKeptFirst}
 use Rattle.blocks.specs.Picture.{judge, keptData, held}
-use Rattle.blocks.specs.declared.Verdict.{Verdict}
 use Rattle.blocks.specs.declared.Verdict.the-variants.{Taken, Refused}
 use Rattle.blocks.specs.declared.character.Kind.the-variants.{First, Continuation, Unknown}
 use Rattle.blocks.specs.declared.picture.Held.{Held}
@@ -25,20 +24,19 @@ use Rattle.blocks.proofs.KeptFirst.{first-long, kept-first, kept-other}
 use Rattle.blocks.proofs.KeptData.{complete-within, kept-complete, kept-incomplete, kept-length, kept-judged, held-whole, held-unfinished, unfinished-judged, incomplete-prefix}
 use Rattle.store.specs.Layout.{keyOf}
 use Rattle.store.specs.Num.{_&_, Bytes, field}
-use Rattle.store.specs.Model.{Rec, font, character, Mark, Store, Under, under, alone, sorted, decode, encode, allowed, heldOf, heldUnder, isKept, isUnfinished, unfinished, opened, markOk, markIn, key, total}
-use Rattle.store.specs.Order.{below, find, after}
-use Rattle.store.specs.Answer.{onStore, checked, taking, finding, numbered, After, refuse}
+use Rattle.store.specs.Model.{Rec, font, character, Under, under, alone, sorted, decode, heldOf, heldUnder, isKept, isUnfinished, unfinished, opened, markOk, markIn, key}
+use Rattle.store.specs.Order.{find}
+use Rattle.store.specs.Answer.{onStore, checked, finding, numbered, After, refuse}
 use Rattle.store.specs.Download.{names, ifWithin, placing, placed, receiving, receivingFirst, receivingMore, puttingFirst, puttingMore, puttingBlock, downloadingCharacter}
-use Rattle.store.specs.Walk.{Stands, Arriving, Fitting, Growing, Continued, keptAt, dataAt, fontTurn, placesOf}
+use Rattle.store.specs.Walk.{Stands, Arriving, Fitting, Growing, Continued, keptAt, dataAt, fontTurn}
 use Rattle.store.specs.declared.walk.Places.{Places}
 use Rattle.store.proofs.Numbers.{both-l, both-r, less-or}
-use Rattle.store.proofs.Records.{allowed-char}
 use Rattle.store.proofs.Codec.{Sorted, sorted-inv, mark-fits, mark-back, encode-parts}
-use Rattle.store.proofs.Lookup.{find-here, find-other, find-behind, Found, found, char-at, after-font}
+use Rattle.store.proofs.Lookup.{find-here, find-other, find-behind, found, char-at, kept-under}
 use Rattle.store.proofs.Marks.{Shut, Open, markKey, mark-inv}
-use Rattle.store.proofs.Ready.{Ready, standing, font-there, font-missing}
+use Rattle.store.proofs.Ready.{Ready, standing, font-there, font-missing, same-store}
 use Rattle.store.proofs.Seeks.{KeptFont, KeptChar}
-use Rattle.store.proofs.Spots.{font-kept, font-span, char-span, char-kept, char-bytes, char-found}
+use Rattle.store.proofs.Spots.{font-kept, font-span, char-span, char-kept, char-bytes}
 
 -- ── the font that a character comes to
 pub record Host (n c : ℕ) (s : List ℕ) (w : Places) : Type 0 where
@@ -47,9 +45,6 @@ pub record Host (n c : ℕ) (s : List ℕ) (w : Places) : Type 0 where
   pub code : c ≤ 255
   pub header : List ℕ
   pub font-in : find (keyOf n 0) (ready .store .recs) ≡ some (font n header)
-
-same-store : (s : List ℕ) {a b : Store} → decode s ≡ some a → decode s ≡ some b → a ≡ b
-same-store s p q = cc
 
 pub host : (n c : ℕ) (s : List ℕ) (w : Places) → Bytes s → Arriving n c s w → Host n c s w
 host n c s w B a =
@@ -219,12 +214,8 @@ pub record Opened (n c : ℕ) (s : List ℕ) (w : Places) (x : Host n c s w) : T
 
 module _ (n c : ℕ) (s : List ℕ) (w : Places) (x : Host n c s w) where
   opened-char : (h d : List ℕ) → find (keyOf n (c + 1)) (x .ready .store .recs) ≡ some (character n c h d) → isUnfinished (heldOf h d) ≡ true → Opened n c s w x
-  unfolding under
   opened-char h d e q =
       let k : KeptChar n c s w = record { ready = x .ready; low = x .low; code = x .code; header = x .header; font-there = x .font-in; kept = h; bytes = d; there = e } in
-      let f = found (keyOf n (c + 1)) 0 alone (character n c h d) (x .ready .store .recs) (x .ready .valid .order) e in
-      let t : after alone (below (keyOf n (c + 1)) (x .ready .store .recs)) ≡ under alone (font n (x .header)) = after-font n (c + 1) (x .header) (x .ready .store .recs) (x .ready .valid .order) (x .font-in) (omega arith) (omega (arith, x .code)) in
-      let o : allowed (under alone (font n (x .header))) (character n c h d) ≡ true = rw t at (f .ok) in
       let sp : w .to ≡ w .from + 26 + length d = char-span n c s w k in
       let i : keptAt s w ≡ h = char-kept n c s w k in
       let m : w .to - (w .from + 26) ≡ length d = omega (arith, sp) in
@@ -232,7 +223,7 @@ module _ (n c : ℕ) (s : List ℕ) (w : Places) (x : Host n c s w) where
       record {
         there = e ∙ ap (λ (y : Rec). some y) (ap (λ (y : List ℕ). character n c y d) (sym i) ∙ ap (λ (y : List ℕ). character n c (keptAt s w) y) (sym j));
         held = ap (λ (y : List ℕ). heldOf y (dataAt s w)) i ∙ ap (heldOf h) j ∙ is-unfinished (heldOf h d) q;
-        kept = ap (λ (y : List ℕ). isKeptFirst y (orientation (x .header))) i ∙ allowed-char (under alone (font n (x .header))) n c h d o .kept;
+        kept = ap (λ (y : List ℕ). isKeptFirst y (orientation (x .header))) i ∙ kept-under n c (x .header) h d (x .ready .store .recs) (x .ready .valid .order) (x .code) (x .font-in) e;
         span = omega (arith, sp, ap length j);
       }
 

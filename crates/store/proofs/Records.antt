@@ -1,15 +1,15 @@
 -- A record's bytes: written and read again. Assumes nothing.
-use mathlib.Core.Path.{_≡_, refl, sym, ap, ap₂, _∙_, subst, fun-ext}
-use mathlib.Core.List.{List, [], _∷_, _++_, append-assoc}
+use mathlib.Core.Path.{_≡_, refl, sym, _∙_, subst}
+use mathlib.Core.List.{List, _++_, append-assoc}
 use mathlib.Core.Bool.{Bool, true, false, cond}
 use mathlib.Core.Option.{Option, none, some}
-use Prim.Native.Nat.{ℕ, zero, suc, _+_, _*_, _/_, _%_, _-_, _^_, _<_, _≤_}
+use Prim.Native.Nat.{ℕ, _+_, _-_, _≤_}
 use native.Mathlib.Omega.{arith}
-use lib.ListN.{length, getD, take, drop, replicate, length-take, length-drop, length-append, length-replicate, take-append-drop}
-use lib.Seq.{getD-take, getD-drop, drop-drop, take-at, drop-at, take-all, take-nil, length-take-le}
+use lib.ListN.{length, take, drop, length-take, length-drop, length-append}
+use lib.Seq.{take-at, drop-at}
 use lib.Dec.{eqb, leb}
-use borrow.Author.Tests.{eqb-true, eqb-false, leb-true, leb-false, le-leb, eq-eqb}
-use Rattle.store.specs.Num.{_&_, num, le, field, allZero, Bytes}
+use borrow.Author.Tests.{eqb-true, leb-true, le-leb}
+use Rattle.store.specs.Num.{num, le, field, allZero, Bytes}
 use Rattle.blocks.specs.Header.{isKeptHeader}
 use Rattle.blocks.specs.Character.{class, width, height, isKeptFirst}
 use Rattle.blocks.specs.Picture.{held}
@@ -17,7 +17,7 @@ use Rattle.blocks.specs.declared.picture.Held.the-variants.{Foreign}
 use Rattle.blocks.proofs.KeptHeader.{is-kept-length as header-length}
 use Rattle.blocks.proofs.KeptFirst.{is-kept-length as first-length}
 use Rattle.store.specs.Model.{Rec, font, character, bytesOf, heldOf, heldUnder, isKept, allowed, Under, guard, headRec, sizeOf}
-use Rattle.store.proofs.Numbers.{num-le, length-le, le-field, part, cut, zeros-are, zeros-all, zeros-field, both-l, both-r, both, bytes-drop}
+use Rattle.store.proofs.Numbers.{num-le, part, cut, zeros-field, both-l, both-r}
 
 -- ── guard, cond
 pub guard-none {ℓ} : {A : Type ℓ} (b : Bool) → guard {A = A} b none ≡ none

@@ -1,9 +1,9 @@
 -- Replacing the records of a font, or one character, leaves sorted records. Assumes nothing.
 use mathlib.Core.Path.{_≡_, refl, sym, ap, _∙_, subst}
 use mathlib.Core.List.{List, [], _∷_, _++_}
-use mathlib.Core.Bool.{Bool, true, false, _||_, cond}
+use mathlib.Core.Bool.{Bool, true, false, _||_}
 use mathlib.Core.Option.{some}
-use mathlib.Core.Logic.{_⊎_, inl, inr, ⊎-elim}
+use mathlib.Core.Logic.{_⊎_, ⊎-elim}
 use Prim.Native.Nat.{ℕ, _+_, _*_, _<_, _≤_}
 use native.Mathlib.Omega.{arith}
 use lib.Dec.{eqb}
@@ -16,7 +16,7 @@ use Rattle.store.specs.Order.{keep, below, from, find, replaced, after}
 use Rattle.store.proofs.Numbers.{both}
 use Rattle.store.proofs.Codec.{Sorted, sorted-inv, sorted-cons}
 use Rattle.store.proofs.Order.{below-in, below-out, Side, before, behind, side, split-at, weaken, sorted-from, sorted-behind, sorted-anywhere, after-low}
-use Rattle.store.proofs.Lookup.{below-below, from-from, after-font}
+use Rattle.store.proofs.Lookup.{from-from, after-font}
 
 -- what replaces a font with its characters: nothing, or that font
 pub data NewFont (n : ℕ) : List Rec → Type 0 where

@@ -1,25 +1,22 @@
 -- What seeking a font or a character tells of a call on it. Assumes nothing.
-use mathlib.Core.Path.{_≡_, refl, sym, ap, _∙_}
-use mathlib.Core.List.{List, [], _∷_, _++_}
-use mathlib.Core.Bool.{Bool, true, false, _&&_}
+use mathlib.Core.Path.{_≡_, refl, ap, _∙_}
+use mathlib.Core.List.{List}
+use mathlib.Core.Bool.{Bool, true, false}
 use mathlib.Core.Option.{Option, none, some}
-use Prim.Native.Nat.{ℕ, _+_, _*_, _-_, _<_, _≤_}
+use Prim.Native.Nat.{ℕ, _+_, _-_, _<_, _≤_}
 use native.Mathlib.Omega.{arith}
-use lib.ListN.{length, take, drop}
 use lib.Dec.{leb}
 use borrow.Author.Tests.{le-leb, lt-leb, leb-true}
 use Rattle.blocks.proofs.Checks.{both}
 use Rattle.store.specs.Layout.{keyOf}
 use Rattle.store.specs.Num.{Bytes}
-use Rattle.store.specs.Model.{Rec, font, character, Store, alone, sorted, decode, total}
-use Rattle.store.specs.Order.{below, find}
+use Rattle.store.specs.Model.{Rec, font, character, Store, alone, decode}
+use Rattle.store.specs.Order.{find}
 use Rattle.store.specs.Answer.{onStore, checked, finding, numbered, onFont, onCharacter}
-use Rattle.store.specs.Walk.{placesOf, soughtFont, soughtCharacter, Stands}
+use Rattle.store.specs.Walk.{placesOf, soughtFont, soughtCharacter}
 use Rattle.store.specs.declared.walk.Places.{Places}
-use Rattle.store.specs.declared.seek.Sought.{Sought}
 use Rattle.store.specs.declared.seek.Sought.the-variants.{Here, Refused}
-use Rattle.store.proofs.Ready.{Ready, standing, font-there, font-missing, record-there, record-missing}
-use Rattle.store.proofs.Codec.{encode-decode}
+use Rattle.store.proofs.Ready.{Ready, standing, font-there, font-missing, record-there, record-missing, same-store}
 use Rattle.store.proofs.Lookup.{found, font-at, char-at}
 
 -- ── seeking, by what the inspection found
@@ -92,9 +89,6 @@ font-refused refuse n k s f e = go (decode s) e
         → onStore refuse o (λ st. checked refuse (leb n 32767) 2 (finding refuse (find (keyOf n 0) (st .recs)) 6 (f st))) ≡ refuse k
     go none e' = let i : 1 ≡ k = cc in ap refuse i
     go (some st) e' = range st (leb n 32767) e'
-
-same-store : (s : List ℕ) {a b : Store} → decode s ≡ some a → decode s ≡ some b → a ≡ b
-same-store s p q = cc
 
 -- a font that is there
 pub record KeptFont (n p : ℕ) (s : List ℕ) (w : Places) : Type 0 where

@@ -1,7 +1,7 @@
 -- One law for every change of the record run: the records between two keys give way to new ones. Assumes nothing.
 use mathlib.Core.Path.{_≡_, refl, sym, ap, _∙_}
-use mathlib.Core.List.{List, [], _∷_, _++_, append-assoc, append-nil}
-use Prim.Native.Nat.{ℕ, zero, suc, _+_, _-_, _<_, _≤_}
+use mathlib.Core.List.{List, [], _++_, append-assoc, append-nil}
+use Prim.Native.Nat.{ℕ, zero, suc, _+_, _-_, _≤_}
 use mathlib.Core.Bool.{true}
 use native.Mathlib.Omega.{arith}
 use lib.Dec.{ltb}
@@ -13,7 +13,7 @@ use Rattle.store.specs.Change.{moved, put}
 use Rattle.store.proofs.Puts.{put-paste}
 use Rattle.store.proofs.Order.{split-at}
 use Rattle.store.proofs.Lookup.{below-mono}
-use Rattle.store.proofs.Totals.{run-append, length-run, length-keep, total-at}
+use Rattle.store.proofs.Totals.{run-append, length-run, length-keep}
 
 -- ── the law of splice: at a place where S falls apart
 module _ (S A R A2 C Z : List ℕ) (at old used new : ℕ) (a : S ≡ A ++ R) (la : length A ≡ at) (b : S ≡ A2 ++ (C ++ Z)) (lb : length A2 ≡ at + old) (lc : at + old + length C ≡ used) where

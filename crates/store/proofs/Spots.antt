@@ -2,13 +2,13 @@
 use mathlib.Core.Path.{_≡_, refl, sym, ap, _∙_}
 use mathlib.Core.List.{List, [], _∷_, _++_, append-assoc}
 use mathlib.Core.Bool.{Bool, true, false, cond}
-use Prim.Native.Nat.{ℕ, _+_, _*_, _-_, _<_, _≤_}
+use Prim.Native.Nat.{ℕ, _+_, _-_, _≤_}
 use native.Mathlib.Omega.{arith}
 use lib.ListN.{length, take, drop}
 use lib.Seq.{take-at, drop-at, drop-drop}
 use Rattle.store.specs.Layout.{keyOf}
 use Rattle.store.specs.Num.{le}
-use Rattle.store.specs.Model.{Rec, font, character, Under, alone, bytesOf, encode, sizeOf, total}
+use Rattle.store.specs.Model.{Rec, font, character, alone, bytesOf, sizeOf, total}
 use Rattle.store.specs.Order.{keep, below, after}
 use Rattle.store.specs.Change.{put}
 use Rattle.store.specs.Calls.{charactersOf, onto}

@@ -2,10 +2,10 @@
 use mathlib.Core.Path.{_≡_, refl, sym, ap, _∙_}
 use mathlib.Core.List.{List, [], _∷_, _++_, append-assoc}
 use mathlib.Core.Bool.{Bool, true, false, cond}
-use Prim.Native.Nat.{ℕ, _+_, _<_, _≤_}
+use Prim.Native.Nat.{ℕ, _+_}
 use native.Mathlib.Omega.{arith}
 use lib.ListN.{length, length-append}
-use Rattle.store.specs.Model.{Rec, Under, under, sorted, key, bytesOf, run, sizeOf, total}
+use Rattle.store.specs.Model.{Rec, Under, under, sorted, key, bytesOf, run, total}
 use Rattle.store.specs.Order.{keep, below, from}
 use Rattle.store.proofs.Records.{shaped}
 use Rattle.store.proofs.Codec.{sorted-inv, size-bytes}

@@ -3,9 +3,9 @@ use mathlib.Core.Path.{_≡_, refl, sym, ap, _∙_, subst}
 use mathlib.Core.List.{List, [], _∷_}
 use mathlib.Core.Bool.{Bool, true, false, not, cond, _&&_, _||_}
 use mathlib.Core.Option.{Option, none, some}
-use Prim.Native.Nat.{ℕ, _+_, _-_, _*_, _<_, _≤_}
+use Prim.Native.Nat.{ℕ, _+_, _-_, _<_, _≤_}
 use native.Mathlib.Omega.{arith}
-use native.Mathlib.Nat.{add-assoc, add-zero}
+use native.Mathlib.Nat.{add-zero}
 use lib.ListN.{length, take, drop, length-drop, length-take}
 use lib.Seq.{drop-drop}
 use lib.Dec.{eqb, leb, ltb}
@@ -19,11 +19,8 @@ use Rattle.store.specs.Walk.{itemOf, seen, headOf, standing, countIf, be
 use Rattle.store.specs.declared.walk.Query.{Query}
 use Rattle.store.specs.declared.walk.Item.{Item}
 use Rattle.store.specs.declared.walk.Pos.{Pos}
-use Rattle.store.specs.declared.walk.Places.{Places}
 use Rattle.store.specs.declared.walk.Head.the-variants.{End, Rec as HeadRec, Bad}
-use Rattle.store.specs.declared.walk.Walk.{Walk}
 use Rattle.store.specs.declared.walk.Walk.the-variants.{Run, Broken}
-use Rattle.store.specs.declared.walk.Step.{Step}
 use Rattle.store.specs.declared.walk.Step.the-variants.{Go, Stop}
 use Rattle.store.proofs.Numbers.{zeros-field}
 use Rattle.store.proofs.Records.{cond-same, shaped, allowed-char, zero-head, head-nonzero, Headed, is-font, is-character, head-inv}

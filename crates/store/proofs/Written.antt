@@ -1,14 +1,13 @@
 -- A record and the open mark, written part by part. Assumes nothing.
-use mathlib.Core.Path.{_≡_, refl, sym, ap, _∙_}
-use mathlib.Core.List.{List, [], _∷_, _++_, append-assoc}
+use mathlib.Core.Path.{_≡_}
+use mathlib.Core.List.{List, _++_}
 use Prim.Native.Nat.{ℕ, _+_, _-_, _/_, _<_, _≤_}
 use native.Mathlib.Omega.{arith}
-use lib.ListN.{length, take, drop, length-append}
+use lib.ListN.{length}
 use borrow.Rule.Slice.PartMut.{putMid, post-is}
 use Rattle.store.specs.Num.{le}
-use Rattle.store.specs.Model.{Rec, font, character, Mark, bytesOf}
+use Rattle.store.specs.Model.{font, character, Mark, bytesOf}
 use Rattle.store.specs.Change.{put, remarked, headBytes}
-use Rattle.store.proofs.Numbers.{length-le}
 use Rattle.store.proofs.Puts.{put-put}
 
 pub remark-put : (s : List ℕ) (m : Mark) → 12 ≤ length s → put (put (put s 6 (le 2 (m .on))) 8 (le 2 (m .fontOf))) 10 (le 2 (m .codeOf)) ≡ remarked m s

@@ -1,7 +1,7 @@
 -- Document 01, "The calls, and what they answer": make fresh, download a font block, remove a font or a character, tell their kept bytes.
 use Prim.Native.Nat.{ℕ, _+_}
 use mathlib.Core.List.{List, [], _∷_, _++_}
-use mathlib.Core.Bool.{Bool, not, cond}
+use mathlib.Core.Bool.{not, cond}
 use lib.Dec.{eqb, leb}
 use lib.ListN.{length, drop}
 use Rattle.blocks.specs.Header.{headerBytes, readHeader, keptHeader}

@@ -13,7 +13,7 @@ use Rattle.blocks.specs.declared.picture.Judged.{Judged}
 use Rattle.blocks.specs.declared.picture.Judged.the-variants.{Complete, Incomplete, PastWidth}
 use Rattle.store.specs.Layout.{keyOf}
 use Rattle.store.specs.Num.{_&_}
-use Rattle.store.specs.Model.{Rec, character, Mark, Store, heldOf, isUnfinished, encode, decode}
+use Rattle.store.specs.Model.{character, Mark, Store, heldOf, isUnfinished, encode, decode}
 use Rattle.store.specs.Order.{find}
 use Rattle.store.specs.Answer.{onStore, checked, taking, finding, numbered, After, refuse, done}
 use Rattle.store.specs.Calls.{shut, used, removeFont, withCharacter, keptOf, dataOf}

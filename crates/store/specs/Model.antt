@@ -12,7 +12,7 @@ use Rattle.blocks.specs.Picture.{held}
 use Rattle.blocks.specs.declared.picture.Held.{Held}
 use Rattle.blocks.specs.declared.picture.Held.the-variants.{Whole, Unfinished, Foreign}
 use Rattle.store.specs.Layout.{leastStore, mostStore, markRecord, markKind, fontRecord, fontKind, characterRecord, characterKind, lastFont, lastCode, keyOf}
-use Rattle.store.specs.Num.{_&_, num, le, field, allZero}
+use Rattle.store.specs.Num.{_&_, le, field, allZero}
 
 -- a record: a font (number, kept bytes), or a character (font number, code, kept bytes, data)
 pub data Rec : Type 0 where

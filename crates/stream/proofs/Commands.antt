@@ -177,10 +177,6 @@ pub command-at-ends : (s : List ℕ) (at : ℕ) → Ends at (length s) (commandA
 unfolding commandAt
 command-at-ends s at = ends-moved at (length s) (command (drop at s)) (rw (← (length-drop at s)) (command-ends (drop at s)))
 
--- the same for what a reader was answered
-pub command-ends-as : (s : List ℕ) (at : ℕ) {r c : Command} → r ≡ commandAt s at → r ≡ c → Ends at (length s) c
-command-ends-as s at e q = rw (sym q ∙ e) (command-at-ends s at)
-
 -- ---- a command depends only on what stands from its place on
 moved-twice : (m n : ℕ) (c : Command) → moved m (moved n c) ≡ moved (m + n) c
 unfolding moved

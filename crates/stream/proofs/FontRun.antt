@@ -1,9 +1,9 @@
 -- The records of one font stand together in a store, between its places. Assumes nothing.
 use mathlib.Core.Path.{_≡_, refl, sym, ap, _∙_, subst}
-use mathlib.Core.List.{List, [], _∷_, _++_}
-use mathlib.Core.Bool.{Bool, true, false, cond}
-use mathlib.Core.Option.{Option, none, some}
-use Prim.Native.Nat.{ℕ, _+_, _*_, _-_, _<_, _≤_}
+use mathlib.Core.List.{List, [], _∷_}
+use mathlib.Core.Bool.{Bool, true, false}
+use mathlib.Core.Option.{some}
+use Prim.Native.Nat.{ℕ, _+_, _-_, _<_, _≤_}
 use native.Mathlib.Omega.{arith}
 use lib.ListN.{length, take, drop, length-take, length-drop}
 use lib.Seq.{drop-drop}
@@ -11,7 +11,7 @@ use lib.Dec.{eqb, ltb}
 use borrow.Author.Tests.{eq-eqb, ne-eqb, eqb-true, eqb-false, ltb-true, ltb-false}
 use Rattle.store.specs.Layout.{keyOf}
 use Rattle.store.specs.Num.{field}
-use Rattle.store.specs.Model.{Rec, font, character, Under, under, alone, sorted, number, place, key, headRec, sizeOf, total, split}
+use Rattle.store.specs.Model.{Rec, Under, under, alone, sorted, number, key, headRec, sizeOf, total, split}
 use Rattle.store.specs.Order.{keep, below}
 use Rattle.store.specs.declared.walk.Places.{Places}
 use Rattle.store.proofs.Records.{Headed, is-font, is-character, head-inv, fontOf, charOf}

@@ -1,15 +1,15 @@
 -- Laws of reading a stream, command by command. Assumes nothing.
 use mathlib.Core.Path.{_≡_, refl, sym, ap, _∙_, subst}
-use mathlib.Core.List.{List, [], _∷_}
+use mathlib.Core.List.{List}
 use mathlib.Core.Bool.{Bool, true, false, cond}
 use mathlib.Core.Option.{Option, none, some}
 use Prim.Native.Nat.{ℕ, zero, suc, _+_, _-_, _<_, _≤_}
 use native.Mathlib.Omega.{arith}
-use lib.ListN.{length, take, drop}
+use lib.ListN.{length}
 use lib.Dec.{leb}
 use borrow.Author.Tests.{le-leb, lt-leb, leb-true}
 use Rattle.store.specs.Model.{Store, decode}
-use Rattle.store.specs.Answer.{onStore, After}
+use Rattle.store.specs.Answer.{onStore}
 use Rattle.store.specs.Calls.{downloadingFont}
 use Rattle.store.specs.Download.{downloadingCharacter}
 use Rattle.store.specs.Fonts.{isStore}
@@ -17,7 +17,7 @@ use Rattle.store.specs.Walk.{inspected}
 use Rattle.store.specs.declared.walk.Places.{Places}
 use Rattle.store.specs.declared.walk.Inspected.the-variants.{Found, NotStore}
 use Rattle.stream.specs.Command.{commandAt, Ends}
-use Rattle.stream.specs.Reading.{Spelled, spell, onward, spelledIn, spelledFrom, Course, outset, counted, setFont, setCode, downloaded, part, obey, obeyAll, Reading, answerOf, ended, readFrom, reading, Underway, resumed, Ahead}
+use Rattle.stream.specs.Reading.{Spelled, spell, onward, spelledIn, spelledFrom, Course, outset, counted, setFont, setCode, part, obey, obeyAll, Reading, answerOf, ended, readFrom, reading, Underway, resumed, Ahead}
 use Rattle.stream.specs.declared.command.Command.{Command}
 use Rattle.stream.specs.declared.command.Command.the-variants.{SetFont, SetCode, FontBlock, CharacterBlock, Broken, End}
 use Rattle.stream.specs.declared.reading.Progress.{Progress}

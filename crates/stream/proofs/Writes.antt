@@ -2,15 +2,14 @@
 use mathlib.Core.Path.{_≡_, refl, sym, ap, _∙_}
 use mathlib.Core.List.{List, [], _∷_, _++_, append-nil}
 use mathlib.Core.Bool.{Bool, true, false}
-use mathlib.Core.Option.{some}
-use Prim.Native.Nat.{ℕ, _+_, _*_, _-_, _<_, _≤_}
+use Prim.Native.Nat.{ℕ, _+_, _-_, _<_, _≤_}
 use native.Mathlib.Omega.{arith}
-use lib.ListN.{length, take, drop, set, length-take, length-drop, length-append, length-set, drop-of-length-le}
+use lib.ListN.{length, take, drop, set, length-take, length-drop, length-append, drop-of-length-le}
 use lib.Seq.{take-all, take-add, take-append-add, drop-append-add, drop-drop}
 use lib.Dec.{leb}
 use borrow.Author.Tests.{le-leb, lt-leb, leb-true, leb-false}
 use Rattle.store.specs.Num.{field}
-use Rattle.store.specs.Model.{Rec, font, character, headRec}
+use Rattle.store.specs.Model.{Rec}
 use Rattle.store.specs.Answer.{checked}
 use Rattle.store.specs.Calls.{onto}
 use Rattle.store.specs.declared.walk.Places.{Places}

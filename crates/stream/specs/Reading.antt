@@ -2,12 +2,12 @@
 -- definition; those answered 0 are counted as done, the others as refused.
 use Prim.Native.Nat.{ℕ, zero, suc, _+_, _-_, _≤_, _<_}
 use mathlib.Core.List.{List, [], _∷_}
-use mathlib.Core.Bool.{Bool, true, false, cond}
+use mathlib.Core.Bool.{cond}
 use mathlib.Core.Option.{Option, none, some}
 use lib.ListN.{length, take, drop}
-use lib.Dec.{leb, eqb}
+use lib.Dec.{leb}
 use Rattle.store.specs.Layout.{lastFont, lastCode}
-use Rattle.store.specs.Model.{Store, decode}
+use Rattle.store.specs.Model.{decode}
 use Rattle.store.specs.Answer.{onStore, After}
 use Rattle.store.specs.Calls.{downloadingFont}
 use Rattle.store.specs.Download.{downloadingCharacter}

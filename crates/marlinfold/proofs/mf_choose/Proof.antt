@@ -1,4 +1,4 @@
-use mathlib.Core.Path.{_≡_, ap, _∙_}
+use mathlib.Core.Path.{ap, _∙_}
 use Rattle.choice.specs.Choosing.{refusalOf, fontOf}
 use borrow.Author.Needs.{needs}
 use Rattle.marlinfold.proofs.mf_choose.Statement.{statement}

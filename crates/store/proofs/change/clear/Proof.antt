@@ -1,10 +1,10 @@
-use mathlib.Core.Path.{_≡_, refl, sym, ap, _∙_, subst}
-use Prim.Native.Nat.{ℕ, _≤_, _-_, _+_}
+use mathlib.Core.Path.{_≡_, refl}
+use Prim.Native.Nat.{_≤_, _-_}
 use native.Mathlib.Omega.{arith}
 use borrow.Author.Needs.{needs}
-use lib.ListN.{length, getD, drop, set, replicate, length-set}
+use lib.ListN.{length, replicate, length-set}
 use lib.Seq.{paste, paste-zero}
-use Rattle.store.proofs.Moves.{down-turn, clear-turn, up-turn, up-start, up-end, paste-end}
+use Rattle.store.proofs.Moves.{clear-turn, paste-end}
 use Rattle.store.proofs.change.clear.Statement.{statement}
 use Rattle.store.proofs.change.clear.Tie as tie
 use Rattle.store.proofs.change.clear.Reads as reads

@@ -1,4 +1,4 @@
-use mathlib.Core.Path.{_≡_, sym, _∙_}
+use mathlib.Core.Path.{sym, _∙_}
 use denote.Ref.{now}
 use Rattle.store.proofs.Marks.{unmark-off, unmark-other, unmark-code, unmark-char}
 use borrow.Author.Needs.{needs}

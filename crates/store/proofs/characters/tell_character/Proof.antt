@@ -1,12 +1,11 @@
-use mathlib.Core.Path.{_≡_, sym, ap, _∙_}
-use mathlib.Core.Bool.{true, false}
+use mathlib.Core.Path.{_≡_, sym, _∙_}
 use mathlib.Core.List.{List}
-use Prim.Native.Nat.{ℕ, _+_, _-_, _≤_}
+use Prim.Native.Nat.{ℕ, _+_, _-_}
 use lib.ListN.{length}
 use lib.Dec.{leb}
 use borrow.Author.Tests.{le-leb, lt-leb}
 use denote.Ref.{now}
-use Rattle.store.specs.Answer.{checked, Telling, untold}
+use Rattle.store.specs.Answer.{checked, untold}
 use Rattle.store.specs.Calls.{tellingCharacter, onto}
 use Rattle.store.specs.declared.walk.Places.{Places}
 use Rattle.store.proofs.Seeks.{KeptChar, char-sought, char-refused, char-call}

@@ -1,11 +1,11 @@
-use mathlib.Core.Path.{_≡_, refl, sym, ap, _∙_}
+use mathlib.Core.Path.{_≡_, sym, ap, _∙_}
 use mathlib.Core.Bool.{Bool, cond}
 use mathlib.Core.List.{List}
-use Prim.Native.Nat.{ℕ, _+_, _-_, _≤_, _<_}
+use Prim.Native.Nat.{ℕ, _+_, _-_}
 use lib.ListN.{length, take, drop, length-take, length-drop}
 use denote.Ref.{now}
 use Rattle.blocks.specs.Character.{keptFirst}
-use Rattle.store.specs.Model.{Mark, bytesOf, character, heldOf}
+use Rattle.store.specs.Model.{bytesOf, character}
 use Rattle.store.specs.Change.{moved, put, remarked}
 use Rattle.store.specs.Calls.{shut}
 use Rattle.store.specs.Download.{markFor}

@@ -1,14 +1,13 @@
-use mathlib.Core.Path.{_≡_, refl, sym, ap, _∙_}
+use mathlib.Core.Path.{_≡_, sym, ap, _∙_}
 use mathlib.Core.Bool.{Bool, cond}
 use mathlib.Core.List.{List, _++_}
-use Prim.Native.Nat.{ℕ, _+_, _-_, _≤_, _<_}
+use Prim.Native.Nat.{ℕ, _+_, _-_, _≤_}
 use lib.ListN.{length, take, drop, length-take, length-drop, length-append}
 use denote.Ref.{now}
 use Rattle.store.specs.Num.{Bytes, le}
-use Rattle.store.specs.Model.{Mark, bytesOf, character, heldOf}
 use Rattle.store.specs.Change.{moved, put, remarked}
 use Rattle.store.specs.Calls.{shut}
-use Rattle.store.specs.Walk.{Growing, keptAt, dataAt}
+use Rattle.store.specs.Walk.{keptAt, dataAt}
 use Rattle.store.specs.Download.{markFor}
 use Rattle.store.proofs.Downloads.{Space, growing, grow-span, grow-small, grow-put, place-full, place-done}
 use Rattle.store.proofs.FontCalls.{answered}

@@ -1,4 +1,4 @@
-use mathlib.Core.Path.{_≡_, sym, _∙_}
+use mathlib.Core.Path.{sym, _∙_}
 use denote.Ref.{now}
 use Rattle.store.proofs.FontCalls.{answered}
 use Rattle.store.proofs.Receives.{Host, host, host-span, first-refused}

@@ -1,8 +1,7 @@
 use mathlib.Core.Path.{_≡_, refl, sym, ap, _∙_}
-use mathlib.Core.Bool.{true, false}
-use mathlib.Core.List.{_++_}
-use Prim.Native.Nat.{ℕ, _+_, _-_, _≤_}
-use lib.ListN.{length, take, drop, length-take, length-drop}
+use mathlib.Core.Bool.{true}
+use Prim.Native.Nat.{_-_}
+use lib.ListN.{length-take, length-drop}
 use denote.Ref.{now}
 use Rattle.blocks.specs.declared.picture.Judged.the-variants.{Complete}
 use Rattle.blocks.proofs.Checks.{failed, passed}

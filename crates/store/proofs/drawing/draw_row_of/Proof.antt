@@ -1,10 +1,6 @@
-use mathlib.Core.Path.{_≡_, refl, sym, ap, _∙_}
-use mathlib.Core.List.{_++_}
-use Prim.Native.Nat.{ℕ, _+_, _/_, _≤_, _<_}
-use lib.ListN.{length, drop, length-take}
+use mathlib.Core.Path.{sym}
 use lib.Seq.{length-take-le}
 use denote.Ref.{now}
-use Rattle.blocks.specs.Character.{height, width, rowSize}
 use Rattle.store.proofs.FontCalls.{answered}
 use Rattle.store.proofs.Drawings.{row-high, row-short, row-drawn}
 use borrow.Author.Needs.{needs}

@@ -1,6 +1,5 @@
-use mathlib.Core.Path.{_≡_, sym, ap, _∙_}
+use mathlib.Core.Path.{sym, _∙_}
 use denote.Ref.{now}
-use Rattle.store.specs.Answer.{After}
 use Rattle.store.proofs.Ready.{Ready, ready, stands, not-store}
 use Rattle.store.proofs.FontCalls.{answered, download-not, download-range, download-refused, download-taken}
 use borrow.Author.Needs.{needs}

@@ -1,4 +1,4 @@
-use mathlib.Core.Path.{_≡_, sym, _∙_}
+use mathlib.Core.Path.{sym, _∙_}
 use denote.Ref.{now}
 use Rattle.store.specs.Calls.{removingFont, removeFont}
 use Rattle.store.specs.Answer.{refuse, done}

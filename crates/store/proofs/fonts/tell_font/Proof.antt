@@ -1,13 +1,12 @@
 use mathlib.Core.Path.{_≡_, sym, ap, _∙_}
-use mathlib.Core.Bool.{true, false}
 use mathlib.Core.List.{List}
-use Prim.Native.Nat.{ℕ, _≤_}
+use Prim.Native.Nat.{ℕ}
 use lib.ListN.{length}
 use lib.Dec.{leb}
 use borrow.Author.Tests.{le-leb, lt-leb}
 use denote.Ref.{now}
 use Rattle.store.specs.Answer.{checked, Telling, untold}
-use Rattle.store.specs.Calls.{tellingFont, charactersOf, keptOf, onto}
+use Rattle.store.specs.Calls.{tellingFont, charactersOf, onto}
 use Rattle.store.specs.Model.{font}
 use Rattle.store.specs.declared.walk.Places.{Places}
 use Rattle.store.proofs.Seeks.{KeptFont, font-sought, font-refused, font-call}

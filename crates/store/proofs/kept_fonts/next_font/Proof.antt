@@ -1,10 +1,9 @@
 use mathlib.Core.Path.{_≡_, refl, sym, _∙_}
-use Prim.Native.Nat.{ℕ, _+_, _-_, _≤_}
+use Prim.Native.Nat.{_-_, _≤_}
 use lib.ListN.{length}
 use denote.Ref.{now}
-use Rattle.store.specs.Num.{field}
 use Rattle.store.specs.Fonts.{Place, fontsAt}
-use Rattle.store.proofs.KeptFonts.{fonts-short, fonts-zero, Next, fonts-font, Over, fonts-char}
+use Rattle.store.proofs.KeptFonts.{fonts-short, fonts-zero, fonts-font, fonts-char}
 use borrow.Author.Needs.{needs}
 use native.Mathlib.Omega.{arith}
 use Rattle.store.proofs.kept_fonts.next_font.Statement.{statement}

@@ -1,4 +1,4 @@
-use mathlib.Core.Path.{_≡_, sym, ap, _∙_}
+use mathlib.Core.Path.{_∙_}
 use denote.Ref.{now}
 use Rattle.store.proofs.FontCalls.{answered}
 use Rattle.store.proofs.Again.{known-block, character-left}

@@ -1,10 +1,9 @@
-use mathlib.Core.Path.{_≡_, refl, sym, _∙_, subst}
+use mathlib.Core.Path.{sym, _∙_, subst}
 use Prim.Native.Nat.{_-_}
 use lib.ListN.{length}
 use denote.Ref.{now}
-use Rattle.store.specs.Walk.{asking, beyondAt}
 use Rattle.store.specs.declared.walk.Places.{Places}
-use Rattle.store.proofs.Locates.{Walking, walking, walked-through, Told, told, walked-on, inside-more}
+use Rattle.store.proofs.Locates.{Walking, walking, walked-through, told, walked-on, inside-more}
 use borrow.Author.Needs.{needs}
 use native.Mathlib.Omega.{arith}
 use Rattle.store.proofs.locate.locate.Statement.{statement}

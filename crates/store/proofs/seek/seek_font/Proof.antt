@@ -1,4 +1,4 @@
-use mathlib.Core.Path.{_≡_, sym, _∙_}
+use mathlib.Core.Path.{sym, _∙_}
 use denote.Ref.{now}
 use Rattle.store.proofs.Ready.{Ready, ready, not-store, looked-at, looked-not}
 use Rattle.store.proofs.Seeks.{font-not, font-range, font-none, font-here}

@@ -1,4 +1,3 @@
-use mathlib.Core.Path.{_≡_}
 use Rattle.store.specs.Walk.{countIf}
 use borrow.Author.Needs.{needs}
 use native.Mathlib.Omega.{arith}

@@ -1,4 +1,4 @@
-use mathlib.Core.Path.{_≡_, sym, _∙_}
+use mathlib.Core.Path.{sym, _∙_}
 use Rattle.store.proofs.Inspects.{surveyed-run, surveyed-broken}
 use borrow.Author.Needs.{needs}
 use Rattle.store.proofs.walk.inspect_records.Statement.{statement}

@@ -1,4 +1,4 @@
-use mathlib.Core.Path.{_≡_, sym, _∙_}
+use mathlib.Core.Path.{sym}
 use denote.Ref.{now}
 use Rattle.store.proofs.Heads.{look-short, look-zero, look-long, look-other}
 use borrow.Author.Needs.{needs}

@@ -1,7 +1,5 @@
-use mathlib.Core.Path.{_≡_, sym, _∙_}
-use Prim.Native.Nat.{_+_}
+use mathlib.Core.Path.{sym, _∙_}
 use borrow.Author.Tests.{le-leb, lt-leb}
-use lib.ListN.{length-take, length-drop}
 use denote.Ref.{now}
 use Rattle.blocks.proofs.Checks.{failed, passed}
 use Rattle.store.specs.Num.{_&_}

@@ -1,4 +1,4 @@
-use mathlib.Core.Path.{_≡_, sym}
+use mathlib.Core.Path.{sym}
 use Rattle.store.proofs.Walks.{pass-low, pass-go}
 use borrow.Author.Needs.{needs}
 use native.Mathlib.Omega.{arith}

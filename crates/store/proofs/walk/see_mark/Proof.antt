@@ -1,4 +1,4 @@
-use mathlib.Core.Path.{_≡_, sym, ap, _∙_}
+use mathlib.Core.Path.{sym}
 use denote.Ref.{now}
 use Rattle.store.specs.Model.{markIn}
 use Rattle.store.proofs.Inspects.{seen-shut, seen-zero, seen-on, seen-font, seen-code, seen-open}

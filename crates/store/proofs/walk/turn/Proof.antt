@@ -1,10 +1,10 @@
 use mathlib.Core.Path.{_≡_, sym, _∙_}
 use mathlib.Core.Bool.{true, false}
-use lib.ListN.{length, drop, length-drop}
+use lib.ListN.{drop, length-drop}
 use denote.Ref.{now}
 use Rattle.store.specs.Num.{allZero}
 use Rattle.store.specs.Walk.{headOf, standing, outcome, Ahead}
-use Rattle.store.specs.declared.walk.Head.the-variants.{End, Rec as HeadRec, Bad}
+use Rattle.store.specs.declared.walk.Head.the-variants.{Rec as HeadRec}
 use Rattle.store.proofs.Walks.{walked-end, walked-bad, walked-pass, ahead-pass, looked-item, within-more}
 use borrow.Author.Needs.{needs}
 use native.Mathlib.Omega.{arith}

@@ -1,7 +1,5 @@
-use mathlib.Core.Path.{_≡_, sym, _∙_, ap}
-use borrow.Author.Needs.{needs}
+use mathlib.Core.Path.{sym}
 use Rattle.stream.proofs.Readings.{counted-done, counted-refused}
-use Rattle.stream.specs.Reading.{counted}
 use native.Mathlib.Omega.{arith}
 use Rattle.stream.proofs.reading.count.Statement.{statement}
 use Rattle.stream.proofs.reading.count.Tie as tie

@@ -1,10 +1,10 @@
-use mathlib.Core.Path.{_≡_, refl, sym, _∙_, ap}
+use mathlib.Core.Path.{_≡_, refl, sym, _∙_}
 use mathlib.Core.Bool.{true}
 use Prim.Native.Nat.{_-_}
 use lib.ListN.{length}
 use denote.Ref.{now}
 use Rattle.store.specs.Fonts.{isStore}
-use Rattle.stream.specs.Reading.{Underway, outset, readFrom, reading}
+use Rattle.stream.specs.Reading.{Underway, outset, readFrom}
 use Rattle.stream.proofs.Readings.{read-not, read-store, went, went-on, stopped, answered}
 use borrow.Author.Needs.{needs}
 use native.Mathlib.Omega.{arith}

@@ -1,4 +1,4 @@
-use mathlib.Core.Path.{_≡_, sym, _∙_}
+use mathlib.Core.Path.{sym, _∙_}
 use Rattle.stream.proofs.Readings.{set-font-low, set-font-high}
 use borrow.Author.Needs.{needs}
 use Rattle.stream.proofs.reading.set_font.Statement.{statement}

@@ -1,4 +1,4 @@
-use mathlib.Core.Path.{_≡_, sym, _∙_, ap}
+use mathlib.Core.Path.{sym, _∙_}
 use denote.Ref.{now}
 use Rattle.stream.proofs.Readings.{ends-number, ends-code, ends-font, ends-character, turn-number, turn-code, turn-font, turn-character, turn-broken, turn-end}
 use borrow.Author.Needs.{needs}

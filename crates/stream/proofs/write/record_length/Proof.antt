@@ -1,10 +1,8 @@
-use mathlib.Core.Path.{_≡_, sym, ap, _∙_}
-use Prim.Native.Nat.{ℕ, _+_, _*_, _-_, _≤_}
-use lib.ListN.{length}
+use mathlib.Core.Path.{_≡_, ap}
+use Prim.Native.Nat.{ℕ, _+_, _-_}
 use denote.Ref.{now}
 use Rattle.store.specs.Num.{field}
-use Rattle.stream.specs.Written.{writtenRecord}
-use Rattle.stream.proofs.FontRun.{HeadAt, head-at, record-font, record-character}
+use Rattle.stream.proofs.FontRun.{head-at, record-font, record-character}
 use Rattle.stream.proofs.Writes.{font-length, character-length}
 use borrow.Author.Needs.{needs}
 use native.Mathlib.Omega.{arith}

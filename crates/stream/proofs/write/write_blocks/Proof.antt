@@ -1,9 +1,7 @@
-use mathlib.Core.Path.{_≡_, ap}
-use mathlib.Core.List.{List, _∷_, _++_}
-use Prim.Native.Nat.{ℕ, _-_}
-use lib.ListN.{length, take, drop, length-take}
+use mathlib.Core.Path.{ap}
+use Prim.Native.Nat.{_-_}
+use lib.ListN.{length, length-take}
 use denote.Ref.{now}
-use Rattle.stream.specs.Writing.{characterBlock}
 use Rattle.stream.proofs.Writes.{blocks-one, blocks-two, blocks-room, joined-put}
 use borrow.Author.Needs.{needs}
 use native.Mathlib.Omega.{arith}

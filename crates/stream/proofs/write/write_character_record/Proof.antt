@@ -1,5 +1,5 @@
 use mathlib.Core.Path.{_≡_, refl}
-use Prim.Native.Nat.{ℕ, _+_, _-_}
+use Prim.Native.Nat.{_+_, _-_}
 use denote.Ref.{now}
 use Rattle.store.specs.Num.{field}
 use Rattle.stream.proofs.Writes.{character-parts, character-room, joined-put}

@@ -1,5 +1,5 @@
 use mathlib.Core.Path.{_∙_}
-use lib.ListN.{length, length-set}
+use lib.ListN.{length-set}
 use denote.Ref.{now}
 use Rattle.stream.proofs.Writes.{continuation-length, continuation-put}
 use native.Mathlib.Omega.{arith}

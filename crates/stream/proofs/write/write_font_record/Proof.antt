@@ -1,5 +1,5 @@
 use mathlib.Core.Path.{_≡_, refl}
-use Prim.Native.Nat.{ℕ, _+_, _-_}
+use Prim.Native.Nat.{_+_, _-_}
 use denote.Ref.{now}
 use Rattle.stream.proofs.Writes.{font-parts, font-room, joined-put}
 use borrow.Author.Needs.{needs}

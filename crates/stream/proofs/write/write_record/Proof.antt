@@ -1,9 +1,7 @@
-use mathlib.Core.Path.{_≡_, ap}
-use Prim.Native.Nat.{ℕ, _+_}
-use lib.ListN.{length}
+use mathlib.Core.Path.{_≡_}
+use Prim.Native.Nat.{_+_}
 use denote.Ref.{now}
 use Rattle.store.specs.Num.{field}
-use Rattle.stream.specs.Written.{writtenRecord}
 use Rattle.stream.proofs.FontRun.{head-at, record-font, record-character}
 use borrow.Author.Needs.{needs}
 use native.Mathlib.Omega.{arith}

@@ -1,8 +1,6 @@
 use mathlib.Core.Path.{_≡_, refl}
-use Prim.Native.Nat.{ℕ, _+_, _-_, _≤_}
-use native.Mathlib.Nat.{zero-add}
+use Prim.Native.Nat.{_-_}
 use lib.ListN.{length}
-use denote.Ref.{now}
 use Rattle.stream.proofs.FontRun.{next}
 use Rattle.stream.proofs.Writes.{Filled, fill-room, fill-next, filled}
 use native.Mathlib.Omega.{arith}

@@ -1,9 +1,6 @@
-use Prim.Native.Nat.{ℕ, _+_, _*_, _-_, _≤_}
-use mathlib.Core.Path.{refl}
+use Prim.Native.Nat.{_*_, _-_, _≤_}
 use native.Mathlib.Nat.{zero-add}
-use lib.ListN.{length}
-use denote.Ref.{now}
-use Rattle.stream.proofs.FontRun.{next, head-at}
+use Rattle.stream.proofs.FontRun.{next}
 use Rattle.stream.proofs.Writes.{Measured, measure-next, measured}
 use Rattle.stream.proofs.FontRun.{records-rise}
 use native.Mathlib.Omega.{arith}
