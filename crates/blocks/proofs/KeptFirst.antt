@@ -1,15 +1,15 @@
 -- What is kept of an accepted first block's descriptor is just what `isKeptFirst` tests, and keeping it again changes nothing. Assumes nothing.
 use Prim.Native.Nat.{ℕ, _≤_}
-use mathlib.Core.Path.{_≡_, refl, _∙_}
-use mathlib.Core.List.{List}
+use mathlib.Core.Path.{_≡_, refl, sym, ap, _∙_, subst}
+use mathlib.Core.List.{List, _++_}
 use mathlib.Core.Bool.{Bool, true, false, not, _&&_}
 use native.Mathlib.Omega.{arith}
-use borrow.Author.Tests.{eqb-true, leb-true, not-true}
+use borrow.Author.Tests.{eqb-true, leb-true, le-leb, not-true}
 use lib.Dec.{T, ltb, ltb→lt, eqb}
-use lib.ListN.{length, set, take, length-set}
-use lib.Seq.{getD-set-same, getD-take, length-take-le, take-all}
+use lib.ListN.{length, set, take, drop, length-set, length-append}
+use lib.Seq.{getD-set-same, getD-take, length-take-le, take-all, take-append-seam, drop-append-seam}
 use Rattle.blocks.specs.Field.{byte, word, negative}
-use Rattle.blocks.specs.Character.{kindOf, firstForm, firstFields, firstSize, firstChecks, readFirst, fixFirst, keptFirst, fixedFirst, isKeptFirst}
+use Rattle.blocks.specs.Character.{kindOf, firstLength, firstForm, firstFields, firstSize, firstChecks, readFirst, fixFirst, keptFirst, fixedFirst, isKeptFirst}
 use Rattle.blocks.specs.declared.Verdict.the-variants.{Taken}
 use Rattle.blocks.specs.declared.character.Kind.the-variants.{First, Continuation, Unknown}
 use Rattle.blocks.proofs.Checks.{both, taken}
@@ -134,3 +134,33 @@ module _ (k : List ℕ) (o : ℕ) (e : isKeptFirst k o ≡ true) where
 
   pub is-kept-first : (kindOf k ≡ First) × (readFirst k o ≡ Taken) × (keptFirst k ≡ k)
   is-kept-first = (is-kept-kind, is-kept-read, is-kept-again)
+
+  -- the same with data behind it
+  module _ (d : List ℕ) where
+    behind-again : keptFirst (k ++ d) ≡ k
+    unfolding keptFirst
+    behind-again =
+        let t : take 16 (k ++ d) ≡ k = subst (λ (n : ℕ). take n (k ++ d) ≡ k) is-kept-length (take-append-seam k d) in
+        let u : take 16 k ≡ k = take-all 16 k (omega (arith, is-kept-length)) in
+        ap fixFirst (t ∙ sym u) ∙ is-kept-again
+
+    behind-kind : kindOf (k ++ d) ≡ First
+    unfolding kindOf
+    behind-kind =
+        let a : byte (k ++ d) 0 ≡ byte k 0 = sym (kept-other (k ++ d) 0 tt tt tt tt) ∙ ap (λ (l : List ℕ). byte l 0) behind-again in
+        let b : byte (k ++ d) 1 ≡ byte k 1 = sym (kept-other (k ++ d) 1 tt tt tt tt) ∙ ap (λ (l : List ℕ). byte l 1) behind-again in
+        simp (a, b, is-kept-fixed .0, is-kept-fixed .1)
+
+    behind-read : readFirst (k ++ d) o ≡ Taken
+    unfolding readFirst
+    behind-read =
+        let t = kept-tests (k ++ d) o in
+        let p = is-kept-parts in
+        let form : firstForm (k ++ d) ≡ true = sym (t .0) ∙ ap firstForm behind-again ∙ p .1 in
+        let fields : firstFields (k ++ d) o ≡ true = sym (t .1) ∙ ap (λ (l : List ℕ). firstFields l o) behind-again ∙ p .2 in
+        let size : firstSize (k ++ d) ≡ true = sym (t .2) ∙ ap firstSize behind-again ∙ p .3 in
+        let long : firstLength (k ++ d) ≡ true = le-leb 16 (length (k ++ d)) (omega (arith, length-append k d, is-kept-length)) in
+        simp (long, form, fields, size)
+
+    pub is-kept-block : (kindOf (k ++ d) ≡ First) × (readFirst (k ++ d) o ≡ Taken) × (keptFirst (k ++ d) ≡ k) × (drop 16 (k ++ d) ≡ d)
+    is-kept-block = (behind-kind, behind-read, behind-again, subst (λ (n : ℕ). drop n (k ++ d) ≡ d) is-kept-length (drop-append-seam k d))

@@ -27,5 +27,6 @@ pub mod Receives
 pub mod Drawings
 pub mod Locates
 pub mod Again
+pub mod Appends
 pub mod Leaves
 pub mod Holds

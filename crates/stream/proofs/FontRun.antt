@@ -117,15 +117,15 @@ split-cons s r ts e = go (stands-at s (r ∷ ts) e)
         let j : xs ≡ ts = cc in
         (h ∙ ap some i, ap (λ (y : Rec). split (drop (sizeOf y) s)) (sym i) ∙ p ∙ ap some j)
 
-of-in : (n : ℕ) (r : Rec) (ts : List Rec) → number r ≡ n → recordsOf n (r ∷ ts) ≡ r ∷ recordsOf n ts
+pub of-in : (n : ℕ) (r : Rec) (ts : List Rec) → number r ≡ n → recordsOf n (r ∷ ts) ≡ r ∷ recordsOf n ts
 unfolding recordsOf keep
 of-in n r ts e = rw (eq-eqb (number r) n e)
 
-of-out : (n : ℕ) (r : Rec) (ts : List Rec) → (number r ≡ n → ⊥) → recordsOf n (r ∷ ts) ≡ recordsOf n ts
+pub of-out : (n : ℕ) (r : Rec) (ts : List Rec) → (number r ≡ n → ⊥) → recordsOf n (r ∷ ts) ≡ recordsOf n ts
 unfolding recordsOf keep
 of-out n r ts e = rw (ne-eqb (number r) n e)
 
-none-of : (ts : List Rec) (n k : ℕ) (u : Under) → sorted k u ts ≡ true → keyOf (n + 1) 0 ≤ k → recordsOf n ts ≡ []
+pub none-of : (ts : List Rec) (n k : ℕ) (u : Under) → sorted k u ts ≡ true → keyOf (n + 1) 0 ≤ k → recordsOf n ts ≡ []
 none-of [] n k u o l = unfold recordsOf in unfold keep in refl
 none-of (r ∷ ts) n k u o l =
     let w = sorted-inv k u r ts o in

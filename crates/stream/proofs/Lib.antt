@@ -6,3 +6,6 @@ pub mod Spellings
 pub mod Readings
 pub mod FontRun
 pub mod Writes
+pub mod Words
+pub mod Refills
+pub mod RoundTrip

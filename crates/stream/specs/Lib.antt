@@ -5,3 +5,4 @@ pub mod Writing
 pub mod Reading
 pub mod Written
 pub mod Run
+pub mod RoundTrip
