@@ -30,7 +30,9 @@ use Rattle.choice.proofs.Right.{claim}
 use Rattle.stream.specs.Reading.{Course, outset, part, obey, obeyAll, spelledFrom, readFrom, reading}
 use Rattle.stream.specs.declared.command.Command.{Command}
 use Rattle.stream.specs.declared.command.Command.the-variants.{SetFont, SetCode, FontBlock, CharacterBlock, Broken, End}
-use Rattle.marlinfold.specs.Demands.{Call, make-fresh, download-font, download-character, remove-font, remove-character, choose-font, tell-font, tell-character, draw-row, draw-picture, write-font, read-stream, leaves, Deed, noted, notedAll, deedOf, streamDeeds, deeds, ran, bookOf, Removes, by-removal, by-no-room, Chooses, Demand3}
+use Rattle.marlinfold.specs.Calls.{Call, make-fresh, download-font, download-character, remove-font, remove-character, choose-font, tell-font, tell-character, draw-row, draw-picture, write-font, read-stream, outcome, leaves, ran}
+use Rattle.marlinfold.specs.Book.{Deed, noted, notedAll, deedOf, streamDeeds, deeds, bookOf}
+use Rattle.marlinfold.specs.Demands.{Removes, by-removal, by-no-room, Chooses, Demand3}
 
 -- ── a call keeps the book
 -- a store whose fonts are the book
@@ -80,7 +82,7 @@ unfolding reading readFrom onStore
 read-bytes b s is = rw (is-store s is .1)
 
 call-kept : (c : Call) (s : List ℕ) → isStore s ≡ true → Kept (leaves c s) (notedAll (deeds c s) (fontsOf s))
-unfolding leaves deeds notedAll noted
+unfolding outcome deeds notedAll noted
 call-kept make-fresh s is = fresh-kept s is
 call-kept (download-font n b) s is = font-leaves n b s is
 call-kept (download-character n c b) s is = character-leaves n c b s is
@@ -195,16 +197,16 @@ module _ (r : Request) (i : inRange r ≡ true) where
   chooses s book k = record { right = rw (chooses-by s book k) (claim r book (keyed s book k) .right); removed = gone; accepted = came }
     where
       gone : (n : ℕ) (c : Call) → Removes s n c → (choosing s r ≡ Number n → ⊥) → choosing (leaves c s) r ≡ choosing s r
-      gone n c (by-removal e) o = unfold leaves in
+      gone n c (by-removal e) o = unfold outcome in
           let h = removed-leaves n s (k .0) in
           struck n s (removingFont n s .bytes) book k (h .0, h .1 ∙ after-is 0 n [] (removingFont n s .answer) (fontsOf s) e ∙ ap (fontsWith n []) (k .1)) o
-      gone n c (by-no-room m b e) o = unfold leaves in
+      gone n c (by-no-room m b e) o = unfold outcome in
           let h = character-leaves n m b s (k .0) in
           struck n s (downloadingCharacter n m b s .bytes) book k (h .0, h .1 ∙ after-is 10 n [] (downloadingCharacter n m b s .answer) (fontsOf s) e ∙ ap (fontsWith n []) (k .1)) o
 
       came : (n : ℕ) (b : List ℕ) → downloadingFont n b s .answer ≡ 0 → ((x : Font) → In x book → x .number ≡ n → ⊥)
           → (choosing (leaves (download-font n b) s) r ≡ choosing s r) ⊎ (choosing (leaves (download-font n b) s) r ≡ Number n)
-      came n b e o = unfold leaves in
+      came n b e o = unfold outcome in
           let f : Font = record { number = n; kept = keptHeader b } in
           let h = font-leaves n b s (k .0) in
           let t : Kept (downloadingFont n b s .bytes) (fontsWith n (f ∷ []) book) = (h .0, h .1 ∙ after-is 0 n (f ∷ []) (downloadingFont n b s .answer) (fontsOf s) e ∙ ap (fontsWith n (f ∷ [])) (k .1)) in

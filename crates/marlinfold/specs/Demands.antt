@@ -1,114 +1,131 @@
--- Document 01, "Demand 3": the choice is right with respect to the book of accepted fonts, for every list of calls on a fresh store.
+-- The demands, each one claim. Document 01 in the other hand: its table of refusals for demand 1, its "Demand 3" for the third.
 use Prim.Native.Nat.{ℕ}
 use mathlib.Core.Path.{_≡_}
 use mathlib.Core.Logic.{_⊎_}
-use mathlib.Core.List.{List, [], _∷_, _++_}
-use mathlib.Core.Bool.{true, cond}
+use mathlib.Core.List.{List, [], _∷_}
+use mathlib.Core.Bool.{Bool, true, false, _||_}
+use mathlib.Core.Option.{some}
 use lib.Dec.{eqb}
-use Rattle.blocks.specs.Header.{keptHeader}
-use Rattle.store.specs.Fonts.{Font, isStore, fontsAfter}
-use Rattle.store.specs.Calls.{makingFresh, downloadingFont, removingFont, removingCharacter}
+use lib.ListN.{length, take, replicate}
+use Rattle.store.specs.Model.{Store, encode, decode}
+use Rattle.store.specs.Fonts.{Font, isStore}
+use Rattle.store.specs.Calls.{makingFresh, downloadingFont, removingFont, removeFont, tellingFont, tellingCharacter}
 use Rattle.store.specs.Download.{downloadingCharacter}
+use Rattle.store.specs.Drawing.{drawingRow, drawingPicture}
 use Rattle.choice.specs.Lists.{In}
 use Rattle.choice.specs.Range.{inRange}
 use Rattle.choice.specs.Choosing.{choosing}
 use Rattle.choice.specs.Right.{Right}
 use Rattle.choice.specs.declared.Request.{Request}
 use Rattle.choice.specs.declared.Chosen.the-variants.{Number}
-use Rattle.stream.specs.Reading.{Course, outset, part, obey, spelledFrom, reading}
-use Rattle.stream.specs.declared.command.Command.{Command}
-use Rattle.stream.specs.declared.command.Command.the-variants.{SetFont, SetCode, FontBlock, CharacterBlock, Broken, End}
+use Rattle.stream.specs.Reading.{Course, outset, obeyAll, spelledFrom, Reading, reading}
+use Rattle.stream.specs.Written.{writingFont}
+use Rattle.stream.specs.RoundTrip.{onlyFont}
+use Rattle.marlinfold.specs.Calls.{Call, make-fresh, download-font, download-character, remove-font, remove-character, choose-font, tell-font, tell-character, draw-row, draw-picture, write-font, read-stream, outputOf, Outcome, outcome, leaves, ran}
+use Rattle.marlinfold.specs.Book.{bookOf}
 
--- ── the calls, each with its numbers and its buffers other than the store
-pub data Call : Type 0 where
-  make-fresh : Call
-  download-font : (n : ℕ) (block : List ℕ) → Call
-  download-character : (n c : ℕ) (block : List ℕ) → Call
-  remove-font : (n : ℕ) → Call
-  remove-character : (n c : ℕ) → Call
-  choose-font : (r : Request) → Call
-  tell-font : (n : ℕ) (out : List ℕ) → Call
-  tell-character : (n c : ℕ) (out : List ℕ) → Call
-  draw-row : (n c row : ℕ) (out : List ℕ) → Call
-  draw-picture : (n c : ℕ) (out : List ℕ) → Call
-  write-font : (n : ℕ) (out : List ℕ) → Call
-  read-stream : (stream : List ℕ) → Call
+-- ── demand 1: a call is done, or it refuses as the table says
 
--- what each leaves of the store, by the definitions that its contract cites. The last six before the stream are lent it to read alone.
-unfoldable pub leaves : Call → List ℕ → List ℕ
-leaves make-fresh s = makingFresh s .bytes
-leaves (download-font n b) s = downloadingFont n b s .bytes
-leaves (download-character n c b) s = downloadingCharacter n c b s .bytes
-leaves (remove-font n) s = removingFont n s .bytes
-leaves (remove-character n c) s = removingCharacter n c s .bytes
-leaves (choose-font r) s = s
-leaves (tell-font n out) s = s
-leaves (tell-character n c out) s = s
-leaves (draw-row n c row out) s = s
-leaves (draw-picture n c out) s = s
-leaves (write-font n out) s = s
-leaves (read-stream b) s = reading b s .bytes
+-- "Each number is given only as listed": the numbers by which a call refuses and leaves all as it was
+unfoldable pub listed : Call → List ℕ
+-- "for 'make fresh': length not 12..65,536"
+listed make-fresh = 1 ∷ []
+-- "Length 64..32767, else 3", "else 4. Then, else 5", "It is refused with 10 exactly if the records would then not fit."
+listed (download-font n b) = 1 ∷ 2 ∷ 3 ∷ 4 ∷ 5 ∷ 10 ∷ []
+-- "else 3; font present, else 6; byte 0 is 4, else 4"; a first block 3, 4, 5 and 9, a continuation 7; "Then, for both: 8 .. 9"
+listed (download-character n c b) = 1 ∷ 2 ∷ 3 ∷ 6 ∷ 4 ∷ 5 ∷ 9 ∷ 7 ∷ 8 ∷ []
+-- "Removing checks 1, 2, 6, then 7 for a character."
+listed (remove-font n) = 1 ∷ 2 ∷ 6 ∷ []
+listed (remove-character n c) = 1 ∷ 2 ∷ 6 ∷ 7 ∷ []
+-- "Choosing checks 1, 2, 11"
+listed (choose-font r) = 1 ∷ 2 ∷ 11 ∷ []
+-- "checks as removing does, then 12"
+listed (tell-font n out) = 1 ∷ 2 ∷ 6 ∷ 12 ∷ []
+listed (tell-character n c out) = 1 ∷ 2 ∷ 6 ∷ 7 ∷ 12 ∷ []
+-- "Drawing checks 1, 2, 6, 7, then 2 for a row not below the height, then 12."
+listed (draw-row n c row out) = 1 ∷ 2 ∷ 6 ∷ 7 ∷ 12 ∷ []
+listed (draw-picture n c out) = 1 ∷ 2 ∷ 6 ∷ 7 ∷ 12 ∷ []
+-- "Write-out checks 1, 2, 6, 12"
+listed (write-font n out) = 1 ∷ 2 ∷ 6 ∷ 12 ∷ []
+-- "Reading checks 1 first."
+listed (read-stream b) = 1 ∷ []
 
--- ── the book: "made from the calls and their answers, never from the store"
--- what may change it, each with its answer
-pub data Deed : Type 0 where
-  made-fresh : (answer : ℕ) → Deed
-  font-sent : (n : ℕ) (block : List ℕ) (answer : ℕ) → Deed
-  character-sent : (n : ℕ) (answer : ℕ) → Deed
-  font-removed : (n : ℕ) (answer : ℕ) → Deed
+abbrev pub isIn : ℕ → List ℕ → Bool
+isIn k [] = false
+isIn k (x ∷ l) = eqb k x || isIn k l
 
--- "Making fresh empties it. A font block answered 0 enters its font, in place of an older one of that number. A font removal answered 0 and
--- a character block answered 10 strike theirs out"
-unfoldable pub noted : Deed → List Font → List Font
-noted (made-fresh a) book = cond (eqb a 0) [] book
-noted (font-sent n b a) book = fontsAfter 0 n (record { number = n; kept = keptHeader b } ∷ []) a book
-noted (character-sent n a) book = fontsAfter 10 n [] a book
-noted (font-removed n a) book = fontsAfter 0 n [] a book
+-- how many numbers a call answers beside the refusal
+unfoldable pub others : Call → ℕ
+others make-fresh = 0
+others (download-font n b) = 0
+others (download-character n c b) = 0
+others (remove-font n) = 0
+others (remove-character n c) = 0
+others (choose-font r) = 1
+others (tell-font n out) = 1
+others (tell-character n c out) = 1
+others (draw-row n c row out) = 0
+others (draw-picture n c out) = 0
+others (write-font n out) = 1
+others (read-stream b) = 3
 
-unfoldable pub notedAll : List Deed → List Font → List Font
-notedAll [] book = book
-notedAll (d ∷ ds) book = notedAll ds (noted d book)
+-- "unchanged", and "A refusal answers 0 for every other number"
+abbrev pub unchanged : Call → ℕ → List ℕ → Outcome
+unchanged c k s = record { refusal = k; numbers = replicate (others c) 0; store = s; out = outputOf c }
 
--- "A stream counts as the downloads spelled by its whole commands before any 13, with the answers they get when made one by one in its place."
-unfoldable pub deedOf : List ℕ → Command → Course → List Deed
-deedOf b (SetFont n next) x = []
-deedOf b (SetCode n next) x = []
-deedOf b (FontBlock from to) x =
-    font-sent (x .progress .font) (part b from to) (downloadingFont (x .progress .font) (part b from to) (x .bytes) .answer) ∷ []
-deedOf b (CharacterBlock from to) x =
-    character-sent (x .progress .font) (downloadingCharacter (x .progress .font) (x .progress .code) (part b from to) (x .bytes) .answer) ∷ []
-deedOf b Broken x = []
-deedOf b End x = []
+-- the whole commands of a stream before any 13, carried out on the buffer s
+abbrev pub carriedOut : List ℕ → List ℕ → Course
+carriedOut b s = obeyAll b (spelledFrom b 0 .commands) (record { progress = outset; bytes = s })
 
-unfoldable pub streamDeeds : List ℕ → List Command → Course → List Deed
-streamDeeds b [] x = []
-streamDeeds b (c ∷ cs) x = deedOf b c x ++ streamDeeds b cs (obey b c x)
+-- the outcomes of a call on the buffer s that are refusals
+pub data Refusal (s : List ℕ) : Call → Outcome → Type 0 where
+  as-listed : (c : Call) (k : ℕ) → isIn k (listed c) ≡ true → Refusal s c (unchanged c k s)
+  -- 10, "character block: its font and all its characters removed"
+  no-room :
+      (n c : ℕ) (b : List ℕ) (st : Store) → decode s ≡ some st
+      → Refusal s (download-character n c b) (record { refusal = 10; numbers = []; store = encode (removeFont n st); out = [] })
+  -- 13, "commands before it stay done"; it "gives its place and the counts so far"
+  broken :
+      (b : List ℕ) (at : ℕ) → isStore s ≡ true → spelledFrom b 0 .broken ≡ some at
+      → Refusal s (read-stream b)
+      (record {
+        refusal = 13;
+        numbers = carriedOut b s .progress .done ∷ carriedOut b s .progress .refused ∷ at ∷ [];
+        store = carriedOut b s .bytes;
+        out = [];
+      })
 
--- "Every other call or answer changes nothing."
-unfoldable pub deeds : Call → List ℕ → List Deed
-deeds make-fresh s = made-fresh (makingFresh s .answer) ∷ []
-deeds (download-font n b) s = font-sent n b (downloadingFont n b s .answer) ∷ []
-deeds (download-character n c b) s = character-sent n (downloadingCharacter n c b s .answer) ∷ []
-deeds (remove-font n) s = font-removed n (removingFont n s .answer) ∷ []
-deeds (remove-character n c) s = []
-deeds (choose-font r) s = []
-deeds (tell-font n out) s = []
-deeds (tell-character n c out) s = []
-deeds (draw-row n c row out) s = []
-deeds (draw-picture n c out) s = []
-deeds (write-font n out) s = []
-deeds (read-stream b) s = cond (isStore s) (streamDeeds b (spelledFrom b 0 .commands) (record { progress = outset; bytes = s })) []
+-- demand 1: for every call with any numbers and any buffers
+abbrev pub Demand1 : Type 0
+Demand1 = (c : Call) (s : List ℕ) → (outcome c s .refusal ≡ 0) ⊎ Refusal s c (outcome c s)
 
--- "Each call gets the whole of it, as the last one left it"
-unfoldable pub ran : List Call → List ℕ → List ℕ
-ran [] s = s
-ran (c ∷ cs) s = ran cs (leaves c s)
+-- ── demand 2, its second half: a font written out and read into a fresh store of the same length is there again with all its characters.
+-- (Its first half is the exported contracts.)
+-- the bytes that writing font n of s gives, in an output that it fits
+abbrev pub streamOf : ℕ → List ℕ → List ℕ → List ℕ
+streamOf n out s = take (writingFont n out s .count) (writingFont n out s .out)
 
-unfoldable pub bookOf : List Call → List ℕ → List Font → List Font
-bookOf [] s book = book
-bookOf (c ∷ cs) s book = bookOf cs (leaves c s) (notedAll (deeds c s) book)
+-- what holds of font n of a store s, and of the bytes u after reading
+pub record Again (n : ℕ) (s u : List ℕ) : Type 0 where
+  -- the records afterwards are the font's own, all of them, and no other; the open mark names the last character, if that is incomplete
+  pub was : Store
+  pub from : decode s ≡ some was
+  pub now : decode u ≡ some (onlyFont n was)
+  -- so that every call on the font answers as before
+  pub font-told : (out : List ℕ) → tellingFont n u out ≡ tellingFont n s out
+  pub character-told : (c : ℕ) (out : List ℕ) → tellingCharacter n c u out ≡ tellingCharacter n c s out
+  pub row-drawn : (c row : ℕ) (out : List ℕ) → drawingRow n c row u out ≡ drawingRow n c row s out
+  pub picture-drawn : (c : ℕ) (out : List ℕ) → drawingPicture n c u out ≡ drawingPicture n c s out
+  pub font-written : (out : List ℕ) → writingFont n out u ≡ writingFont n out s
 
--- ── the claim
+-- for every buffer s and output, where writing is done, and every buffer t of the same length: reading refuses no command and stops nowhere
+abbrev pub RoundTrip : Type 0
+RoundTrip =
+    (n : ℕ) (out s t : List ℕ) → writingFont n out s .refusal ≡ 0 → length t ≡ length s
+    → let r : Reading = reading (streamOf n out s) (leaves make-fresh t) in
+    (r .answer .refusal ≡ 0) × (r .answer .refused ≡ 0) × Again n s (r .bytes)
+
+-- ── demand 3: the choice is right with respect to the book
 -- "one more call that removes": a font removal answered 0, or a character block answered 10
 pub data Removes (s : List ℕ) (n : ℕ) : Call → Type 0 where
   by-removal : removingFont n s .answer ≡ 0 → Removes s n (remove-font n)

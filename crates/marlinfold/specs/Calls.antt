@@ -1,0 +1,100 @@
+-- Document 01, "The calls, and what they answer": the twelve calls as values, and the outcome of each by the definitions that its contract cites.
+use Prim.Native.Nat.{ℕ}
+use mathlib.Core.List.{List, [], _∷_}
+use Rattle.store.specs.Answer.{After, Telling}
+use Rattle.store.specs.Calls.{makingFresh, downloadingFont, removingFont, removingCharacter, tellingFont, tellingCharacter}
+use Rattle.store.specs.Download.{downloadingCharacter}
+use Rattle.store.specs.Drawing.{drawingRow, drawingPicture}
+use Rattle.choice.specs.Choosing.{choosing, refusalOf, fontOf}
+use Rattle.choice.specs.declared.Request.{Request}
+use Rattle.choice.specs.declared.Chosen.{Chosen}
+use Rattle.stream.specs.Reading.{Reading, reading}
+use Rattle.stream.specs.Written.{WriteOut, writingFont}
+
+-- ── the calls, each with its numbers and its buffers other than the store; any numbers, any bytes
+pub data Call : Type 0 where
+  make-fresh : Call
+  download-font : (n : ℕ) (block : List ℕ) → Call
+  download-character : (n c : ℕ) (block : List ℕ) → Call
+  remove-font : (n : ℕ) → Call
+  remove-character : (n c : ℕ) → Call
+  choose-font : (r : Request) → Call
+  tell-font : (n : ℕ) (out : List ℕ) → Call
+  tell-character : (n c : ℕ) (out : List ℕ) → Call
+  draw-row : (n c row : ℕ) (out : List ℕ) → Call
+  draw-picture : (n c : ℕ) (out : List ℕ) → Call
+  write-font : (n : ℕ) (out : List ℕ) → Call
+  read-stream : (stream : List ℕ) → Call
+
+-- the output that a call is lent; none is []
+unfoldable pub outputOf : Call → List ℕ
+outputOf make-fresh = []
+outputOf (download-font n b) = []
+outputOf (download-character n c b) = []
+outputOf (remove-font n) = []
+outputOf (remove-character n c) = []
+outputOf (choose-font r) = []
+outputOf (tell-font n out) = out
+outputOf (tell-character n c out) = out
+outputOf (draw-row n c row out) = out
+outputOf (draw-picture n c out) = out
+outputOf (write-font n out) = out
+outputOf (read-stream b) = []
+
+-- ── what a call answers and leaves
+pub record Outcome : Type 0 where
+  -- the refusal's number, 0 for done
+  pub refusal : ℕ
+  -- the other numbers that the call answers
+  pub numbers : List ℕ
+  -- the store and the output afterwards
+  pub store : List ℕ
+  pub out : List ℕ
+
+-- a call that changes the store
+abbrev pub changed : After → Outcome
+changed a = record { refusal = a .answer; numbers = []; store = a .bytes; out = [] }
+
+-- a call that is lent the store s to read alone: choosing answers the font number,
+abbrev pub named : List ℕ → Chosen → Outcome
+named s a = record { refusal = refusalOf a; numbers = fontOf a ∷ []; store = s; out = [] }
+
+-- telling the number of characters or of data bytes,
+abbrev pub told : List ℕ → Telling → Outcome
+told s a = record { refusal = a .refusal; numbers = a .count ∷ []; store = s; out = a .out }
+
+-- drawing no number,
+abbrev pub drawn : List ℕ → After → Outcome
+drawn s a = record { refusal = a .answer; numbers = []; store = s; out = a .bytes }
+
+-- writing its length
+abbrev pub wrote : List ℕ → WriteOut → Outcome
+wrote s a = record { refusal = a .refusal; numbers = a .count ∷ []; store = s; out = a .out }
+
+-- a stream: commands done, commands refused, the place of a 13
+abbrev pub read : Reading → Outcome
+read a = record { refusal = a .answer .refusal; numbers = a .answer .done ∷ a .answer .refused ∷ a .answer .place ∷ []; store = a .bytes; out = [] }
+
+-- a call on the buffer s
+unfoldable pub outcome : Call → List ℕ → Outcome
+outcome make-fresh s = changed (makingFresh s)
+outcome (download-font n b) s = changed (downloadingFont n b s)
+outcome (download-character n c b) s = changed (downloadingCharacter n c b s)
+outcome (remove-font n) s = changed (removingFont n s)
+outcome (remove-character n c) s = changed (removingCharacter n c s)
+outcome (choose-font r) s = named s (choosing s r)
+outcome (tell-font n out) s = told s (tellingFont n s out)
+outcome (tell-character n c out) s = told s (tellingCharacter n c s out)
+outcome (draw-row n c row out) s = drawn s (drawingRow n c row s out)
+outcome (draw-picture n c out) s = drawn s (drawingPicture n c s out)
+outcome (write-font n out) s = wrote s (writingFont n out s)
+outcome (read-stream b) s = read (reading b s)
+
+-- what a call leaves of the store
+abbrev pub leaves : Call → List ℕ → List ℕ
+leaves c s = outcome c s .store
+
+-- the store after a list of calls: "Each call gets the whole of it, as the last one left it"
+unfoldable pub ran : List Call → List ℕ → List ℕ
+ran [] s = s
+ran (c ∷ cs) s = ran cs (leaves c s)
