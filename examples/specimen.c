@@ -79,5 +79,6 @@ int main(int count, char **words)
             line += line_used[code / 16];
     }
     write_page(&sheet, plain);
+    free(sheet.dots);
     return 0;
 }

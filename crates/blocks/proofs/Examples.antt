@@ -1,5 +1,5 @@
--- Worked examples, which hold of the definitions by computing: document 01's P10, P11 and P12, source document 001's compressed character and
--- source document 004's portrait 'y'. Assumes nothing.
+-- Worked examples, which hold of the definitions by computing: source document 001's compressed character and source document 004's portrait
+-- 'y'. Assumes nothing.
 use Prim.Native.Nat.{ℕ}
 use mathlib.Core.Path.{_≡_, refl}
 use mathlib.Core.List.{List, [], _∷_, _++_}
@@ -8,31 +8,8 @@ use Rattle.blocks.specs.Dots.{bits, pack, dotsIn, unpack}
 use Rattle.blocks.specs.Runs.{fillRow, endRow, stepRun, scanFrom, start}
 use Rattle.blocks.specs.Rows.{bitmapRow, rowsFrom, runsRow, rowDots, rowBytes, picture}
 use Rattle.blocks.specs.Picture.{judge}
-use Rattle.blocks.specs.declared.runs.Scanned.the-variants.{Complete, PastWidth}
+use Rattle.blocks.specs.declared.runs.Scanned.the-variants.{Complete}
 use Rattle.blocks.specs.declared.picture.Judged.the-variants.{Complete as Whole}
-
--- P10: a row that is repeated, and one with a run of no dots
-pub p10-picture : picture 2 10 (1 ∷ 2 ∷ 3 ∷ 5 ∷ 0 ∷ 0 ∷ 10 ∷ []) 3 ≡ 56 ∷ 0 ∷ 56 ∷ 0 ∷ 255 ∷ 192 ∷ []
-unfolding picture rowBytes rowDots runsRow rowsFrom pack bits fillRow
-p10-picture = refl
-
-pub p10-scan : scanFrom 10 3 0 start (1 ∷ 2 ∷ 3 ∷ 5 ∷ 0 ∷ 0 ∷ 10 ∷ []) ≡ Complete 7
-unfolding scanFrom stepRun endRow fillRow
-p10-scan = refl
-
--- P11: a run of 255 dots and one of no dots before the same colour goes on
-pub p11-picture : picture 2 300 (0 ∷ 255 ∷ 0 ∷ 45 ∷ []) 1 ≡ replicate 38 0
-unfolding picture rowBytes rowDots runsRow rowsFrom pack bits fillRow
-p11-picture = refl
-
-pub p11-scan : scanFrom 300 1 0 start (0 ∷ 255 ∷ 0 ∷ 45 ∷ []) ≡ Complete 4
-unfolding scanFrom stepRun endRow fillRow
-p11-scan = refl
-
--- P12: in row 0, where 4 dots are filled, a run of 7
-pub p12-scan : scanFrom 10 1 0 start (0 ∷ 4 ∷ 7 ∷ []) ≡ PastWidth 0 4 7
-unfolding scanFrom stepRun endRow fillRow
-p12-scan = refl
 
 -- source document 001's compressed character, 20 dots wide and 20 rows high
 unfoldable pub compressed : List ℕ

@@ -5,4 +5,3 @@ pub mod Steps
 pub mod Choosing
 pub mod Right
 pub mod Scores
-pub mod Trials

@@ -1,15 +1,15 @@
 -- Laws of the command at a place. Assumes nothing.
 use Prim.Native.Nat.{ℕ, zero, suc, _+_, _*_, _-_, _≤_, _<_}
-use mathlib.Core.Path.{_≡_, refl, sym, _∙_}
+use mathlib.Core.Path.{_≡_, refl, _∙_}
 use mathlib.Core.List.{List, [], _∷_, _++_}
 use mathlib.Core.Bool.{Bool, true, false, cond}
 use native.Mathlib.Numerals.{add-one}
-use native.Mathlib.Nat.{add-zero, add-assoc}
+use native.Mathlib.Nat.{add-zero}
 use native.Mathlib.Omega.{arith}
 use borrow.Author.Tests.{leb-true, leb-false, eqb-true}
 use lib.Dec.{leb, eqb}
 use lib.ListN.{length, take, drop, drop-of-length-le, List·getD-eq-default, length-drop}
-use lib.Seq.{drop-cons, drop-append-seam, drop-append-add, take-all}
+use lib.Seq.{drop-cons, drop-append-seam, take-all}
 use Rattle.stream.proofs.Tests.{both, either}
 use Rattle.stream.specs.Command.{byte, isDigit, digits, spelled, numberOf, begins, numbered, isBlock, blockOf, command, Ends, moved, commandAt}
 use Rattle.stream.specs.declared.command.Number.{Number}
@@ -178,19 +178,6 @@ unfolding commandAt
 command-at-ends s at = ends-moved at (length s) (command (drop at s)) (rw (← (length-drop at s)) (command-ends (drop at s)))
 
 -- ---- a command depends only on what stands from its place on
-moved-twice : (m n : ℕ) (c : Command) → moved m (moved n c) ≡ moved (m + n) c
-unfolding moved
-moved-twice m n (SetFont v e) = rw (add-assoc m n e)
-moved-twice m n (SetCode v e) = rw (add-assoc m n e)
-moved-twice m n (FontBlock f e) = rw (add-assoc m n e, add-assoc m n f)
-moved-twice m n (CharacterBlock f e) = rw (add-assoc m n e, add-assoc m n f)
-moved-twice m n Broken = refl
-moved-twice m n End = refl
-
-pub command-behind : (a b : List ℕ) (n : ℕ) → commandAt (a ++ b) (length a + n) ≡ moved (length a) (commandAt b n)
-unfolding commandAt
-command-behind a b n = rw (drop-append-add a b n) (sym (moved-twice (length a) n (command (drop n b))))
-
 pub command-seam : (a b : List ℕ) → commandAt (a ++ b) (length a) ≡ moved (length a) (command b)
 unfolding commandAt
 command-seam a b = rw (drop-append-seam a b)

@@ -1,0 +1,5 @@
+pub mod Wrote
+pub mod Column
+pub mod Line
+pub mod Summary
+pub mod Listing

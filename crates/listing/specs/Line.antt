@@ -1,0 +1,46 @@
+-- Document 01, "The stream", the listing program: the lines of fonts. "Fields are the kept ones, chars the number of characters."
+use Prim.Native.Nat.{ℕ, _+_, _*_}
+use mathlib.Core.List.{List, [], _∷_, _++_}
+use lib.ListN.{getD, replicate}
+use Rattle.store.specs.Answer.{Telling}
+use Rattle.store.specs.Calls.{tellingFont}
+use Rattle.store.specs.Fonts.{Font}
+use Rattle.listing.specs.Column.{column, signedColumn}
+
+-- ' ' and the end of a line
+abbrev pub space : ℕ
+space = 32
+
+abbrev pub newline : ℕ
+newline = 10
+
+abbrev pub byte : List ℕ → ℕ → ℕ
+byte k i = getD k i 0
+
+-- two bytes, high and low
+unfoldable pub word : List ℕ → ℕ → ℕ → ℕ
+word k hi lo = byte k hi * 256 + byte k lo
+
+-- set, spacing, pitch and height of a font, by its kept bytes
+unfoldable pub measures : List ℕ → List ℕ
+measures k = column (word k 14 15) space ++ (column (byte k 13) space ++ (column (word k 16 17) space ++ column (word k 18 19) space))
+
+-- "style word (byte 4 high, byte 23 low)", "stroke weight (24, signed)", "The typeface is byte 26 high, 25 low."
+unfoldable pub looks : List ℕ → List ℕ
+looks k = column (word k 4 23) space ++ (signedColumn (byte k 24) space ++ column (word k 26 25) space)
+
+-- a font by its number, its kept bytes and the number of its characters
+unfoldable pub line : ℕ → List ℕ → ℕ → List ℕ
+line n k chars = column n space ++ (measures k ++ (looks k ++ column chars newline))
+
+abbrev pub lineOf : ℕ → Telling → List ℕ
+lineOf n t = line n (t .out) (t .count)
+
+-- font n of the store s, as it is told
+unfoldable pub fontLine : List ℕ → ℕ → List ℕ
+fontLine s n = lineOf n (tellingFont n s (replicate 64 0))
+
+-- a line per font
+unfoldable pub lines : List ℕ → List Font → List ℕ
+lines s [] = []
+lines s (f ∷ l) = fontLine s (f .number) ++ lines s l

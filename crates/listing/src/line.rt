@@ -1,0 +1,77 @@
+// The line of a font.
+ghost use mathlib.Core.Path.{_≡_};
+ghost use Prim.Native.Nat.{_+_, _≤_, _<_};
+ghost use lib.ListN.{length};
+ghost use Rattle.listing.specs.Wrote.{Wrote};
+ghost use Rattle.listing.specs.Line.{byte as byteOf, word as wordOf, measures, looks, line, fontLine};
+use crate::column::write_column;
+use crate::column::write_signed;
+use store::fonts;
+
+fn wide(x: u8) -> usize
+    ensures { λ r. ⌜ (r ≡ x) × (r < 256) ⌝ }
+{
+    x as usize
+}
+
+// A kept byte.
+fn byte(k: &[u8; 64], i: usize) -> usize
+    requires { ⌜ i < 64 ⌝ }
+    ensures { λ r. ⌜ (r ≡ byteOf (now (k .entry)) i) × (r < 256) ⌝ }
+{
+    wide(k[i])
+}
+
+// Two kept bytes, high and low.
+fn word(k: &[u8; 64], hi: usize, lo: usize) -> usize
+    requires { ⌜ (hi < 64) × (lo < 64) ⌝ }
+    ensures { λ r. ⌜ r ≡ wordOf (now (k .entry)) hi lo ⌝ }
+{
+    byte(k, hi) * 256 + byte(k, lo)
+}
+
+// Symbol set, spacing, pitch and height.
+fn write_measures(out: &mut [u8], at: usize, k: &[u8; 64]) -> usize
+    requires { ⌜ at + 24 ≤ length (now out) ⌝ }
+    ensures { λ r. ⌜ Wrote (now (out .entry)) at (measures (now (k .entry))) r (now (out .exit)) ⌝ }
+    ensures { λ r. ⌜ r ≤ at + 24 ⌝ }
+{
+    let spacing = write_column(out, at, word(k, 14, 15), b' ');
+    let pitch = write_column(out, spacing, byte(k, 13), b' ');
+    let height = write_column(out, pitch, word(k, 16, 17), b' ');
+    write_column(out, height, word(k, 18, 19), b' ')
+}
+
+// Style, weight and typeface.
+fn write_looks(out: &mut [u8], at: usize, k: &[u8; 64]) -> usize
+    requires { ⌜ at + 19 ≤ length (now out) ⌝ }
+    ensures { λ r. ⌜ Wrote (now (out .entry)) at (looks (now (k .entry))) r (now (out .exit)) ⌝ }
+    ensures { λ r. ⌜ r ≤ at + 19 ⌝ }
+{
+    let weight = write_column(out, at, word(k, 4, 23), b' ');
+    let face = write_signed(out, weight, k[24], b' ');
+    write_column(out, face, word(k, 26, 25), b' ')
+}
+
+// The line of the font with this number, these kept bytes and so many characters.
+fn write_line(out: &mut [u8], at: usize, number: usize, k: &[u8; 64], characters: usize) -> usize
+    requires { ⌜ at + 55 ≤ length (now out) ⌝ }
+    ensures { λ r. ⌜ Wrote (now (out .entry)) at (line number (now (k .entry)) characters) r (now (out .exit)) ⌝ }
+    ensures { λ r. ⌜ r ≤ at + 55 ⌝ }
+{
+    let set = write_column(out, at, number, b' ');
+    let style = write_measures(out, set, k);
+    let chars = write_looks(out, style, k);
+    write_column(out, chars, characters, b'\n')
+}
+
+// The line of a font of a store.
+pub fn write_font(out: &mut [u8], at: usize, s: &[u8], number: u32) -> usize
+    requires { ⌜ at + 55 ≤ length (now out) ⌝ }
+    ensures { λ r. ⌜ Wrote (now (out .entry)) at (fontLine (now (s .entry)) number) r (now (out .exit)) ⌝ }
+    ensures { λ r. ⌜ r ≤ at + 55 ⌝ }
+{
+    let mut kept = [0u8; 64];
+    let told = fonts::tell_font(s, &mut kept, number);
+    write_line(out, at, number as usize, &kept, told.count as usize)
+}
