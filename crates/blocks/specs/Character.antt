@@ -6,6 +6,7 @@ use lib.ListN.{length, take, set}
 use lib.Dec.{leb, eqb}
 use Rattle.blocks.specs.Field.{byte, word, within, signedWithin, negative, floorWord}
 use Rattle.blocks.specs.Check.{Check, _else_, verdict}
+use Rattle.blocks.specs.Header.{blockLimit}
 use Rattle.blocks.specs.declared.Verdict.{Verdict}
 use Rattle.blocks.specs.declared.character.Kind.{Kind}
 use Rattle.blocks.specs.declared.character.Kind.the-variants.{First, Continuation, Unknown}
@@ -38,7 +39,7 @@ deltaX b = word b 14
 
 -- "Length 2..32767, else 3"
 unfoldable pub characterLength : List ℕ → Bool
-characterLength b = within continuationBytes 32767 (length b)
+characterLength b = within continuationBytes blockLimit (length b)
 
 -- "byte 0 is 4, else 4. Byte 1 zero, a first block"; "Byte 1 not zero, a continuation"
 unfoldable pub kindOf : List ℕ → Kind

@@ -8,6 +8,10 @@ use Rattle.blocks.specs.Field.{byte, join, word, within, signedWithin, p
 use Rattle.blocks.specs.Check.{Check, _else_, verdict}
 use Rattle.blocks.specs.declared.Verdict.{Verdict}
 
+-- a block has at most so many bytes
+abbrev pub blockLimit : ℕ
+blockLimit = 32767
+
 -- how many bytes of a header are kept
 abbrev pub headerBytes : ℕ
 headerBytes = 64
@@ -57,14 +61,15 @@ typeface b = join (byte b 26) (byte b 25)
 
 -- "Length 64..32767, else 3."
 abbrev pub headerLength : List ℕ → Bool
-headerLength b = within headerBytes 32767 (length b)
+headerLength b = within headerBytes blockLimit (length b)
 
 -- "Byte 2 (format) 0 and descriptor size 64 up to the block's length, else 4."
 abbrev pub headerForm : List ℕ → Bool
 headerForm b = eqb (format b) 0 && within headerBytes (length b) (descriptorSize b)
 
--- "Then, else 5: type (3) 0..2; style word 0..1023; cell width and height at least 1; baseline below cell height; orientation 0 portrait or
--- 1 landscape; spacing 0 fixed or 1 proportional; symbol set 0..2047; stroke weight (signed) -7..7."
+-- "Then, else 5: type (3) 0..2; style word (byte 4 high, byte 23 low) 0..1023; cell width (8) and height (10) at least 1; baseline (6) below
+-- cell height; orientation (12) 0 portrait or 1 landscape; spacing (13) 0 fixed or 1 proportional; symbol set (14) 0..2047; stroke weight
+-- (24, signed) -7..7."
 abbrev pub headerFields : List ℕ → Bool
 headerFields b =
     leb (fontType b) 2

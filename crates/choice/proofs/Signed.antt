@@ -3,6 +3,7 @@ use Prim.Native.Nat.{ℕ, zero, suc, _+_, _-_, _/_, _%_, _^_, _≤_, _<_}
 use mathlib.Core.Path.{_≡_, refl, sym, ap, _∙_}
 use mathlib.Core.Bool.{Bool, true, false, not, _&&_, _||_}
 use native.Mathlib.Omega.{arith}
+use native.Mathlib.Nat.{mod-eq-of-lt, mod-eq-sub-mod}
 use borrow.Author.Tests.{le-leb, lt-leb, lt-ltb, le-ltb, leb-true, leb-false, ltb-true, ltb-false}
 use lib.Dec.{leb, ltb, leb·zero, leb·suc-suc}
 use lib.IntN.{ℤ, pos, negsuc, subℕ}
@@ -64,12 +65,43 @@ pub record Raised (h w n : ℕ) : Type 0 where
   pub low : AtLeast h (signed w n)
   pub is : raise h (signed w n) ≡ (n + h) % 2 ^ w
 
-pub raised-byte : (n : ℕ) → n < 256 → Raised 128 8 n
-raised-byte n k = go (ltb n 128) refl
+-- one law for each width
+raised : (h w n : ℕ) → h ≤ 2 ^ w / 2 → n < 2 ^ w → AtLeast h (signed w n) → Raised h w n
+raised h w n hh hn l = record { low = l; is = go (ltb n (2 ^ w / 2)) refl l }
   where
-    go : (s : Bool) → ltb n 128 ≡ s → Raised 128 8 n
-    go true e = let h : n < 128 = ltb-true n 128 e in record { low = rw (signed-pos 8 n h) tt; is = rw (signed-pos 8 n h) (omega arith) }
-    go false e = let h : 128 ≤ n = ltb-false n 128 e in record { low = rw (signed-neg 8 n h k) (omega arith); is = rw (signed-neg 8 n h k) (omega arith) }
+    go : (s : Bool) → ltb n (2 ^ w / 2) ≡ s → AtLeast h (signed w n) → raise h (signed w n) ≡ (n + h) % 2 ^ w
+    go true e _ =
+        let i : n < 2 ^ w / 2 = ltb-true _ _ e in
+        let b : n + h < 2 ^ w = omega arith in
+        rw (signed-pos w n i, mod-eq-of-lt b) (omega arith)
+    go false e l =
+        let i : 2 ^ w / 2 ≤ n = ltb-false _ _ e in
+        let k : 2 ^ w - suc n < h = rw (signed-neg w n i hn) at l in
+        let a : 2 ^ w ≤ n + h = omega arith in
+        let b : n + h - 2 ^ w < 2 ^ w = omega arith in
+        rw (signed-neg w n i hn, mod-eq-sub-mod a, mod-eq-of-lt b) (omega arith)
+
+-- a number of w bits that is -m up to m is at least -h, for an m up to h
+at-least : (h w m n : ℕ) → m ≤ h → m < 2 ^ w / 2 → n < 2 ^ w → (leb n m || leb (2 ^ w - m) n) ≡ true → AtLeast h (signed w n)
+at-least h w m n le hm hn t = go (leb n m) refl t
+  where
+    go : (u : Bool) → leb n m ≡ u → (u || leb (2 ^ w - m) n) ≡ true → AtLeast h (signed w n)
+    go true q v = let j : n ≤ m = leb-true n m q in let i : n < 2 ^ w / 2 = omega arith in rw (signed-pos w n i) tt
+    go false q v =
+        let j : 2 ^ w - m ≤ n = leb-true (2 ^ w - m) n v in
+        let i : 2 ^ w / 2 ≤ n = omega arith in
+        rw (signed-neg w n i hn) (omega arith)
+
+-- every number of w bits is at least the lowest of them, -h
+at-least-lowest : (h w n : ℕ) → 2 ^ w ≡ h + h → n < 2 ^ w → AtLeast h (signed w n)
+at-least-lowest h w n d hn = go (ltb n (2 ^ w / 2)) refl
+  where
+    go : (s : Bool) → ltb n (2 ^ w / 2) ≡ s → AtLeast h (signed w n)
+    go true e = rw (signed-pos w n (ltb-true _ _ e)) tt
+    go false e = let i : 2 ^ w / 2 ≤ n = ltb-false _ _ e in rw (signed-neg w n i hn) (omega arith)
+
+pub raised-byte : (n : ℕ) → n < 256 → Raised 128 8 n
+raised-byte n k = raised 128 8 n (omega arith) k (at-least-lowest 128 8 n refl k)
 
 or-false : (b : Bool) → (b || false) ≡ b
 or-false true = refl
@@ -104,14 +136,4 @@ within w m n hm hn = go (ltb n (2 ^ w / 2)) refl
 
 -- a weight that a request may ask for
 pub raised-request : (n : ℕ) → n < 4294967296 → (leb n 7 || leb 4294967289 n) ≡ true → Raised 128 32 n
-raised-request n k t = go (leb n 7) refl t
-  where
-    go : (s : Bool) → leb n 7 ≡ s → (s || leb 4294967289 n) ≡ true → Raised 128 32 n
-    go true e _ =
-        let h : n ≤ 7 = leb-true n 7 e in
-        let i : n < 2 ^ 32 / 2 = omega arith in
-        record { low = rw (signed-pos 32 n i) tt; is = rw (signed-pos 32 n i) (omega arith) }
-    go false e u =
-        let h : 4294967289 ≤ n = leb-true 4294967289 n u in
-        let i : 2 ^ 32 / 2 ≤ n = omega arith in
-        record { low = rw (signed-neg 32 n i k) (omega arith); is = rw (signed-neg 32 n i k) (omega arith) }
+raised-request n k t = raised 128 32 n (omega arith) k (at-least 128 32 7 n (omega arith) (omega arith) k t)

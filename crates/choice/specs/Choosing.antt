@@ -9,7 +9,7 @@ use Rattle.choice.specs.declared.Request.{Request}
 use Rattle.choice.specs.declared.Chosen.{Chosen}
 use Rattle.choice.specs.declared.Chosen.the-variants.{Number, NotStore, OutOfRange, NoFont}
 
--- the checks in order, then the choice among the kept fonts
+-- "Choosing checks 1, 2, 11 and answers the font number.": the choice among the kept fonts
 unfoldable pub choosing : List ℕ → Request → Chosen
 choosing s r = cond (isStore s) (cond (inRange r) (choose r (fontsOf s)) OutOfRange) NotStore
 

@@ -37,7 +37,7 @@ module _ (k s o₁ o₂ o₃ o₄ : List ℕ) (at e₁ e₂ e₃ e₄ : ℕ) whe
   pub wrote-measures : (a b c d : ℕ) → a ≡ word k 14 15 → b ≡ byte k 13 → c ≡ word k 16 17 → d ≡ word k 18 19
       → Wrote s at (column a 32) e₁ o₁ → Wrote o₁ e₁ (column b 32) e₂ o₂ → Wrote o₂ e₂ (column c 32) e₃ o₃ → Wrote o₃ e₃ (column d 32) e₄ o₄
       → Wrote s at (measures k) e₄ o₄
-  unfolding measures
+  unfolding measures word
   wrote-measures a b c d p q r t w₁ w₂ w₃ w₄ =
       rw (← p, ← q, ← r, ← t)
       (wrote-then _ _ _ _ _ _ _ _ w₁ (wrote-then _ _ _ _ _ _ _ _ w₂ (wrote-then _ _ _ _ _ _ _ _ w₃ w₄)))
@@ -45,7 +45,7 @@ module _ (k s o₁ o₂ o₃ o₄ : List ℕ) (at e₁ e₂ e₃ e₄ : ℕ) whe
   pub wrote-looks : (a c : ℕ) → a ≡ word k 4 23 → c ≡ word k 26 25
       → Wrote s at (column a 32) e₁ o₁ → Wrote o₁ e₁ (signedColumn (byte k 24) 32) e₂ o₂ → Wrote o₂ e₂ (column c 32) e₃ o₃
       → Wrote s at (looks k) e₃ o₃
-  unfolding looks
+  unfolding looks word
   wrote-looks a c p r w₁ w₂ w₃ = rw (← p, ← r) (wrote-then _ _ _ _ _ _ _ _ w₁ (wrote-then _ _ _ _ _ _ _ _ w₂ w₃))
 
   pub wrote-line : (n chars : ℕ) → Wrote s at (column n 32) e₁ o₁ → Wrote o₁ e₁ (measures k) e₂ o₂ → Wrote o₂ e₂ (looks k) e₃ o₃

@@ -2,6 +2,7 @@
 use Prim.Native.Nat.{ℕ, _+_, _*_}
 use mathlib.Core.List.{List, [], _∷_, _++_}
 use lib.ListN.{getD, replicate}
+use Rattle.blocks.specs.Header.{symbolSet, spacing, pitch, height, style, strokeWeight, typeface}
 use Rattle.store.specs.Answer.{Telling}
 use Rattle.store.specs.Calls.{tellingFont}
 use Rattle.store.specs.Fonts.{Font}
@@ -23,11 +24,11 @@ word k hi lo = byte k hi * 256 + byte k lo
 
 -- set, spacing, pitch and height of a font, by its kept bytes
 unfoldable pub measures : List ℕ → List ℕ
-measures k = column (word k 14 15) space ++ (column (byte k 13) space ++ (column (word k 16 17) space ++ column (word k 18 19) space))
+measures k = column (symbolSet k) space ++ (column (spacing k) space ++ (column (pitch k) space ++ column (height k) space))
 
 -- "style word (byte 4 high, byte 23 low)", "stroke weight (24, signed)", "The typeface is byte 26 high, 25 low."
 unfoldable pub looks : List ℕ → List ℕ
-looks k = column (word k 4 23) space ++ (signedColumn (byte k 24) space ++ column (word k 26 25) space)
+looks k = column (style k) space ++ (signedColumn (strokeWeight k) space ++ column (typeface k) space)
 
 -- a font by its number, its kept bytes and the number of its characters
 unfoldable pub line : ℕ → List ℕ → ℕ → List ℕ

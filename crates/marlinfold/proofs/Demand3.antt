@@ -94,7 +94,7 @@ call-kept (tell-character n c out) s is = (is, refl)
 call-kept (draw-row n c row out) s is = (is, refl)
 call-kept (draw-picture n c out) s is = (is, refl)
 call-kept (write-font n out) s is = (is, refl)
-call-kept (read-stream b) s is = rw (is, read-bytes b s is) (obeyed-all b (spelledFrom b 0 .commands) (record { progress = outset; bytes = s }) is)
+call-kept (read-stream b) s is = rw (read-bytes b s is) (obeyed-all b (spelledFrom b 0 .commands) (record { progress = outset; bytes = s }) is)
 
 ran-kept : (cs : List Call) (s : List ℕ) (book : List Font) → Kept s book → Kept (ran cs s) (bookOf cs s book)
 unfolding ran bookOf

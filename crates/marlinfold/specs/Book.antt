@@ -4,7 +4,7 @@ use mathlib.Core.List.{List, [], _∷_, _++_}
 use mathlib.Core.Bool.{cond}
 use lib.Dec.{eqb}
 use Rattle.blocks.specs.Header.{keptHeader}
-use Rattle.store.specs.Fonts.{Font, isStore, fontsAfter}
+use Rattle.store.specs.Fonts.{Font, fontsAfter}
 use Rattle.store.specs.Calls.{makingFresh, downloadingFont, removingFont}
 use Rattle.store.specs.Download.{downloadingCharacter}
 use Rattle.stream.specs.Reading.{Course, outset, part, obey, spelledFrom}
@@ -59,7 +59,7 @@ deeds (tell-character n c out) s = []
 deeds (draw-row n c row out) s = []
 deeds (draw-picture n c out) s = []
 deeds (write-font n out) s = []
-deeds (read-stream b) s = cond (isStore s) (streamDeeds b (spelledFrom b 0 .commands) (record { progress = outset; bytes = s })) []
+deeds (read-stream b) s = streamDeeds b (spelledFrom b 0 .commands) (record { progress = outset; bytes = s })
 
 -- the book after a list of calls
 unfoldable pub bookOf : List Call → List ℕ → List Font → List Font

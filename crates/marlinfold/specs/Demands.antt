@@ -111,7 +111,7 @@ pub record Again (n : ℕ) (s u : List ℕ) : Type 0 where
   pub was : Store
   pub from : decode s ≡ some was
   pub now : decode u ≡ some (onlyFont n was)
-  -- so that every call on the font answers as before
+  -- so that telling, drawing and writing the font answer as before
   pub font-told : (out : List ℕ) → tellingFont n u out ≡ tellingFont n s out
   pub character-told : (c : ℕ) (out : List ℕ) → tellingCharacter n c u out ≡ tellingCharacter n c s out
   pub row-drawn : (c row : ℕ) (out : List ℕ) → drawingRow n c row u out ≡ drawingRow n c row s out

@@ -2,3 +2,4 @@ pub mod Calls
 pub mod Book
 pub mod Demands
 pub mod Trials
+pub mod Fields

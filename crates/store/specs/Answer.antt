@@ -11,7 +11,7 @@ use Rattle.store.specs.Model.{Rec, Store, encode, decode}
 use Rattle.store.specs.Order.{find}
 use Rattle.store.specs.declared.telling.Told.{Told}
 
--- "buffer not a store", else 1
+-- a store, else 1, "buffer not a store"
 unfoldable pub onStore : {A : Type 0} → (ℕ → A) → Option Store → (Store → A) → A
 onStore refuse none f = refuse 1
 onStore refuse (some st) f = f st

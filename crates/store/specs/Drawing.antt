@@ -1,4 +1,4 @@
--- Document 01, "Drawing": a row, or the whole picture, of a kept character.
+-- Document 01, "The calls, and what they answer", "Drawing checks ..": a row, or the whole picture, of a kept character.
 use Prim.Native.Nat.{ℕ}
 use mathlib.Core.List.{List}
 use lib.Dec.{leb, ltb}

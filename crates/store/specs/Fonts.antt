@@ -6,6 +6,8 @@ use mathlib.Core.Bool.{Bool, true, false, cond}
 use lib.Dec.{eqb, ltb}
 use mathlib.Core.Option.{Option, none, some}
 use lib.ListN.{length, take, drop}
+use Rattle.blocks.specs.Header.{headerBytes}
+use Rattle.store.specs.Layout.{lastFont}
 use Rattle.store.specs.Model.{Rec, font, character, Store, Under, sorted, split, decode}
 use Rattle.store.specs.declared.kept_fonts.Begin.{Begin}
 use Rattle.store.specs.declared.kept_fonts.Begin.the-variants.{At, NotStore}
@@ -89,5 +91,5 @@ Begun s (At p) = (isStore s ≡ true) × Place s p × (fontsAt s p ≡ fontsOf s
 abbrev pub Onward : List ℕ → ℕ → Next → Type 0
 Onward s at End = fontsAt s at ≡ []
 Onward s at (found n k next) =
-    (fontsAt s at ≡ record { number = n; kept = take 64 (drop k s) } ∷ fontsAt s next)
-    × Place s next × (at < next) × (next ≤ length s) × (k + 64 ≤ length s) × (n ≤ 32767)
+    (fontsAt s at ≡ record { number = n; kept = take headerBytes (drop k s) } ∷ fontsAt s next)
+    × Place s next × (at < next) × (next ≤ length s) × (k + headerBytes ≤ length s) × (n ≤ lastFont)

@@ -6,8 +6,8 @@ use mathlib.Core.Bool.{Bool, true, false, _||_, cond}
 use mathlib.Core.Option.{Option, none, some}
 use lib.ListN.{length, take, drop, replicate}
 use lib.Dec.{eqb, leb}
-use Rattle.blocks.specs.Header.{orientation, isKeptHeader}
-use Rattle.blocks.specs.Character.{class, width, height, isKeptFirst}
+use Rattle.blocks.specs.Header.{headerBytes, orientation, isKeptHeader}
+use Rattle.blocks.specs.Character.{descriptorBytes, class, width, height, isKeptFirst}
 use Rattle.blocks.specs.Picture.{held}
 use Rattle.blocks.specs.declared.picture.Held.{Held}
 use Rattle.blocks.specs.declared.picture.Held.the-variants.{Whole, Unfinished, Foreign}
@@ -132,9 +132,9 @@ unfoldable pub headRec : List ℕ → Option Rec
 headRec s =
     guard (leb (field 4 0 s) (length s))
     (cond (eqb (field 2 4 s) fontKind)
-    (guard (eqb (field 4 0 s) fontRecord) (some (font (field 2 6 s) (take 64 (drop 8 s)))))
+    (guard (eqb (field 4 0 s) fontRecord) (some (font (field 2 6 s) (take headerBytes (drop 8 s)))))
     (guard (eqb (field 2 4 s) characterKind)
-    (guard (leb characterRecord (field 4 0 s)) (some (character (field 2 6 s) (field 2 8 s) (take 16 (drop 10 s)) (take (field 4 0 s - characterRecord) (drop characterRecord s)))))))
+    (guard (leb characterRecord (field 4 0 s)) (some (character (field 2 6 s) (field 2 8 s) (take descriptorBytes (drop 10 s)) (take (field 4 0 s - characterRecord) (drop characterRecord s)))))))
 
 -- the length of a record, and of a run of records
 unfoldable pub sizeOf : Rec → ℕ

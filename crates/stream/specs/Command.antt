@@ -4,6 +4,7 @@ use mathlib.Core.List.{List, [], _∷_}
 use mathlib.Core.Bool.{Bool, _&&_, cond}
 use lib.ListN.{length, getD, drop}
 use lib.Dec.{leb, eqb}
+use Rattle.blocks.specs.Header.{blockLimit}
 use Rattle.stream.specs.declared.command.Command.{Command}
 use Rattle.stream.specs.declared.command.Command.the-variants.{SetFont, SetCode, FontBlock, CharacterBlock, Broken, End}
 use Rattle.stream.specs.declared.command.Number.{Number}
@@ -51,7 +52,7 @@ numbered b d =
 
 -- a number and W, "at most 32,767", and as many bytes
 unfoldable pub isBlock : List ℕ → Number → Bool
-isBlock b d = hasDigit d && (eqb (byte b (d .next)) 87 && (leb (d .value) 32767 && leb (d .next + 1 + d .value) (length b)))
+isBlock b d = hasDigit d && (eqb (byte b (d .next)) 87 && (leb (d .value) blockLimit && leb (d .next + 1 + d .value) (length b)))
 
 unfoldable pub blockOf : (ℕ → ℕ → Command) → List ℕ → Number → Command
 blockOf block b d = cond (isBlock b d) (block (d .next + 1) (d .next + 1 + d .value)) Broken

@@ -37,7 +37,7 @@ onward rest at (CharacterBlock from to) = spell (CharacterBlock from to) (rest t
 onward rest at Broken = record { commands = []; broken = some at }
 onward rest at End = record { commands = []; broken = none }
 
--- those of b from a place on, k at most; no command is empty, so that a stream has no more than bytes
+-- those of b from a place on, k at most; no command is empty, so that there are no more of them than bytes
 unfoldable pub spelledIn : ℕ → List ℕ → ℕ → Spelled
 spelledIn zero b at = record { commands = []; broken = none }
 spelledIn (suc k) b at = onward (spelledIn k b) at (commandAt b at)

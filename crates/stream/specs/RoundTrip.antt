@@ -1,4 +1,4 @@
--- Document 01, "The stream": a font that was written, read into a fresh store of the same length.
+-- Demand 2, its second half: a font that was written, read into a fresh store of the same length.
 use Prim.Native.Nat.{ℕ, _+_}
 use mathlib.Core.Path.{_≡_}
 use mathlib.Core.List.{List, [], _∷_}
