@@ -43,7 +43,7 @@ static void read_fonts(const char *name)
     if (!file)
         stop(name, "cannot be opened");
     do {
-        uint8_t *larger = (uint8_t *)memory(room += 65536);
+        uint8_t *larger = (uint8_t *)memory(room = room ? 2 * room : 65536);
         if (length)
             memcpy(larger, stream, length);
         free(stream);

@@ -15,6 +15,8 @@ int main(void)
     mf_make_fresh(store, sizeof store);
     read = mf_read_stream(store, sizeof store, stream, length);
     printf("done %u, refused %u\n", (unsigned)read.done, (unsigned)read.refused);
+    if (read.refusal)
+        printf("%s, at byte %u\n", mf_refusal_name(read.refusal), (unsigned)read.place);
     /* 10 characters to the inch, 10 points, style 0, weight 3 (bold), typeface 0 */
     chosen = mf_choose(store, sizeof store, MF_ROMAN_8, MF_PROPORTIONAL, 1000, 1000, 0, 3, 0,
                        MF_PORTRAIT);

@@ -23,8 +23,8 @@
  *   written, but the pointer must still not be NULL.
  *   Buffers lent to one call must not overlap.
  *   Calls on different stores may run in parallel, and so may calls that only
- *   look at one store (those that take it as const). A call that changes a
- *   store needs it alone.
+ *   look at one store (those that take it as const), each with an output of its
+ *   own. A call that changes a store needs it alone.
  *
  * What comes back
  *   A refusal number, MF_DONE (0) if there is none. After a refusal every other
@@ -191,9 +191,19 @@ uint32_t mf_remove_font(uint8_t *store, size_t store_len, uint32_t font);
 uint32_t mf_remove_character(uint8_t *store, size_t store_len,
                              uint32_t font, uint32_t code);
 
-/* Answers the number of the font that fits best, by symbol set (Roman-8 where
- * none has the set asked for), spacing, pitch (fixed fonts), height, style,
- * weight, typeface, orientation and at last the lowest number.
+/* Answers the number of the font that fits best: the one left by these steps,
+ * each among the fonts that the one before leaves.
+ *   1. the symbol set asked for, else Roman-8
+ *   2. the spacing asked for, else the other
+ *   3. of fixed fonts, the least pitch not below the one asked for, else the
+ *      greatest
+ *   4. the nearest height; 25 hundredths of a point off or less count as none
+ *   5. the style, if any has it
+ *   6. the weight; else, for 0 or more, the next thicker, failing that the nearest
+ *      thinner; for less than 0, the next thinner, failing that the nearest thicker
+ *   7. the typeface, if any has it
+ *   8. the orientation, if any has it
+ *   9. the lowest number
  *   symbol_set   0..2047
  *   spacing      MF_FIXED or MF_PROPORTIONAL
  *   pitch        hundredths of a character per inch, 0..57600
@@ -245,8 +255,9 @@ mf_written mf_write_font(const uint8_t *store, size_t store_len,
  *   ESC *c#D    font number         ESC )s#W    and # bytes of a font block
  *   ESC *c#E    code                ESC (s#W    and # bytes of a character block
  * with one to five digits for #, in W at most 32767. Number and code start at 0.
- * Each block has the effect of its own download. A refused one is passed over;
- * a number or code out of range is refused too and changes nothing.
+ * Each block has the effect of its own download, so that a character block that
+ * finds no room removes its font. A refused one is counted and passed over; a
+ * number or code out of range is refused too and changes nothing.
  * Answers the commands done and the commands refused; place is then 0.
  * Refuses: 1; 13 with the place of the broken command's first byte, counted
  * from 0, and the counts before it. */

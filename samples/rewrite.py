@@ -20,6 +20,7 @@ import sys
 ESC = 0x1B
 FORMAT_0, FORMAT_20 = 0, 20
 DESCRIPTOR = 64
+FONT_MAX, CODE_MAX, BLOCK_MAX = 32767, 255, 32767
 
 
 class Broken(Exception):
@@ -106,14 +107,20 @@ def rewrite(stream, options):
     for group, value, letter, data in commands(stream):
         if (group, letter) == ("*c", "D"):
             number = value
+            if not 0 <= number + options.font <= FONT_MAX:
+                raise Broken("a font number out of range")
         elif (group, letter) == ("*c", "E"):
             code = value
+            if not 0 <= code <= CODE_MAX:
+                raise Broken("a character code out of range")
         elif (group, letter) == (")s", "W"):
             block = font_block(data, options)
             say(f"*c{number + options.font}D")
             say(f")s{len(block)}W", block)
             said = number, None
         elif (group, letter) == ("(s", "W"):
+            if len(data) > BLOCK_MAX:
+                raise Broken("a character block that is too long")
             if said is None or said[0] != number:
                 say(f"*c{number + options.font}D")
             if said != (number, code):
@@ -147,7 +154,7 @@ def main():
         ("--face", 0, 65535, "typeface"),
     ):
         form.add_argument(option, type=within(low, high), metavar="N", help=meaning)
-    form.add_argument("--font", type=within(0, 32767), default=0, metavar="N",
+    form.add_argument("--font", type=within(0, FONT_MAX), default=0, metavar="N",
                       help="added to every font number")
     options = form.parse_args()
     try:

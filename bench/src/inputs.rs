@@ -15,7 +15,7 @@ pub struct Input {
 /// A name, and its input for a store of a length.
 pub type Named = (&'static str, fn(usize) -> Input);
 
-pub const INPUTS: [Named; 21] = [
+pub const INPUTS: [Named; 22] = [
     ("choose, store full of fonts", choose_among_fonts),
     ("choose, class 2 characters kept", choose_beside_runs),
     ("choose, class 1 characters kept", choose_beside_dots),
@@ -43,6 +43,7 @@ pub const INPUTS: [Named; 21] = [
     ("read a stream of rising fonts", read_fonts),
     ("read a stream of characters", read_characters),
     ("read a stream of falling fonts", read_falling_fonts),
+    ("read a stream of continuations", read_continuations),
 ];
 
 const REQUEST: Request = Request {
@@ -360,6 +361,23 @@ fn read_characters(length: usize) -> Input {
     let mut stream = vec![0; length + 2048];
     let written = reference::write_font(&store, &mut stream, 5);
     stream.truncate(written.length as usize);
+    Input {
+        given: stream,
+        ..input(fresh(length), Call::ReadStream)
+    }
+}
+
+/// One large class 2 character in continuations of eight data bytes.
+fn read_continuations(length: usize) -> Input {
+    let (width, height, data) = large(length);
+    let first = first_block(2, width, height, &[]);
+    let mut stream = stream_of_fonts(5..=5);
+    stream.extend(format!("\x1b*c65E\x1b(s{}W", first.len()).bytes());
+    stream.extend(first);
+    for part in data.chunks(8) {
+        stream.extend(format!("\x1b(s{}W\x04\x01", 2 + part.len()).bytes());
+        stream.extend(part);
+    }
     Input {
         given: stream,
         ..input(fresh(length), Call::ReadStream)

@@ -107,6 +107,18 @@ impl Call {
             Call::ReadStream { .. } => 11,
         }
     }
+
+    /// What its output holds before; empty if it has none.
+    pub fn output(&self) -> &[u8] {
+        match self {
+            Call::TellFont { out, .. }
+            | Call::TellCharacter { out, .. }
+            | Call::DrawRow { out, .. }
+            | Call::DrawPicture { out, .. }
+            | Call::WriteFont { out, .. } => out,
+            _ => &[],
+        }
+    }
 }
 
 /// Bytes for a report: all of a few, the beginning of many.
@@ -375,7 +387,7 @@ pub fn ours(
 
 /// The same call of the reference.
 pub fn theirs(call: &Call, store: &mut [u8]) -> Outcome {
-    let mut output = Vec::new();
+    let mut output = call.output().to_vec();
     let answer = match call {
         Call::MakeFresh => Answer::bare(reference::make_fresh(store)),
         Call::DownloadFont { block, font } => {
@@ -392,31 +404,21 @@ pub fn theirs(call: &Call, store: &mut [u8]) -> Outcome {
             let chosen = reference::choose(store, request);
             Answer::one(chosen.refusal, chosen.font)
         }
-        Call::TellFont { out, font } => {
-            output.clone_from(out);
+        Call::TellFont { font, .. } => {
             let told = reference::tell_font(store, &mut output, *font);
             Answer::one(told.refusal, told.count)
         }
-        Call::TellCharacter { out, font, code } => {
-            output.clone_from(out);
+        Call::TellCharacter { font, code, .. } => {
             let told = reference::tell_character(store, &mut output, *font, *code);
             Answer::one(told.refusal, told.count)
         }
         Call::DrawRow {
-            out,
-            font,
-            code,
-            row,
-        } => {
-            output.clone_from(out);
-            Answer::bare(reference::draw_row(store, &mut output, *font, *code, *row))
-        }
-        Call::DrawPicture { out, font, code } => {
-            output.clone_from(out);
+            font, code, row, ..
+        } => Answer::bare(reference::draw_row(store, &mut output, *font, *code, *row)),
+        Call::DrawPicture { font, code, .. } => {
             Answer::bare(reference::draw_picture(store, &mut output, *font, *code))
         }
-        Call::WriteFont { out, font } => {
-            output.clone_from(out);
+        Call::WriteFont { font, .. } => {
             let written = reference::write_font(store, &mut output, *font);
             Answer::one(written.refusal, written.length)
         }

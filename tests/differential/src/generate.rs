@@ -977,7 +977,7 @@ impl Generator<'_> {
         let pick = chance.below(records.len());
         let of = |record: &Record| store[record.at..record.at + record.length].to_vec();
         let mut parts: Vec<Vec<u8>> = records.iter().map(of).collect();
-        match chance.below(7) {
+        match chance.below(8) {
             0 => {
                 let other = chance.below(parts.len());
                 parts.swap(pick, other);
@@ -1005,6 +1005,14 @@ impl Generator<'_> {
                 bytes[6..8].copy_from_slice(&1_u16.to_le_bytes());
                 bytes[8..10].copy_from_slice(&(record.font as u16).to_le_bytes());
                 bytes[10..12].copy_from_slice(&(code as u16).to_le_bytes());
+            }
+            6 if self.theme == Theme::Giants => {
+                // Kept data at its limit or one byte past it, by zero runs.
+                let of_character = records.iter().position(|record| record.code.is_some());
+                let part = &mut parts[of_character.unwrap_or(pick)];
+                part.resize(26 + chance.of(&[32768, 32769]), 0);
+                let length = part.len() as u32;
+                part[..4].copy_from_slice(&length.to_le_bytes());
             }
             _ => {
                 // Another length: shorter, or with zeros behind.

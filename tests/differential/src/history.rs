@@ -160,6 +160,9 @@ impl History<'_> {
             if before != pair.theirs {
                 return complain(format!("refused with {answer:?}, but the store changed"));
             }
+            if call.output() != out {
+                return complain(format!("refused with {answer:?}, but the output changed"));
+            }
             if answer.numbers != [0; 3] {
                 return complain(format!("refused with {answer:?}, numbers not 0"));
             }

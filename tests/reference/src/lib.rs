@@ -3,8 +3,8 @@
 //!
 //! "01" in the comments is document 01, which decides every rule. What stands
 //! in quotation marks are its own words, so that each rule can be held beside
-//! its passage. "Readings" are the design's section 3: how 01 is read where it
-//! leaves a doubt; README.md has what neither settles.
+//! its passage. "Readings" are those of docs/DECISIONS.md: how 01 is read where
+//! it leaves a doubt; README.md has what neither settles.
 //!
 //! Every call takes any numbers and any buffers and answers 01's number of
 //! refusal, 0 for done. None asks for memory: the store is checked once per
