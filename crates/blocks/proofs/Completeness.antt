@@ -8,8 +8,7 @@ use native.Mathlib.Omega.{arith}
 use borrow.Author.Tests.{le-leb, lt-leb, leb-true, leb-false}
 use lib.Dec.{ltb, leb, eqb}
 use lib.ListN.{length, replicate, length-append, length-replicate}
-use Rattle.blocks.specs.Runs.{fillRow, endRow, stepRun, scanFrom, start, onStep, onFill}
-use Rattle.blocks.specs.Line.{placeOf}
+use Rattle.blocks.specs.Runs.{fillRow, endRow, placeOf, stepRun, scanFrom, start, onStep, onFill}
 use Rattle.blocks.specs.Rows.{rowsFrom, At, count, inRow}
 use Rattle.blocks.specs.declared.runs.Place.the-variants.{Count, Finished}
 use Rattle.blocks.specs.declared.runs.Reader.{Reader}

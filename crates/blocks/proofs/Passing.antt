@@ -9,8 +9,8 @@ use borrow.Author.Tests.{lt-ltb, le-ltb, ltb-true, ltb-false, eqb-true, eqb-fals
 use lib.Dec.{ltb, eqb}
 use lib.ListN.{length, drop, getD, length-drop, drop-of-length-le}
 use lib.Seq.{drop-cons}
-use Rattle.blocks.specs.Runs.{fillRow, endRow, stepRun, scanFrom, isFinished}
-use Rattle.blocks.specs.Line.{placeOf, insideOf, stopOf, passOf}
+use Rattle.blocks.specs.Runs.{placeOf, fillRow, endRow, stepRun, scanFrom, isFinished}
+use Rattle.blocks.specs.Line.{insideOf, stopOf, passOf}
 use Rattle.blocks.specs.declared.runs.Place.{Place}
 use Rattle.blocks.specs.declared.runs.Place.the-variants.{Count, Finished}
 use Rattle.blocks.specs.declared.runs.Reader.{Reader}

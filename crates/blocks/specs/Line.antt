@@ -6,16 +6,12 @@ use lib.Dec.{ltb, eqb}
 use lib.ListN.{length, drop, getD}
 use Rattle.blocks.specs.declared.runs.Place.{Place}
 use Rattle.blocks.specs.declared.runs.Place.the-variants.{Count, White, Black, Finished}
+use Rattle.blocks.specs.Runs.{placeOf}
 use Rattle.blocks.specs.declared.runs.Going.{Going}
 use Rattle.blocks.specs.declared.runs.Going.the-variants.{AtRow, InRow, Done}
 use Rattle.blocks.specs.declared.runs.Inside.{Inside}
 use Rattle.blocks.specs.declared.runs.Passed.{Passed}
 use Rattle.blocks.specs.declared.runs.Passed.the-variants.{Ends, Cut, Over}
-
--- the place in a row of the next run's colour
-abbrev pub placeOf : Bool → ℕ → Place
-placeOf false f = White f
-placeOf true f = Black f
 
 -- from place n on, over the runs of xs that leave a row w dots wide unfinished, where f dots are filled and the next run is black or not
 unfoldable pub insideOf : ℕ → ℕ → ℕ → Bool → List ℕ → Inside

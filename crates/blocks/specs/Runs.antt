@@ -1,7 +1,7 @@
 -- Document 01, "Rows", class 2: what the reader does with each byte, and with a run of them.
 use Prim.Native.Nat.{ℕ, _+_}
 use mathlib.Core.List.{List, [], _∷_}
-use mathlib.Core.Bool.{Bool, true, false, cond}
+use mathlib.Core.Bool.{Bool, true, false, not, cond}
 use lib.Dec.{ltb, leb, eqb}
 use Rattle.blocks.specs.declared.runs.Place.{Place}
 use Rattle.blocks.specs.declared.runs.Place.the-variants.{Count, White, Black, Finished}
@@ -32,13 +32,21 @@ onFill Over over whole part = over
 onFill Whole over whole part = whole
 onFill (Part n) over whole part = part n
 
+-- the place in a row of the next run's colour
+abbrev pub placeOf : Bool → ℕ → Place
+placeOf false f = White f
+placeOf true f = Black f
+
+-- "white and black runs in turn": the byte b is a run, black or not, where f dots are filled
+abbrev pub runIn : ℕ → ℕ → Reader → ℕ → Bool → ℕ → Stepped
+runIn w h s b c f =
+    onFill (fillRow w f b) (Past (s .row) f b) (Next (endRow h s)) (λ n. Next (record { row = s .row; repeat = s .repeat; at = placeOf (not c) n }))
+
 -- "a repeat count, then white and black runs in turn, white first, each one byte, until they sum to the width"
 abbrev pub stepAt : ℕ → ℕ → Reader → ℕ → Place → Stepped
 stepAt w h s b Count = Next (record { row = s .row; repeat = b; at = White 0 })
-stepAt w h s b (White f) =
-    onFill (fillRow w f b) (Past (s .row) f b) (Next (endRow h s)) (λ n. Next (record { row = s .row; repeat = s .repeat; at = Black n }))
-stepAt w h s b (Black f) =
-    onFill (fillRow w f b) (Past (s .row) f b) (Next (endRow h s)) (λ n. Next (record { row = s .row; repeat = s .repeat; at = White n }))
+stepAt w h s b (White f) = runIn w h s b false f
+stepAt w h s b (Black f) = runIn w h s b true f
 stepAt w h s b Finished = Next s
 
 -- one byte b of a picture w dots wide and h rows high, read in the state s

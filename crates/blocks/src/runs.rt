@@ -4,8 +4,8 @@ ghost use mathlib.Core.Bool.{false};
 ghost use mathlib.Core.List.{_++_};
 ghost use Prim.Native.Nat.{_+_, _^_, _≤_, _<_};
 ghost use lib.ListN.{length, drop};
-ghost use Rattle.blocks.specs.Runs.{fillRow, endRow, stepRun, isFinished, scanFrom, start};
-ghost use Rattle.blocks.specs.Line.{placeOf, insideOf, passOf, goingAt};
+ghost use Rattle.blocks.specs.Runs.{fillRow, endRow, placeOf, runIn, stepRun, isFinished, scanFrom, start};
+ghost use Rattle.blocks.specs.Line.{insideOf, passOf, goingAt};
 
 // Where the reader is: at a repeat count, in a white or a black run with dots filled, finished.
 pub enum Place {
@@ -101,6 +101,25 @@ fn place_of(black: bool, filled: u16) -> Place
     }
 }
 
+// A run, black or not, where some dots of its row are filled: the next one has the other colour.
+fn run_in(s: Reader, width: u16, height: u16, run: u8, black: bool, filled: u16) -> Stepped
+    ensures { λ r. ⌜ r ≡ runIn width height s run black filled ⌝ }
+{
+    match fill(width, filled, run) {
+        Filled::Over => Stepped::Past {
+            row: s.row,
+            filled: filled,
+            run: run,
+        },
+        Filled::Whole => Stepped::Next(end_row(s, height)),
+        Filled::Part(n) => Stepped::Next(Reader {
+            row: s.row,
+            repeat: s.repeat,
+            at: place_of(!black, n),
+        }),
+    }
+}
+
 // One byte of data.
 pub fn step(s: Reader, width: u16, height: u16, byte: u8) -> Stepped
     ensures { λ r. ⌜ r ≡ stepRun width height s byte ⌝ }
@@ -112,38 +131,8 @@ pub fn step(s: Reader, width: u16, height: u16, byte: u8) -> Stepped
             repeat: byte,
             at: Place::White(0),
         }),
-        Place::White(filled) => {
-            let f = fill(width, filled, byte);
-            match f {
-                Filled::Over => Stepped::Past {
-                    row: s.row,
-                    filled: filled,
-                    run: byte,
-                },
-                Filled::Whole => Stepped::Next(end_row(s, height)),
-                Filled::Part(n) => Stepped::Next(Reader {
-                    row: s.row,
-                    repeat: s.repeat,
-                    at: Place::Black(n),
-                }),
-            }
-        }
-        Place::Black(filled) => {
-            let f = fill(width, filled, byte);
-            match f {
-                Filled::Over => Stepped::Past {
-                    row: s.row,
-                    filled: filled,
-                    run: byte,
-                },
-                Filled::Whole => Stepped::Next(end_row(s, height)),
-                Filled::Part(n) => Stepped::Next(Reader {
-                    row: s.row,
-                    repeat: s.repeat,
-                    at: Place::White(n),
-                }),
-            }
-        }
+        Place::White(filled) => run_in(s, width, height, byte, false, filled),
+        Place::Black(filled) => run_in(s, width, height, byte, true, filled),
         Place::Finished => Stepped::Next(s),
     }
 }

@@ -45,10 +45,6 @@ wrote-then s a b out last at from end w v =
     }
 
 -- ── columns
-pub column-length : (n x : ℕ) → length (column n x) ≤ 6
-unfolding column
-column-length n x = omega (arith, length-append (decimal n) (x ∷ []), decimal-length n)
-
 pub wrote-column : (s out : List ℕ) (at n x end : ℕ) → at + 6 ≤ length s → end ≡ at + length (decimal n) → out ≡ put s at (decimal n)
     → Wrote s at (column n x) (end + 1) (set out end x)
 unfolding column

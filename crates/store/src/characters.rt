@@ -1,9 +1,7 @@
 // Calls on characters: remove one, tell its kept bytes.
 ghost use mathlib.Core.Path.{_≡_};
-ghost use Prim.Native.Nat.{_+_, _≤_};
-ghost use lib.ListN.{length, take, drop};
 ghost use Rattle.store.specs.Answer.{toldOf};
-ghost use Rattle.store.specs.Calls.{removingCharacter, tellingCharacter, onto};
+ghost use Rattle.store.specs.Calls.{removingCharacter, tellingCharacter};
 use crate::change;
 use crate::seek;
 use crate::seek::Sought;
@@ -26,16 +24,6 @@ pub fn remove_character(s: &mut [u8], font: u32, code: u32) -> u32
     }
 }
 
-// Copies the kept bytes of the character at a place to an output that has room.
-fn copy_descriptor(s: &[u8], at: usize, out: &mut [u8])
-    requires { ⌜ (at + 26 ≤ length (now s)) × (16 ≤ length (now out)) ⌝ }
-    ensures { λ _. ⌜ now (out .exit) ≡ onto (take 16 (drop (at + 10) (now (s .entry)))) (now (out .entry)) ⌝ }
-{
-    let from = at + 10;
-    let to = at + 26;
-    change::copy(out, 0, &s[from..to]);
-}
-
 // Tells a character's kept bytes, and the number of its data bytes.
 pub fn tell_character(s: &[u8], out: &mut [u8], font: u32, code: u32) -> Told
     ensures { λ r. ⌜ toldOf r (now (out .exit)) ≡ tellingCharacter font code (now (s .entry)) (now (out .entry)) ⌝ }
@@ -47,7 +35,7 @@ pub fn tell_character(s: &[u8], out: &mut [u8], font: u32, code: u32) -> Told
                 return telling::untold(12);
             }
             let at = p.from;
-            copy_descriptor(s, at, out);
+            telling::copy_kept(s, at + 10, 16, out);
             Told {
                 refusal: 0,
                 count: (p.to - (at + 26)) as u32,

@@ -1,12 +1,11 @@
 // Calls on fonts: make a store fresh, download a font block, remove a font, tell a font's kept bytes.
 ghost use mathlib.Core.Path.{_≡_};
-ghost use Prim.Native.Nat.{_+_, _≤_};
-ghost use lib.ListN.{length, take, drop};
+ghost use Prim.Native.Nat.{_≤_};
 ghost use Rattle.blocks.specs.declared.Verdict.the-variants.{Taken};
 ghost use Rattle.store.specs.Answer.{toldOf};
 ghost use Rattle.store.specs.Walk.{Stands};
 ghost use Rattle.blocks.specs.Header.{readHeader};
-ghost use Rattle.store.specs.Calls.{makingFresh, removingFont, puttingFont, downloadingFont, tellingFont, onto};
+ghost use Rattle.store.specs.Calls.{makingFresh, removingFont, puttingFont, downloadingFont, tellingFont};
 use crate::change;
 use crate::seek;
 use crate::seek::Sought;
@@ -86,16 +85,6 @@ pub fn download_font(s: &mut [u8], block: &[u8], font: u32) -> u32
     }
 }
 
-// Copies the kept bytes of the font at a place to an output that has room.
-fn copy_header(s: &[u8], at: usize, out: &mut [u8])
-    requires { ⌜ (at + 72 ≤ length (now s)) × (64 ≤ length (now out)) ⌝ }
-    ensures { λ _. ⌜ now (out .exit) ≡ onto (take 64 (drop (at + 8) (now (s .entry)))) (now (out .entry)) ⌝ }
-{
-    let from = at + 8;
-    let to = at + 72;
-    change::copy(out, 0, &s[from..to]);
-}
-
 // Tells a font's kept bytes, and the number of its characters.
 pub fn tell_font(s: &[u8], out: &mut [u8], font: u32) -> Told
     ensures { λ r. ⌜ toldOf r (now (out .exit)) ≡ tellingFont font (now (s .entry)) (now (out .entry)) ⌝ }
@@ -107,7 +96,7 @@ pub fn tell_font(s: &[u8], out: &mut [u8], font: u32) -> Told
                 return telling::untold(12);
             }
             let at = p.lo;
-            copy_header(s, at, out);
+            telling::copy_kept(s, at + 8, 64, out);
             Told {
                 refusal: 0,
                 count: p.chars as u32,

@@ -3,35 +3,23 @@ use Rattle.blocks.specs.Character.{isKeptFirst}
 use borrow.Author.Needs.{needs}
 use Rattle.blocks.proofs.character.is_kept_first.Statement.{statement}
 use Rattle.blocks.proofs.character.is_kept_first.Tie as tie
-use Rattle.blocks.proofs.character.is_kept_first.Reads as reads
-use Rattle.blocks.proofs.character.is_kept_first.Lts as lts
-use Rattle.blocks.proofs.character.first_fields.Reads as first-fields-reads
-use Rattle.blocks.proofs.character.first_form.Reads as first-form-reads
-use Rattle.blocks.proofs.character.first_size.Reads as first-size-reads
-use Rattle.blocks.proofs.character.fixed_first.Reads as fixed-first-reads
 
--- src/character.rt:126:9
 returns : tie.Need-returns
 unfolding isKeptFirst
 returns c = simp (ne-eqb _ _ (c .if1 .taken))
 
--- src/character.rt:128:5
 fixed-first-requires : tie.Need-fixed-first-requires
 fixed-first-requires c κs = search needs
 
--- src/character.rt:128:23
 first-form-requires : tie.Need-first-form-requires
 first-form-requires c κs = search needs
 
--- src/character.rt:128:40
 first-fields-requires : tie.Need-first-fields-requires
 first-fields-requires c κs = search needs
 
--- src/character.rt:128:71
 first-size-requires : tie.Need-first-size-requires
 first-size-requires c κs = search needs
 
--- src/character.rt:122:1
 returns-2 : tie.Need-returns-2
 unfolding isKeptFirst
 returns-2 c = simp (eq-eqb _ _ (c .before .before .before .before .if1 .left)) (cc)

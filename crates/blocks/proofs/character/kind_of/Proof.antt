@@ -3,28 +3,21 @@ use Rattle.blocks.specs.Character.{kindOf}
 use borrow.Author.Needs.{needs}
 use Rattle.blocks.proofs.character.kind_of.Statement.{statement}
 use Rattle.blocks.proofs.character.kind_of.Tie as tie
-use Rattle.blocks.proofs.character.kind_of.Reads as reads
-use Rattle.blocks.proofs.character.kind_of.Lts as lts
 
--- src/character.rt:28:8
 shared-slice-read-if1 : tie.Need-shared-slice-read-if1
 shared-slice-read-if1 c = search needs
 
--- src/character.rt:29:9
 returns : tie.Need-returns
 unfolding kindOf
 returns c = simp (ne-eqb _ _ (c .if1 .taken))
 
--- src/character.rt:31:8
 shared-slice-read-if2 : tie.Need-shared-slice-read-if2
 shared-slice-read-if2 c = search needs
 
--- src/character.rt:24:1
 returns-2 : tie.Need-returns-2
 unfolding kindOf
 returns-2 c = simp (eq-eqb _ _ (c .before .before .if1 .left), eq-eqb _ _ (c .if2 .taken))
 
--- src/character.rt:24:1
 returns-3 : tie.Need-returns-3
 unfolding kindOf
 returns-3 c = simp (eq-eqb _ _ (c .before .before .if1 .left), ne-eqb _ _ (c .if2 .left))

@@ -4,18 +4,13 @@ use native.Mathlib.Nat.{mul-le-mul}
 use borrow.Author.Needs.{needs}
 use Rattle.blocks.proofs.character.picture_size.Statement.{statement}
 use Rattle.blocks.proofs.character.picture_size.Tie as tie
-use Rattle.blocks.proofs.character.picture_size.Reads as reads
-use Rattle.blocks.proofs.character.picture_size.Lts as lts
 
--- src/character.rt:67:27
 add-result : tie.Need-add-result
 add-result c = search needs
 
--- src/character.rt:67:5
 mul-result : tie.Need-mul-result
 mul-result c = omega (arith, mul-le-mul {n₁ = c .args .height} {m₁ = (c .args .width + 7) / 8} {n₂ = 65535} {m₂ = 8192} (omega arith) (omega arith))
 
--- src/character.rt:64:1
 returns : tie.Need-returns
 returns c = search needs
 

@@ -3,10 +3,7 @@ use native.Mathlib.Omega.{arith}
 use Rattle.blocks.proofs.Signed.{negative-by}
 use Rattle.blocks.proofs.field.is_negative.Statement.{statement}
 use Rattle.blocks.proofs.field.is_negative.Tie as tie
-use Rattle.blocks.proofs.field.is_negative.Reads as reads
-use Rattle.blocks.proofs.field.is_negative.Lts as lts
 
--- src/field.rt:36:1
 returns : tie.Need-returns
 returns c = sym (negative-by 16 (c .args .n) (omega arith))
 

@@ -3,25 +3,17 @@ use Rattle.blocks.specs.Header.{isKeptHeader}
 use borrow.Author.Needs.{needs}
 use Rattle.blocks.proofs.header.is_kept_header.Statement.{statement}
 use Rattle.blocks.proofs.header.is_kept_header.Tie as tie
-use Rattle.blocks.proofs.header.is_kept_header.Reads as reads
-use Rattle.blocks.proofs.header.is_kept_header.Lts as lts
-use Rattle.blocks.proofs.header.fixed_header.Reads as fixed-header-reads
-use Rattle.blocks.proofs.header.header_fields.Reads as header-fields-reads
 
--- src/header.rt:84:9
 returns : tie.Need-returns
 unfolding isKeptHeader
 returns c = simp (ne-eqb _ _ (c .if1 .taken))
 
--- src/header.rt:86:5
 fixed-header-requires : tie.Need-fixed-header-requires
 fixed-header-requires c κs = search needs
 
--- src/header.rt:86:23
 header-fields-requires : tie.Need-header-fields-requires
 header-fields-requires c κs = search needs
 
--- src/header.rt:80:1
 returns-2 : tie.Need-returns-2
 unfolding isKeptHeader
 returns-2 c = simp (eq-eqb _ _ (c .before .before .if1 .left)) (cc)

@@ -7,8 +7,6 @@ use lib.Seq.{paste, paste-zero}
 use Rattle.store.proofs.Moves.{clear-turn, paste-end}
 use Rattle.store.proofs.change.clear.Statement.{statement}
 use Rattle.store.proofs.change.clear.Tie as tie
-use Rattle.store.proofs.change.clear.Reads as reads
-use Rattle.store.proofs.change.clear.Lts as lts
 
 abbrev Inv-loop : tie.InvT-loop
 Inv-loop s₀ at n i₀ s i = (s ≡ paste s₀ at (replicate n 0) i) × (i ≤ n) × (length s ≡ length s₀)
@@ -16,38 +14,30 @@ Inv-loop s₀ at n i₀ s i = (s ≡ paste s₀ at (replicate n 0) i) × (i ≤ 
 abbrev μ-loop : tie.MeasureT-loop
 μ-loop s₀ at n i₀ s i = n - i
 
--- src/lib.rt:288:5
 loop-holds : tie.Need-loop-holds Inv-loop μ-loop
 loop-holds c = (paste-zero (c .args .s .now) (c .args .at) (replicate (c .args .n) 0), search needs, refl)
 
--- src/lib.rt:289:11
 add-s : tie.Need-add-s Inv-loop μ-loop
 add-s c = omega arith
 
--- src/lib.rt:289:9
 slice-write-s : tie.Need-slice-write-s Inv-loop μ-loop
 slice-write-s c = omega arith
 
--- src/lib.rt:290:9
 add-i : tie.Need-add-i Inv-loop μ-loop
 add-i c = omega arith
 
--- src/lib.rt:288:5
 loop-less : tie.Need-loop-less Inv-loop μ-loop
 loop-less c = omega arith
 
--- src/lib.rt:288:5
 loop-again : tie.Need-loop-again Inv-loop μ-loop
 loop-again c =
     let a = c .before .before .args in
     let i = c .before .loop .i in
     (clear-turn (a .s .now) (c .before .loop .s) (a .at) (a .n) i (c .before .loop .inv .0) (c .loop-test .taken) (omega arith), omega arith, simp length-set (c .before .loop .inv .2))
 
--- src/lib.rt:283:1
 same-length : tie.Need-same-length Inv-loop μ-loop
 same-length c = c .before .loop .inv .2
 
--- src/lib.rt:283:1
 returns : tie.Need-returns Inv-loop μ-loop
 returns c = paste-end (c .before .before .args .s .now) (c .before .loop .s) (replicate (c .before .before .args .n) 0) (c .before .before .args .at) (c .before .before .args .n) (c .before .loop .i) (c .before .loop .inv .0) (c .before .loop .inv .1) (c .loop-test .left)
 

@@ -7,8 +7,6 @@ use lib.Seq.{paste, paste-zero}
 use Rattle.store.proofs.Puts.{copy-turn, copy-end}
 use Rattle.store.proofs.change.copy.Statement.{statement}
 use Rattle.store.proofs.change.copy.Tie as tie
-use Rattle.store.proofs.change.copy.Reads as reads
-use Rattle.store.proofs.change.copy.Lts as lts
 
 abbrev Inv-loop : tie.InvT-loop
 Inv-loop s₀ at b i₀ s i = (s ≡ paste s₀ at b i) × (i ≤ length b) × (length s ≡ length s₀)
@@ -16,42 +14,33 @@ Inv-loop s₀ at b i₀ s i = (s ≡ paste s₀ at b i) × (i ≤ length b) × (
 abbrev μ-loop : tie.MeasureT-loop
 μ-loop s₀ at b i₀ s i = length b - i
 
--- src/lib.rt:361:5
 loop-holds : tie.Need-loop-holds Inv-loop μ-loop
 loop-holds c = (paste-zero (c .args .s .now) (c .args .at) (c .args .b .now), search needs, refl)
 
--- src/lib.rt:362:21
 shared-slice-read-s : tie.Need-shared-slice-read-s Inv-loop μ-loop
 shared-slice-read-s c = omega arith
 
--- src/lib.rt:362:11
 add-s : tie.Need-add-s Inv-loop μ-loop
 add-s c = omega arith
 
--- src/lib.rt:362:9
 slice-write-s : tie.Need-slice-write-s Inv-loop μ-loop
 slice-write-s c = omega arith
 
--- src/lib.rt:363:9
 add-i : tie.Need-add-i Inv-loop μ-loop
 add-i c = omega arith
 
--- src/lib.rt:361:5
 loop-less : tie.Need-loop-less Inv-loop μ-loop
 loop-less c = omega arith
 
--- src/lib.rt:361:5
 loop-again : tie.Need-loop-again Inv-loop μ-loop
 loop-again c =
     let a = c .before .before .before .args in
     let i = c .before .before .loop .i in
     (copy-turn (a .s .now) (c .before .before .loop .s) (a .b .now) (a .at) i (c .before .before .loop .inv .0) (c .before .loop-test .taken) (omega arith), omega arith, simp length-set (c .before .before .loop .inv .2))
 
--- src/lib.rt:356:1
 same-length : tie.Need-same-length Inv-loop μ-loop
 same-length c = c .before .loop .inv .2
 
--- src/lib.rt:356:1
 returns : tie.Need-returns Inv-loop μ-loop
 returns c = copy-end (c .before .before .args .s .now) (c .before .loop .s) (c .before .before .args .b .now) (c .before .before .args .at) (c .before .loop .i) (c .before .loop .inv .0) (c .before .loop .inv .1) (c .loop-test .left)
 

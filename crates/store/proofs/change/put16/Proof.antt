@@ -4,34 +4,25 @@ use lib.ListN.{length-set}
 use Rattle.store.proofs.Puts.{put-two}
 use Rattle.store.proofs.change.put16.Statement.{statement}
 use Rattle.store.proofs.change.put16.Tie as tie
-use Rattle.store.proofs.change.put16.Reads as reads
-use Rattle.store.proofs.change.put16.Lts as lts
 
--- src/lib.rt:351:13
 cast-s : tie.Need-cast-s
 cast-s c = search needs
 
--- src/lib.rt:351:5
 slice-write-s : tie.Need-slice-write-s
 slice-write-s c = search needs
 
--- src/lib.rt:352:17
 cast-s-2 : tie.Need-cast-s-2
 cast-s-2 c = search needs
 
--- src/lib.rt:352:7
 add-s : tie.Need-add-s
 add-s c = search needs
 
--- src/lib.rt:352:5
 slice-write-s-2 : tie.Need-slice-write-s-2
 slice-write-s-2 c = simp length-set (omega arith)
 
--- src/lib.rt:347:1
 same-length : tie.Need-same-length
 same-length c = search needs
 
--- src/lib.rt:347:1
 returns : tie.Need-returns
 returns c = put-two (c .args .s .now) (c .args .at) (c .args .v) (c .pre .0) (c .pre .1)
 

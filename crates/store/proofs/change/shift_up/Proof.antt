@@ -7,8 +7,6 @@ use lib.Seq.{paste}
 use Rattle.store.proofs.Moves.{up-turn, up-start, up-end}
 use Rattle.store.proofs.change.shift_up.Statement.{statement}
 use Rattle.store.proofs.change.shift_up.Tie as tie
-use Rattle.store.proofs.change.shift_up.Reads as reads
-use Rattle.store.proofs.change.shift_up.Lts as lts
 
 abbrev Inv-loop : tie.InvT-loop
 Inv-loop s₀ to from n i₀ s i = (s ≡ paste s₀ (to + i) (drop (from + i) s₀) (n - i)) × (i ≤ n) × (length s ≡ length s₀)
@@ -16,46 +14,36 @@ Inv-loop s₀ to from n i₀ s i = (s ≡ paste s₀ (to + i) (drop (from + i) s
 abbrev μ-loop : tie.MeasureT-loop
 μ-loop s₀ to from n i₀ s i = i
 
--- src/lib.rt:276:5
 loop-holds : tie.Need-loop-holds Inv-loop μ-loop
 loop-holds c = (up-start (c .args .s .now) (c .args .to) (c .args .from) (c .args .n), search needs, refl)
 
--- src/lib.rt:277:9
 sub-i : tie.Need-sub-i Inv-loop μ-loop
 sub-i c = omega arith
 
--- src/lib.rt:278:23
 add-s : tie.Need-add-s Inv-loop μ-loop
 add-s c = omega arith
 
--- src/lib.rt:278:21
 slice-read-s : tie.Need-slice-read-s Inv-loop μ-loop
 slice-read-s c = omega arith
 
--- src/lib.rt:278:11
 add-s-2 : tie.Need-add-s-2 Inv-loop μ-loop
 add-s-2 c = omega arith
 
--- src/lib.rt:278:9
 slice-write-s : tie.Need-slice-write-s Inv-loop μ-loop
 slice-write-s c = omega arith
 
--- src/lib.rt:276:5
 loop-less : tie.Need-loop-less Inv-loop μ-loop
 loop-less c = omega arith
 
--- src/lib.rt:276:5
 loop-again : tie.Need-loop-again Inv-loop μ-loop
 loop-again c =
     let a = c .before .before .before .args in
     let i = c .before .before .loop .i in
     (up-turn (a .s .now) (c .before .before .loop .s) (a .to) (a .from) (a .n) i (c .before .before .loop .inv .0) (c .before .loop-test .taken) (omega arith) (omega arith) (omega arith), omega arith, simp length-set (c .before .before .loop .inv .2))
 
--- src/lib.rt:271:1
 same-length : tie.Need-same-length Inv-loop μ-loop
 same-length c = c .before .loop .inv .2
 
--- src/lib.rt:271:1
 returns : tie.Need-returns Inv-loop μ-loop
 returns c = up-end (c .before .before .args .s .now) (c .before .loop .s) (c .before .before .args .to) (c .before .before .args .from) (c .before .before .args .n) (c .before .loop .i) (omega arith) (c .before .loop .inv .0)
 

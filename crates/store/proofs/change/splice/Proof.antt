@@ -8,61 +8,43 @@ use lib.Seq.{paste}
 use Rattle.store.proofs.Moves.{splice-up, splice-down}
 use Rattle.store.proofs.change.splice.Statement.{statement}
 use Rattle.store.proofs.change.splice.Tie as tie
-use Rattle.store.proofs.change.splice.Reads as reads
-use Rattle.store.proofs.change.splice.Lts as lts
-use Rattle.store.proofs.change.clear.Reads as clear-reads
-use Rattle.store.proofs.change.shift_down.Reads as shift-down-reads
-use Rattle.store.proofs.change.shift_up.Reads as shift-up-reads
 
--- src/lib.rt:299:21
 add-n : tie.Need-add-n
 add-n c = search needs
 
--- src/lib.rt:299:13
 sub-n : tie.Need-sub-n
 sub-n c = search needs
 
--- src/lib.rt:301:23
 add-shift-down : tie.Need-add-shift-down
 add-shift-down c = search needs
 
--- src/lib.rt:301:33
 add-shift-down-2 : tie.Need-add-shift-down-2
 add-shift-down-2 c = search needs
 
--- src/lib.rt:301:9
 shift-down-requires : tie.Need-shift-down-requires
 shift-down-requires c κs = search needs
 
--- src/lib.rt:302:18
 add-clear : tie.Need-add-clear
 add-clear c = search needs
 
--- src/lib.rt:302:18
 add-clear-2 : tie.Need-add-clear-2
 add-clear-2 c = search needs
 
--- src/lib.rt:302:9
 clear-requires : tie.Need-clear-requires
 clear-requires c κs = search needs
 
--- src/lib.rt:304:21
 add-shift-up : tie.Need-add-shift-up
 add-shift-up c = search needs
 
--- src/lib.rt:304:31
 add-shift-up-2 : tie.Need-add-shift-up-2
 add-shift-up-2 c = search needs
 
--- src/lib.rt:304:9
 shift-up-requires : tie.Need-shift-up-requires
 shift-up-requires c κs = search needs
 
--- src/lib.rt:295:1
 same-length : tie.Need-same-length
 same-length c = search needs
 
--- src/lib.rt:295:1
 returns : tie.Need-returns
 returns c =
     let a = c .before .before .before .before .before .before .before .before .before .before .args in
@@ -71,11 +53,9 @@ returns c =
     ∙ ap (λ (l : List ℕ). paste l (a .at + a .new + n) (replicate (a .old - a .new) 0) (a .old - a .new)) (c .before .before .before .before .before .before .shift-down .ensures)
     ∙ splice-down (a .s .now) (a .at) (a .old) (a .used) (a .new) (omega arith) (omega arith) (omega arith)
 
--- src/lib.rt:295:1
 same-length-2 : tie.Need-same-length-2
 same-length-2 c = search needs
 
--- src/lib.rt:295:1
 returns-2 : tie.Need-returns-2
 returns-2 c =
     let a = c .before .before .before .before .before .before .args in

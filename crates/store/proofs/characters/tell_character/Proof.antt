@@ -32,8 +32,11 @@ returns c =
     let x = at-found (c .before .before) in
     rw (c .untold2 .ensures .0, c .untold2 .ensures .1) (sym (told _ _ _ (now (k8 .args .out)) _ x ∙ rw (lt-leb 16 (length (now (k8 .args .out))) (c .before .if1 .taken))))
 
-copy-descriptor-requires : tie.Need-copy-descriptor-requires
-copy-descriptor-requires c κs = let x = at-found (c .before .before) in (omega (arith, char-span _ _ _ _ x, x .ready .last, x .ready .room), c .before .if1 .left)
+add-copy-kept : tie.Need-add-copy-kept
+add-copy-kept c = let x = at-found (c .before) in omega (arith, char-span _ _ _ _ x, x .ready .last, x .ready .room)
+
+copy-kept-requires : tie.Need-copy-kept-requires
+copy-kept-requires c κs = let x = at-found (c .before .before) in (omega (arith, char-span _ _ _ _ x, x .ready .last, x .ready .room), c .before .if1 .left)
 
 add-t10 : tie.Need-add-t10
 add-t10 c = let x = at-found (c .before .before .before .before .before) in omega (arith, char-span _ _ _ _ x, x .ready .last, x .ready .room)
@@ -53,7 +56,7 @@ returns-2 c =
 returns-3 : tie.Need-returns-3
 returns-3 c = let x = at-found (c .before .before .before .before .before .before) in
     let i : c .before .before .before .before .before .before .before .p .given .0 .0 .to - (c .before .before .before .before .before .before .before .p .given .0 .0 .from + 26) ≡ length (x .bytes) = omega (arith, char-span _ _ _ _ x) in
-    rw (c .before .before .before .copy-descriptor .ensures, char-kept _ _ _ _ x, i) (sym (told _ _ _ (now (c .before .before .before .before .before .before .before .before .before .before .before .before .args .out)) _ x ∙ rw (le-leb 16 (length (now (c .before .before .before .before .before .before .before .before .before .before .before .before .args .out))) (c .before .before .before .before .before .if1 .left))))
+    rw (c .before .before .before .copy-kept .ensures, char-kept _ _ _ _ x, i) (sym (told _ _ _ (now (c .before .before .before .before .before .before .before .before .before .before .before .before .args .out)) _ x ∙ rw (le-leb 16 (length (now (c .before .before .before .before .before .before .before .before .before .before .before .before .args .out))) (c .before .before .before .before .before .if1 .left))))
 
 pub tell-character-spec : {M : Type 1} → statement M
 tell-character-spec =
@@ -65,7 +68,8 @@ tell-character-spec =
     (λ c. search needs)
     (λ c κs. search needs)
     returns
-    copy-descriptor-requires
+    add-copy-kept
+    copy-kept-requires
     add-t10
     sub-t15
     cast-t16

@@ -36,8 +36,11 @@ returns c =
     let x = at-found (c .before .before) in
     rw (c .untold2 .ensures .0, c .untold2 .ensures .1) (sym (told _ _ (now (k8 .args .out)) _ x ∙ rw (lt-leb 64 (length (now (k8 .args .out))) (c .before .if1 .taken))))
 
-copy-header-requires : tie.Need-copy-header-requires
-copy-header-requires c κs = let x = at-found (c .before .before) in (omega (arith, font-span _ _ _ _ x, x .ready .end, x .ready .room), c .before .if1 .left)
+add-copy-kept : tie.Need-add-copy-kept
+add-copy-kept c = let x = at-found (c .before) in omega (arith, font-span _ _ _ _ x, x .ready .end, x .ready .room)
+
+copy-kept-requires : tie.Need-copy-kept-requires
+copy-kept-requires c κs = let x = at-found (c .before .before) in (omega (arith, font-span _ _ _ _ x, x .ready .end, x .ready .room), c .before .if1 .left)
 
 cast-t14 : tie.Need-cast-t14
 cast-t14 c = let x = at-found (c .before .before .before .before .before .before) in omega (arith, chars-few _ _ _ _ (x .ready))
@@ -53,7 +56,7 @@ returns-3 c =
     let k = c .before .before .before in
     let x = at-found (k .before .before .before) in
     let a = k .before .before .before .before .before .before .before .before .before .args in
-    same (ap (λ (y : Places). y .chars) (x .ready .at)) (k .copy-header .ensures ∙ ap (λ (h : List ℕ). onto h (now (a .out))) (font-kept _ _ _ _ x))
+    same (ap (λ (y : Places). y .chars) (x .ready .at)) (k .copy-kept .ensures ∙ ap (λ (h : List ℕ). onto h (now (a .out))) (font-kept _ _ _ _ x))
     ∙ sym (told _ _ (now (a .out)) _ x ∙ rw (le-leb 64 (length (now (a .out))) (k .before .before .if1 .left)))
 
 pub tell-font-spec : {M : Type 1} → statement M
@@ -66,7 +69,8 @@ tell-font-spec =
     (λ c. search needs)
     (λ c κs. search needs)
     returns
-    copy-header-requires
+    add-copy-kept
+    copy-kept-requires
     cast-t14
     returns-2
     (λ c. search needs)

@@ -4,39 +4,28 @@ use Prim.Native.Nat.{_+_}
 use Rattle.store.proofs.Fields.{field-two}
 use Rattle.store.proofs.number.le16.Statement.{statement}
 use Rattle.store.proofs.number.le16.Tie as tie
-use Rattle.store.proofs.number.le16.Reads as reads
-use Rattle.store.proofs.number.le16.Lts as lts
-use Rattle.store.proofs.number.wide.Reads as wide-reads
 
--- src/lib.rt:56:10
 shared-slice-read-wide : tie.Need-shared-slice-read-wide
 shared-slice-read-wide c = search needs
 
--- src/lib.rt:56:5
 wide-requires : tie.Need-wide-requires
 wide-requires c κs = search needs
 
--- src/lib.rt:56:32
 add-wide : tie.Need-add-wide
 add-wide c = search needs
 
--- src/lib.rt:56:30
 shared-slice-read-wide-2 : tie.Need-shared-slice-read-wide-2
 shared-slice-read-wide-2 c = search needs
 
--- src/lib.rt:56:25
 wide-requires-2 : tie.Need-wide-requires-2
 wide-requires-2 c κs = search needs
 
--- src/lib.rt:56:19
 mul-result : tie.Need-mul-result
 mul-result c = omega (arith, c .before .before .before .before .shared-slice-known .given ((c .before .before .before .before .before .args .at) + 1))
 
--- src/lib.rt:56:5
 add-result : tie.Need-add-result
 add-result c = omega (arith, c .before .before .before .before .shared-slice-known .given (c .before .before .before .before .before .args .at), c .before .before .before .before .shared-slice-known .given ((c .before .before .before .before .before .args .at) + 1))
 
--- src/lib.rt:52:1
 returns : tie.Need-returns
 returns c = omega (arith, c .before .before .before .before .shared-slice-known .given (c .before .before .before .before .before .args .at), c .before .before .before .before .shared-slice-known .given ((c .before .before .before .before .before .args .at) + 1), field-two (c .before .before .before .before .before .args .at) (c .before .before .before .before .before .args .s .now) (search needs))
 

@@ -6,22 +6,21 @@ use Rattle.store.specs.Change.{put}
 use Rattle.store.proofs.Spots.{front}
 use borrow.Author.Needs.{needs}
 use native.Mathlib.Omega.{arith}
-use Rattle.store.proofs.fonts.copy_header.Statement.{statement}
-use Rattle.store.proofs.fonts.copy_header.Tie as tie
+use Rattle.store.proofs.telling.copy_kept.Statement.{statement}
+use Rattle.store.proofs.telling.copy_kept.Tie as tie
 
 copy-requires : tie.Need-copy-requires
 copy-requires c κs = simp (length-take, length-drop) (omega arith)
 
 returns : tie.Need-returns
 returns c = let a = c .before .before .before .before .before .before .before .args in
-    let e : a .at + 72 - (a .at + 8) ≡ 64 = omega arith in
-    c .before .before .copy .ensures ∙ ap (λ (k : ℕ). put (now (a .out)) 0 (take k (drop (a .at + 8) (now (a .s))))) e ∙ front (take 64 (drop (a .at + 8) (now (a .s)))) (now (a .out))
+    let e : a .from + a .n - a .from ≡ a .n = omega arith in
+    c .before .before .copy .ensures ∙ ap (λ (k : ℕ). put (now (a .out)) 0 (take k (drop (a .from) (now (a .s))))) e ∙ front (take (a .n) (drop (a .from) (now (a .s)))) (now (a .out))
 
-pub copy-header-spec : {M : Type 1} → statement M
-copy-header-spec =
+pub copy-kept-spec : {M : Type 1} → statement M
+copy-kept-spec =
     tie.close
     (tie.spec
-    (λ c. search needs)
     (λ c. search needs)
     (λ c. search needs)
     (λ c. search needs)
