@@ -1,0 +1,55 @@
+// The calls, each with its answer printed on a line behind what it is.
+use crate::print;
+
+pub fn make_fresh(what: &[u8], s: &mut [u8]) {
+    print::answer(what, marlinfold::mf_make_fresh(s));
+}
+
+pub fn font(what: &[u8], s: &mut [u8], block: &[u8], number: u32) {
+    print::answer(what, marlinfold::mf_download_font(s, block, number));
+}
+
+// Of font 5.
+pub fn character(what: &[u8], s: &mut [u8], block: &[u8], code: u32) {
+    print::answer(what, marlinfold::mf_download_character(s, block, 5, code));
+}
+
+pub fn remove_font(what: &[u8], s: &mut [u8], number: u32) {
+    print::answer(what, marlinfold::mf_remove_font(s, number));
+}
+
+pub fn remove_character(what: &[u8], s: &mut [u8], number: u32, code: u32) {
+    print::answer(what, marlinfold::mf_remove_character(s, number, code));
+}
+
+// The number of characters is printed.
+pub fn tell_font(what: &[u8], s: &[u8], out: &mut [u8], number: u32) {
+    let told = marlinfold::mf_tell_font(s, out, number);
+    print::two(what, told.refusal, told.count);
+}
+
+// The number of data bytes is printed.
+pub fn tell_character(what: &[u8], s: &[u8], out: &mut [u8], number: u32, code: u32) {
+    let told = marlinfold::mf_tell_character(s, out, number, code);
+    print::two(what, told.refusal, told.count);
+}
+
+// For set 277, fixed, R 1000, H 1200, style 0, typeface 3, portrait: the font's number is printed.
+pub fn choose(what: &[u8], s: &[u8], weight: u32) {
+    let chosen = marlinfold::mf_choose(s, 277, 0, 1000, 1200, 0, weight, 3, 0);
+    print::two(what, chosen.refusal, chosen.font);
+}
+
+pub fn draw_row(what: &[u8], s: &[u8], out: &mut [u8], row: u32) {
+    print::answer(what, marlinfold::mf_draw_row(s, out, 5, 65, row));
+}
+
+pub fn draw_picture(what: &[u8], s: &[u8], out: &mut [u8]) {
+    print::answer(what, marlinfold::mf_draw_picture(s, out, 5, 65));
+}
+
+// The counts and the place are printed.
+pub fn read_stream(what: &[u8], s: &mut [u8], stream: &[u8]) {
+    let read = marlinfold::mf_read_stream(s, stream);
+    print::read(what, read.refusal, read.done, read.refused, read.place);
+}
