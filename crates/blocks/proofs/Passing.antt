@@ -10,7 +10,7 @@ use lib.Dec.{ltb, eqb}
 use lib.ListN.{length, drop, getD, length-drop, drop-of-length-le}
 use lib.Seq.{drop-cons}
 use Rattle.blocks.specs.Runs.{placeOf, fillRow, endRow, stepRun, scanFrom, isFinished}
-use Rattle.blocks.specs.Line.{insideOf, stopOf, passOf}
+use Rattle.blocks.specs.Line.{insideOf, pairAt, fourAt, eightAt, stopOf, passOf}
 use Rattle.blocks.specs.declared.runs.Place.{Place}
 use Rattle.blocks.specs.declared.runs.Place.the-variants.{Count, Finished}
 use Rattle.blocks.specs.declared.runs.Reader.{Reader}
@@ -84,6 +84,35 @@ module _ (w n f : ℕ) (c : Bool) (src : List ℕ) where
 
   pub inside-stop : n < length src → w ≤ f + getD src n 0 → insideOf w n f c (drop n src) ≡ record { at = n; filled = f; black = c }
   inside-stop l q = inside-turn l ∙ rw (le-ltb _ _ q)
+
+-- several runs at once, by their sum
+not-not : (c : Bool) → not (not c) ≡ c
+not-not true = refl
+not-not false = refl
+
+inside-two : (w n f : ℕ) (c : Bool) (src : List ℕ) → n + 2 ≤ length src → f + pairAt src n < w → insideOf w n f c (drop n src) ≡ insideOf w (n + 2) (f + pairAt src n) c (drop (n + 2) src)
+inside-two w n f c src l q =
+    let a = getD src n 0 in
+    let b = getD src (n + 1) 0 in
+    let i : n + 1 + 1 ≡ n + 2 = omega arith in
+    let j : f + a + b ≡ f + (a + b) = omega arith in
+    inside-next w n f c src (omega arith) (omega arith) ∙ inside-next w (n + 1) (f + a) (not c) src (omega arith) (omega arith) ∙ rw (not-not c, i, j)
+
+inside-four : (w n f : ℕ) (c : Bool) (src : List ℕ) → n + 4 ≤ length src → f + fourAt src n < w → insideOf w n f c (drop n src) ≡ insideOf w (n + 4) (f + fourAt src n) c (drop (n + 4) src)
+inside-four w n f c src l q =
+    let a = pairAt src n in
+    let b = pairAt src (n + 2) in
+    let i : n + 2 + 2 ≡ n + 4 = omega arith in
+    let j : f + a + b ≡ f + (a + b) = omega arith in
+    inside-two w n f c src (omega arith) (omega arith) ∙ inside-two w (n + 2) (f + a) c src (omega arith) (omega arith) ∙ rw (i, j)
+
+pub inside-eight : (w n f : ℕ) (c : Bool) (src : List ℕ) → n + 8 ≤ length src → f + eightAt src n < w → insideOf w n f c (drop n src) ≡ insideOf w (n + 8) (f + eightAt src n) c (drop (n + 8) src)
+inside-eight w n f c src l q =
+    let a = fourAt src n in
+    let b = fourAt src (n + 4) in
+    let i : n + 4 + 4 ≡ n + 8 = omega arith in
+    let j : f + a + b ≡ f + (a + b) = omega arith in
+    inside-four w n f c src (omega arith) (omega arith) ∙ inside-four w (n + 4) (f + a) c src (omega arith) (omega arith) ∙ rw (i, j)
 
 module _ (w : ℕ) (src : List ℕ) where
   -- what is known of the stretch from place n, with f dots and the colour c, to i

@@ -18,6 +18,16 @@ unfoldable pub insideOf : ℕ → ℕ → ℕ → Bool → List ℕ → Inside
 insideOf w n f c [] = record { at = n; filled = f; black = c }
 insideOf w n f c (b ∷ xs) = cond (ltb (f + b) w) (insideOf w (n + 1) (f + b) (not c) xs) (record { at = n; filled = f; black = c })
 
+-- the sum of the eight bytes from place n of src on
+abbrev pub pairAt : List ℕ → ℕ → ℕ
+pairAt src n = getD src n 0 + getD src (n + 1) 0
+
+abbrev pub fourAt : List ℕ → ℕ → ℕ
+fourAt src n = pairAt src n + pairAt src (n + 2)
+
+abbrev pub eightAt : List ℕ → ℕ → ℕ
+eightAt src n = fourAt src n + fourAt src (n + 4)
+
 -- the run that such a stretch of src stops at: it ends the row, or it is past the width; or there is none
 unfoldable pub stopOf : ℕ → List ℕ → Inside → Passed
 stopOf w src i =

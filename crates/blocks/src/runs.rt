@@ -2,10 +2,10 @@
 ghost use mathlib.Core.Path.{_≡_};
 ghost use mathlib.Core.Bool.{false};
 ghost use mathlib.Core.List.{_++_};
-ghost use Prim.Native.Nat.{_+_, _^_, _≤_, _<_};
+ghost use Prim.Native.Nat.{_+_, _-_, _^_, _≤_, _<_};
 ghost use lib.ListN.{length, drop};
 ghost use Rattle.blocks.specs.Runs.{fillRow, endRow, placeOf, runIn, stepRun, isFinished, scanFrom, start};
-ghost use Rattle.blocks.specs.Line.{insideOf, passOf, goingAt};
+ghost use Rattle.blocks.specs.Line.{insideOf, pairAt, fourAt, eightAt, passOf, goingAt};
 
 // Where the reader is: at a repeat count, in a white or a black run with dots filled, finished.
 pub enum Place {
@@ -137,12 +137,77 @@ pub fn step(s: Reader, width: u16, height: u16, byte: u8) -> Stepped
     }
 }
 
+fn wide(x: u8) -> u32
+    ensures { λ r. ⌜ (r ≡ x) × (r ≤ 255) ⌝ }
+{
+    x as u32
+}
+
+// The sums of two, four and eight bytes from a place on.
+fn sum_of_two(src: &[u8], at: usize) -> u32
+    requires { ⌜ at + 2 ≤ length (now src) ⌝ }
+    ensures { λ r. ⌜ (r ≡ pairAt (now (src .entry)) at) × (r ≤ 510) ⌝ }
+{
+    wide(src[at]) + wide(src[at + 1])
+}
+
+fn sum_of_four(src: &[u8], at: usize) -> u32
+    requires { ⌜ at + 4 ≤ length (now src) ⌝ }
+    ensures { λ r. ⌜ (r ≡ fourAt (now (src .entry)) at) × (r ≤ 1020) ⌝ }
+{
+    sum_of_two(src, at) + sum_of_two(src, at + 2)
+}
+
+fn sum_of_eight(src: &[u8], at: usize) -> u32
+    requires { ⌜ at + 8 ≤ length (now src) ⌝ }
+    ensures { λ r. ⌜ (r ≡ eightAt (now (src .entry)) at) × (r ≤ 2040) ⌝ }
+{
+    sum_of_four(src, at) + sum_of_four(src, at + 4)
+}
+
+// The places before it have eight bytes from there on.
+fn last_eight(len: usize) -> usize
+    ensures { λ r. ⌜ r ≡ len - 7 ⌝ }
+{
+    if len < 7 {
+        return 0;
+    }
+    len - 7
+}
+
+// Over eight runs at a time that leave a row unfinished: their sum alone tells, several times as fast as run by run.
+fn pass_eights(src: &[u8], from: usize, width: u16) -> Inside
+    ensures { λ r. ⌜ insideOf width (r .at) (r .filled) false (drop (r .at) (now (src .entry))) ≡ insideOf width from 0 false (drop from (now (src .entry))) ⌝ }
+{
+    let mut at = from;
+    let mut filled: u32 = 0;
+    let last = last_eight(src.len());
+    while at < last {
+        let end = filled + sum_of_eight(src, at);
+        if (width as u32) <= end {
+            return Inside {
+                at: at,
+                filled: filled as u16,
+                black: false,
+            };
+        }
+        filled = end;
+        at += 8;
+    }
+    Inside {
+        at: at,
+        filled: filled as u16,
+        black: false,
+    }
+}
+
 // Over the runs that leave a row unfinished.
 fn pass_inside(src: &[u8], from: usize, width: u16) -> Inside
     ensures { λ r. ⌜ r ≡ insideOf width from 0 false (drop from (now (src .entry))) ⌝ }
 {
-    let mut at = from;
-    let mut filled: u32 = 0;
+    let start = pass_eights(src, from, width);
+    let mut at = start.at;
+    let mut filled: u32 = start.filled as u32;
     let mut black = false;
     while at < src.len() {
         let end = filled + (src[at] as u32);

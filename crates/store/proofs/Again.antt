@@ -57,37 +57,37 @@ fonts-of s st e = rw e
 abbrev Left : ℕ → ℕ → List Font → List ℕ → After → Type 0
 Left k n new s a = (isStore (a .bytes) ≡ true) × (fontsOf (a .bytes) ≡ fontsAfter k n new (a .answer) (fontsOf s))
 
--- no check of a list refuses with k
-abbrev Others : ℕ → List Check → Type 0
-Others k [] = Unit {0}
-Others k (c ∷ cs) = (eqb (c .number) k ≡ false) × Others k cs
+-- ── what holds of a call's answers: of its refusals, and of what stands behind each check
+module _ (s : List ℕ) (P : After → Type 0) where
+  abbrev Each : List Check → Type 0
+  Each [] = Unit {0}
+  Each (c ∷ cs) = P (refuse s (c .number)) × Each cs
 
--- each check, where a refusal with another number leaves what was a store
-module _ (k n : ℕ) (new : List Font) (s : List ℕ) (is : isStore s ≡ true) where
-  refusal : (m : ℕ) → eqb m k ≡ false → Left k n new s (refuse s m)
-  refusal m e = (is, rw e)
+  by-check : (t : Bool) (m : ℕ) (a : After) → P (refuse s m) → (t ≡ true → P a) → P (checked (refuse s) t m a)
+  by-check true m a r f = f refl
+  by-check false m a r f = r
 
-  by-check : (t : Bool) (m : ℕ) (a : After) → eqb m k ≡ false → (t ≡ true → Left k n new s a) → Left k n new s (checked (refuse s) t m a)
-  by-check true m a e f = f refl
-  by-check false m a e f = refusal m e
-
-  by-verdict : (cs : List Check) (a : After) → Others k cs → (verdict cs ≡ Taken → Left k n new s a) → Left k n new s (taking (refuse s) (verdict cs) a)
+  by-verdict : (cs : List Check) (a : After) → Each cs → (verdict cs ≡ Taken → P a) → P (taking (refuse s) (verdict cs) a)
   by-verdict [] a o f = f refl
   by-verdict (c ∷ cs) a o f = go (c .holds) refl (by-verdict cs a (o .1))
     where
-      go : (t : Bool) → c .holds ≡ t → ((verdict cs ≡ Taken → Left k n new s a) → Left k n new s (taking (refuse s) (verdict cs) a)) → Left k n new s (taking (refuse s) (cond t (verdict cs) (Refused (c .number))) a)
+      go : (t : Bool) → c .holds ≡ t → ((verdict cs ≡ Taken → P a) → P (taking (refuse s) (verdict cs) a)) → P (taking (refuse s) (cond t (verdict cs) (Refused (c .number))) a)
       go true q ih = ih (λ e. f (rw q e))
-      go false q ih = refusal (c .number) (o .0)
+      go false q ih = o .0
 
-  by-find : (o : Option Rec) (m : ℕ) (f : Rec → After) → eqb m k ≡ false → ((r : Rec) → o ≡ some r → Left k n new s (f r)) → Left k n new s (finding (refuse s) o m f)
+  by-find : (o : Option Rec) (m : ℕ) (f : Rec → After) → P (refuse s m) → ((r : Rec) → o ≡ some r → P (f r)) → P (finding (refuse s) o m f)
   unfolding finding
-  by-find none m f e g = refusal m e
-  by-find (some r) m f e g = g r refl
+  by-find none m f r g = r
+  by-find (some x) m f r g = g x refl
 
-  by-kind : (x : Kind) (a b : After) → eqb 4 k ≡ false → (x ≡ First → Left k n new s a) → (x ≡ Continuation → Left k n new s b) → Left k n new s (byKind x a b (refuse s 4))
-  by-kind First a b e f g = f refl
-  by-kind Continuation a b e f g = g refl
-  by-kind Unknown a b e f g = refusal 4 e
+  by-kind : (x : Kind) (a b : After) → P (refuse s 4) → (x ≡ First → P a) → (x ≡ Continuation → P b) → P (byKind x a b (refuse s 4))
+  by-kind First a b r f g = f refl
+  by-kind Continuation a b r f g = g refl
+  by-kind Unknown a b r f g = r
+
+-- a refusal with another number than k leaves what was a store
+refusal : (k n : ℕ) (new : List Font) (s : List ℕ) → isStore s ≡ true → (m : ℕ) → eqb m k ≡ false → Left k n new s (refuse s m)
+refusal k n new s is m e = (is, rw e)
 
 -- a font with its characters gave way
 with-left : (n k : ℕ) (new : List Rec) (s : List ℕ) (st : Store) → decode s ≡ some st → Valid (withFont n new st) → Left k n (fontsIn new) s (record { answer = k; bytes = encode (withFont n new st) })
@@ -111,83 +111,107 @@ module _ (st : Store) (v : Valid st) where
 abbrev pub fontBy : ℕ → List ℕ → List Font
 fontBy n b = record { number = n; kept = keptHeader b } ∷ []
 
-pub font-leaves : (n : ℕ) (b s : List ℕ) → isStore s ≡ true → Left 0 n (fontBy n b) s (downloadingFont n b s)
-unfolding downloadingFont puttingFont onStore readHeader fontsIn
-font-leaves n b s is =
-    let w = is-store s is in
-    let st = w .0 in
-    let v = valid-decode s st (w .1) in
-    rw (w .1)
-    (by-check 0 n (fontBy n b) s is (leb n 32767) 2 _ refl (λ l. by-verdict 0 n (fontBy n b) s is (headerChecks b) _ (refl, (refl, (refl, tt))) (λ e.
-    by-check 0 n (fontBy n b) s is (leb (used (putFont n (keptHeader b) st)) (st .size)) 10 _ refl (λ f. with-left n 0 (font n (keptHeader b) ∷ []) s st (w .1) (put-valid st v n b (leb-true _ _ l) e (leb-true _ _ f))))))
+-- whatever holds of its refusals, and of an accepted block
+module _ (n : ℕ) (b s : List ℕ) (is : isStore s ≡ true) (P : After → Type 0) (no : (m : ℕ) → eqb m 0 ≡ false → P (refuse s m))
+    (put : (st : Store) → decode s ≡ some st → Valid st → Valid (putFont n (keptHeader b) st) → P (done (putFont n (keptHeader b) st))) where
+  pub font-answers : P (downloadingFont n b s)
+  unfolding downloadingFont puttingFont onStore readHeader
+  font-answers =
+      let w = is-store s is in
+      let st = w .0 in
+      let v = valid-decode s st (w .1) in
+      rw (w .1)
+      (by-check s P (leb n 32767) 2 _ (no 2 refl) (λ l. by-verdict s P (headerChecks b) _ (no 3 refl, (no 4 refl, (no 5 refl, tt))) (λ e.
+      by-check s P (leb (used (putFont n (keptHeader b) st)) (st .size)) 10 _ (no 10 refl) (λ f. put st (w .1) v (put-valid st v n b (leb-true _ _ l) e (leb-true _ _ f))))))
 
-pub font-again : (n : ℕ) (b s : List ℕ) → isStore s ≡ true → isStore (downloadingFont n b s .bytes) ≡ true
-font-again n b s is = font-leaves n b s is .0
+pub font-leaves : (n : ℕ) (b s : List ℕ) → isStore s ≡ true → Left 0 n (fontBy n b) s (downloadingFont n b s)
+unfolding fontsIn
+font-leaves n b s is = font-answers n b s is (Left 0 n (fontBy n b) s) (refusal 0 n (fontBy n b) s is) (λ st e v x. with-left n 0 (font n (keptHeader b) ∷ []) s st e x)
 
 -- ── a character block
-module _ (n c : ℕ) (s : List ℕ) (is : isStore s ≡ true) (st : Store) (e : decode s ≡ some st) (v : Valid st) (low : n ≤ 32767) (code : c ≤ 255) (g : List ℕ) (there : find (keyOf n 0) (st .recs) ≡ some (font n g)) where
-  pub placed-valid : (h d : List ℕ) → isKept (heldUnder (orientation g) h d) ≡ true → used (putCharacter n c h d st) ≤ st .size → Valid (putCharacter n c h d st)
-  placed-valid h d e fits =
-      let ok = new-allowed n c g h d low code e in
-      valid-char n c g (character n c h d ∷ []) st v code there (new-char h d ok) (char-run n c h d (shaped (under alone (font n g)) (character n c h d) ok)) fits (markFor n c h d) (mark-new n c h d (st .recs) low code)
+-- what a character that is to be placed finds
+pub record Guest (n c : ℕ) (s h d : List ℕ) (st : Store) : Type 0 where
+  pub is : decode s ≡ some st
+  pub valid : Valid st
+  pub low : n ≤ 32767
+  pub code : c ≤ 255
+  pub header : List ℕ
+  pub there : find (keyOf n 0) (st .recs) ≡ some (font n header)
+  pub ok : isKept (heldUnder (orientation header) h d) ≡ true
 
-  placed-left : (h d : List ℕ) → isKept (heldUnder (orientation g) h d) ≡ true → Left 10 n [] s (placing n c h d st)
-  unfolding placing fontsIn
-  placed-left h d ok = go (leb (used (putCharacter n c h d st)) (st .size)) refl
+module _ (n c : ℕ) (s h d : List ℕ) (st : Store) (g : Guest n c s h d st) where
+  pub placed-valid : used (putCharacter n c h d st) ≤ st .size → Valid (putCharacter n c h d st)
+  placed-valid fits =
+      let ok = new-allowed n c (g .header) h d (g .low) (g .code) (g .ok) in
+      valid-char n c (g .header) (character n c h d ∷ []) st (g .valid) (g .code) (g .there) (new-char h d ok) (char-run n c h d (shaped (under alone (font n (g .header))) (character n c h d) ok)) fits (markFor n c h d) (mark-new n c h d (st .recs) (g .low) (g .code))
+
+  -- it stands, or its font goes
+  placed-answers : (P : After → Type 0) → (Valid (putCharacter n c h d st) → P (done (putCharacter n c h d st))) → (Valid (removeFont n st) → P (record { answer = 10; bytes = encode (removeFont n st) })) → P (placing n c h d st)
+  unfolding placing
+  placed-answers P f x = go (leb (used (putCharacter n c h d st)) (st .size)) refl
     where
-      go : (t : Bool) → leb (used (putCharacter n c h d st)) (st .size) ≡ t → Left 10 n [] s (cond t (record { answer = 0; bytes = encode (putCharacter n c h d st) }) (record { answer = 10; bytes = encode (removeFont n st) }))
-      go true q =
-          let a = placed-valid h d ok (leb-true _ _ q) in
-          (encoded (putCharacter n c h d st) a, fonts-encoded (putCharacter n c h d st) a ∙ fonts-char n c (character n c h d ∷ []) (st .recs) (v .order) code refl ∙ sym (fonts-of s st e))
-      go false q = with-left n 10 [] s st e (removed-valid st v n)
+      go : (t : Bool) → leb (used (putCharacter n c h d st)) (st .size) ≡ t → P (cond t (record { answer = 0; bytes = encode (putCharacter n c h d st) }) (record { answer = 10; bytes = encode (removeFont n st) }))
+      go true q = f (placed-valid (leb-true _ _ q))
+      go false q = x (removed-valid st (g .valid) n)
 
-  received-left : (h d : List ℕ) → isKeptFirst h (orientation g) ≡ true → Left 10 n [] s (receiving n c h d s st)
-  unfolding receiving heldUnder
-  received-left h d f = go (judge (class h) (width h) (height h) d) refl
+-- whatever holds of its refusals, of a character that stands, and of a font that goes for lack of room
+module _ (n c : ℕ) (b s : List ℕ) (is : isStore s ≡ true) (P : After → Type 0) (no : (m : ℕ) → eqb m 0 ≡ false → eqb m 10 ≡ false → P (refuse s m))
+    (put : (st : Store) (h d : List ℕ) → Guest n c s h d st → Valid (putCharacter n c h d st) → P (done (putCharacter n c h d st)))
+    (gone : (st : Store) → decode s ≡ some st → Valid st → Valid (removeFont n st) → P (record { answer = 10; bytes = encode (removeFont n st) })) where
+  module _ (st : Store) (e : decode s ≡ some st) (v : Valid st) (low : n ≤ 32767) (code : c ≤ 255) (g : List ℕ) (there : find (keyOf n 0) (st .recs) ≡ some (font n g)) where
+    placed-by : (h d : List ℕ) → isKept (heldUnder (orientation g) h d) ≡ true → P (placing n c h d st)
+    placed-by h d ok =
+        let x : Guest n c s h d st = record { is = e; valid = v; low = low; code = code; header = g; there = there; ok = ok } in
+        placed-answers n c s h d st x P (put st h d x) (gone st e v)
+
+    received-by : (h d : List ℕ) → isKeptFirst h (orientation g) ≡ true → P (receiving n c h d s st)
+    unfolding receiving heldUnder
+    received-by h d f = go (judge (class h) (width h) (height h) d) refl
+      where
+        kept : List ℕ
+        kept = keptData (class h) (width h) (height h) d
+
+        go : (j : Judged) → judge (class h) (width h) (height h) d ≡ j → P (ifWithin j (refuse s 8) (checked (refuse s) (leb (length kept) 32768) 9 (placing n c h kept st)))
+        go (Complete m) q = by-check s P (leb (length kept) 32768) 9 _ (no 9 refl refl) (λ l. placed-by h kept (rw (f, held-whole (class h) (width h) (height h) d m q (leb-true _ _ l))))
+        go Incomplete q = by-check s P (leb (length kept) 32768) 9 _ (no 9 refl refl) (λ l. placed-by h kept (rw (f, held-unfinished (class h) (width h) (height h) d q (leb-true _ _ l))))
+        go (PastWidth row g r) q = no 8 refl refl
+
+    first-by : kindOf b ≡ First → P (receivingFirst n c g b s st)
+    unfolding receivingFirst readFirst
+    first-by f = by-verdict s P (firstChecks b (orientation g)) _ (no 3 refl refl, (no 4 refl refl, (no 5 refl refl, (no 9 refl refl, tt)))) (λ e. received-by (keptFirst b) (drop 16 b) (kept-first b (orientation g) f e))
+
+    more-by : P (receivingMore n c b s st)
+    unfolding receivingMore
+    more-by = by-check s P (names n c (st .mark)) 7 _ (no 7 refl refl) (λ t. by-find s P (find (keyOf n (c + 1)) (st .recs)) 7 _ (no 7 refl refl) (λ r q.
+        let f = found (keyOf n (c + 1)) 0 alone r (st .recs) (v .order) q in
+        let y = char-at n c _ r code (f .ok) (f .is) in
+        subst (λ (x : Rec). P (receiving n c (keptOf x) (dataOf x ++ drop 2 b) s st)) (sym (y .2)) (received-by (y .0) (y .1 ++ drop 2 b) (kept-under n c g (y .0) (y .1) (st .recs) (v .order) code there (q ∙ ap some (y .2))))))
+
+  pub character-answers : P (downloadingCharacter n c b s)
+  unfolding downloadingCharacter puttingBlock onStore
+  character-answers =
+      let w = is-store s is in
+      let st = w .0 in
+      let v = valid-decode s st (w .1) in
+      rw (w .1)
+      (by-check s P (numbered n c) 2 _ (no 2 refl refl) (λ l. let i = in-range n c l in
+      by-check s P (characterLength b) 3 _ (no 3 refl refl) (λ e.
+      by-find s P (find (keyOf n 0) (st .recs)) 6 _ (no 6 refl refl) (λ r q. block st (w .1) v r (i .0) (i .1) q))))
     where
-      kept : List ℕ
-      kept = keptData (class h) (width h) (height h) d
-
-      go : (j : Judged) → judge (class h) (width h) (height h) d ≡ j → Left 10 n [] s (ifWithin j (refuse s 8) (checked (refuse s) (leb (length kept) 32768) 9 (placing n c h kept st)))
-      go (Complete m) q = by-check 10 n [] s is (leb (length kept) 32768) 9 _ refl (λ l. placed-left h kept (rw (f, held-whole (class h) (width h) (height h) d m q (leb-true _ _ l))))
-      go Incomplete q = by-check 10 n [] s is (leb (length kept) 32768) 9 _ refl (λ l. placed-left h kept (rw (f, held-unfinished (class h) (width h) (height h) d q (leb-true _ _ l))))
-      go (PastWidth row g r) q = refusal 10 n [] s is 8 refl
-
-  first-left : (b : List ℕ) → kindOf b ≡ First → Left 10 n [] s (receivingFirst n c g b s st)
-  unfolding receivingFirst readFirst
-  first-left b f = by-verdict 10 n [] s is (firstChecks b (orientation g)) _ (refl, (refl, (refl, (refl, tt)))) (λ e. received-left (keptFirst b) (drop 16 b) (kept-first b (orientation g) f e))
-
-  more-left : (b : List ℕ) → Left 10 n [] s (receivingMore n c b s st)
-  unfolding receivingMore
-  more-left b = by-check 10 n [] s is (names n c (st .mark)) 7 _ refl (λ t. by-find 10 n [] s is (find (keyOf n (c + 1)) (st .recs)) 7 _ refl (λ r q.
-      let f = found (keyOf n (c + 1)) 0 alone r (st .recs) (v .order) q in
-      let y = char-at n c _ r code (f .ok) (f .is) in
-      subst (λ (x : Rec). Left 10 n [] s (receiving n c (keptOf x) (dataOf x ++ drop 2 b) s st)) (sym (y .2)) (received-left (y .0) (y .1 ++ drop 2 b) (kept-by r (y .0) (y .1) q (y .2)))))
-    where
-      kept-by : (r : Rec) (h d : List ℕ) → find (keyOf n (c + 1)) (st .recs) ≡ some r → r ≡ character n c h d → isKeptFirst h (orientation g) ≡ true
-      kept-by r h d q i = kept-under n c g h d (st .recs) (v .order) code there (q ∙ ap some i)
+      block : (st : Store) → decode s ≡ some st → Valid st → (r : Rec) → n ≤ 32767 → c ≤ 255 → find (keyOf n 0) (st .recs) ≡ some r → P (byKind (kindOf b) (receivingFirst n c (keptOf r) b s st) (receivingMore n c b s st) (refuse s 4))
+      block st d v r low code q =
+          let f = found (keyOf n 0) 0 alone r (st .recs) (v .order) q in
+          let y = font-at n _ r (f .ok) (f .is) in
+          let t : find (keyOf n 0) (st .recs) ≡ some (font n (y .0)) = q ∙ ap some (y .1) in
+          subst (λ (x : Rec). P (byKind (kindOf b) (receivingFirst n c (keptOf x) b s st) (receivingMore n c b s st) (refuse s 4))) (sym (y .1))
+          (by-kind s P (kindOf b) _ _ (no 4 refl refl) (λ e. first-by st d v low code (y .0) t e) (λ e. more-by st d v low code (y .0) t))
 
 pub character-leaves : (n c : ℕ) (b s : List ℕ) → isStore s ≡ true → Left 10 n [] s (downloadingCharacter n c b s)
-unfolding downloadingCharacter puttingBlock onStore
+unfolding fontsIn
 character-leaves n c b s is =
-    let w = is-store s is in
-    let st = w .0 in
-    let v = valid-decode s st (w .1) in
-    rw (w .1)
-    (by-check 10 n [] s is (numbered n c) 2 _ refl (λ l. let i = in-range n c l in
-    by-check 10 n [] s is (characterLength b) 3 _ refl (λ e.
-    by-find 10 n [] s is (find (keyOf n 0) (st .recs)) 6 _ refl (λ r q. block st (w .1) v r (i .0) (i .1) q))))
-  where
-    block : (st : Store) → decode s ≡ some st → Valid st → (r : Rec) → n ≤ 32767 → c ≤ 255 → find (keyOf n 0) (st .recs) ≡ some r → Left 10 n [] s (byKind (kindOf b) (receivingFirst n c (keptOf r) b s st) (receivingMore n c b s st) (refuse s 4))
-    block st d v r low code q =
-        let f = found (keyOf n 0) 0 alone r (st .recs) (v .order) q in
-        let y = font-at n _ r (f .ok) (f .is) in
-        let t : find (keyOf n 0) (st .recs) ≡ some (font n (y .0)) = q ∙ ap some (y .1) in
-        subst (λ (x : Rec). Left 10 n [] s (byKind (kindOf b) (receivingFirst n c (keptOf x) b s st) (receivingMore n c b s st) (refuse s 4))) (sym (y .1))
-        (by-kind 10 n [] s is (kindOf b) _ _ refl (λ e. first-left n c s is st d v low code (y .0) t b e) (λ e. more-left n c s is st d v low code (y .0) t b))
-
-pub character-again : (n c : ℕ) (b s : List ℕ) → isStore s ≡ true → isStore (downloadingCharacter n c b s .bytes) ≡ true
-character-again n c b s is = character-leaves n c b s is .0
+    character-answers n c b s is (Left 10 n [] s) (λ m z e. refusal 10 n [] s is m e)
+    (λ st h d g a. (encoded (putCharacter n c h d st) a, fonts-encoded (putCharacter n c h d st) a ∙ fonts-char n c (character n c h d ∷ []) (st .recs) (g .valid .order) (g .code) refl ∙ sym (fonts-of s st (g .is))))
+    (λ st e v a. with-left n 10 [] s st e a)
 
 -- ── making fresh, removing
 pub fresh-leaves : (s : List ℕ) → makingFresh s .answer ≡ 0 → (isStore (makingFresh s .bytes) ≡ true) × (fontsOf (makingFresh s .bytes) ≡ [])
@@ -210,21 +234,11 @@ removed-leaves n s is =
     let w = is-store s is in
     let v = valid-decode s (w .0) (w .1) in
     rw (w .1)
-    (by-check 0 n [] s is (leb n 32767) 2 _ refl (λ l. by-find 0 n [] s is (find (keyOf n 0) (w .0 .recs)) 6 _ refl (λ r q. with-left n 0 [] s (w .0) (w .1) (removed-valid (w .0) v n))))
+    (by-check s (Left 0 n [] s) (leb n 32767) 2 _ (refusal 0 n [] s is 2 refl) (λ l. by-find s (Left 0 n [] s) (find (keyOf n 0) (w .0 .recs)) 6 _ (refusal 0 n [] s is 6 refl) (λ r q. with-left n 0 [] s (w .0) (w .1) (removed-valid (w .0) v n))))
 
 -- a store with the fonts that it had
 abbrev Same : List ℕ → After → Type 0
 Same s a = (isStore (a .bytes) ≡ true) × (fontsOf (a .bytes) ≡ fontsOf s)
-
-module _ (s : List ℕ) (is : isStore s ≡ true) where
-  same-check : (t : Bool) (m : ℕ) (a : After) → (t ≡ true → Same s a) → Same s (checked (refuse s) t m a)
-  same-check true m a f = f refl
-  same-check false m a f = (is, refl)
-
-  same-find : (o : Option Rec) (m : ℕ) (f : Rec → After) → ((r : Rec) → o ≡ some r → Same s (f r)) → Same s (finding (refuse s) o m f)
-  unfolding finding
-  same-find none m f g = (is, refl)
-  same-find (some r) m f g = g r refl
 
 pub cut-leaves : (n c : ℕ) (s : List ℕ) → isStore s ≡ true → Same s (removingCharacter n c s)
 unfolding removingCharacter onCharacter onStore
@@ -232,8 +246,8 @@ cut-leaves n c s is =
     let w = is-store s is in
     let v = valid-decode s (w .0) (w .1) in
     rw (w .1)
-    (same-check s is (numbered n c) 2 _ (λ l.
-    same-find s is (find (keyOf n 0) (w .0 .recs)) 6 _ (λ r q. same-find s is (find (keyOf n (c + 1)) (w .0 .recs)) 7 _ (λ x y. cut (w .0) (w .1) v r (in-range n c l .1) q))))
+    (by-check s (Same s) (numbered n c) 2 _ (is, refl) (λ l.
+    by-find s (Same s) (find (keyOf n 0) (w .0 .recs)) 6 _ (is, refl) (λ r q. by-find s (Same s) (find (keyOf n (c + 1)) (w .0 .recs)) 7 _ (is, refl) (λ x y. cut (w .0) (w .1) v r (in-range n c l .1) q))))
   where
     cut : (st : Store) → decode s ≡ some st → Valid st → (r : Rec) → c ≤ 255 → find (keyOf n 0) (st .recs) ≡ some r → Same s (done (removeCharacter n c st))
     cut st d v r code q = unfold run total fontsIn in
@@ -256,10 +270,3 @@ module _ (n : ℕ) (b s : List ℕ) (k : isStore s ≡ true) (l : n ≤ 32767) w
   pub known-block : (c : ℕ) → c ≤ 255 → downloadingCharacter n c b s ≡ puttingBlock n c b s
   unfolding downloadingCharacter onStore
   known-block c m = rw (is-store s k .1, le-leb n 32767 l, le-leb c 255 m)
-
--- what a call leaves, as its contract says
-pub font-left : (n : ℕ) (b s t : List ℕ) → isStore s ≡ true → t ≡ downloadingFont n b s .bytes → (t ≡ downloadingFont n b s .bytes) × (isStore t ≡ true)
-font-left n b s t k e = (e, rw e (font-again n b s k))
-
-pub character-left : (n c : ℕ) (b s t : List ℕ) → isStore s ≡ true → t ≡ downloadingCharacter n c b s .bytes → (t ≡ downloadingCharacter n c b s .bytes) × (isStore t ≡ true)
-character-left n c b s t k e = (e, rw e (character-again n c b s k))

@@ -31,7 +31,6 @@ use Rattle.store.proofs.Totals.{total-append}
 use Rattle.store.proofs.Order.{below-in, below-out, from-out}
 use Rattle.store.proofs.Lookup.{find-here, find-other}
 use Rattle.store.proofs.Changed.{changed}
-use Rattle.store.proofs.Locates.{store-is}
 use Rattle.store.proofs.Again.{put-valid, placed-valid}
 
 -- ── records whose keys all lie below k
@@ -170,7 +169,7 @@ module _ (n c : ℕ) (g h : List ℕ) (low : n ≤ 32767) (code : c ≤ 255) whe
     last-laid : Laid n (keyOf n (c + 1) + 1) g (lastStore n c h d rs st)
     unfolding number place
     last-laid = record {
-      valid = subst Valid put-last (placed-valid n c (encode st) (store-is (encode st) st (decode-encode st v)) st (decode-encode st v) v low code g there h d ok last-fits);
+      valid = subst Valid put-last (placed-valid n c (encode st) h d st (record { is = decode-encode st v; valid = v; low = low; code = code; header = g; there = there; ok = ok }) last-fits);
       there = find-front (keyOf n 0) rs (character n c h d ∷ []) (font n g) front;
       low = low-snoc (keyOf n (c + 1) + 1) rs (character n c h d) (low-more (keyOf n (c + 1)) (keyOf n (c + 1) + 1) rs laid (omega arith)) (omega arith);
     }

@@ -30,3 +30,4 @@ pub mod Again
 pub mod Appends
 pub mod Leaves
 pub mod Holds
+pub mod Cursors

@@ -1,58 +1,28 @@
 -- Places found by the heads of a store's records alone. Assumes nothing.
 use mathlib.Core.Path.{_≡_, refl, sym, ap, _∙_}
 use mathlib.Core.List.{List, [], _∷_}
-use mathlib.Core.Bool.{Bool, true, false, not, _&&_}
+use mathlib.Core.Bool.{true}
 use mathlib.Core.Option.{Option, none, some}
 use Prim.Native.Nat.{ℕ, _+_, _-_, _<_, _≤_}
 use native.Mathlib.Omega.{arith}
-use native.Mathlib.Nat.{add-zero, zero-add}
 use lib.ListN.{length, drop, length-drop}
 use lib.Seq.{drop-drop}
-use lib.Dec.{eqb, leb, ltb}
-use borrow.Author.Tests.{eqb-true, eqb-false, le-leb}
 use Rattle.store.specs.Layout.{keyOf}
 use Rattle.store.specs.Num.{field}
 use Rattle.store.specs.Model.{Rec, font, Store, Under, under, alone, sorted, number, place, key, headRec, sizeOf, total, split, decode}
-use Rattle.store.specs.Order.{keep, below}
-use Rattle.store.specs.Calls.{charactersOf}
+use Rattle.store.specs.Order.{keep, below, from, after}
 use Rattle.store.specs.Fonts.{isStore}
-use Rattle.store.specs.Walk.{asking, countIf, placesOf, Stands, placeBy, beyond, beyondAt, isRecord, Inside}
-use Rattle.store.specs.declared.walk.Query.{Query}
-use Rattle.store.specs.declared.walk.Places.{Places}
-use Rattle.store.proofs.Numbers.{zeros-field}
+use Rattle.store.specs.Walk.{Stands}
+use Rattle.store.specs.Cursor.{keyAt, Reaches, Seeking, Points}
+use Rattle.store.specs.declared.locate.Cursor.{Cursor}
 use Rattle.store.proofs.Fields.{field-drop}
-use Rattle.store.proofs.Records.{zero-head, Headed, is-font, is-character, head-inv}
-use Rattle.store.proofs.Codec.{sorted-inv, begins-parts}
-use Rattle.store.proofs.Walks.{total-below, count-chars, total-more}
-use Rattle.store.proofs.KeptFonts.{Standing, at-end, at-record, stands-at, headed-size, char-size, decoded}
-
--- what the records still to come add to the places so far
-abbrev gathered : Query → Places → List Rec → Places
-gathered q w rs =
-    record {
-      used = w .used + total rs;
-      lo = w .lo + total (below (q .lo) rs);
-      from = w .from + total (below (q .from) rs);
-      to = w .to + total (below (q .to) rs);
-      hi = w .hi + total (below (q .hi) rs);
-      chars = w .chars + length (charactersOf (q .font) rs);
-    }
-
-abbrev pub first : Places
-first = record { used = 12; lo = 12; from = 12; to = 12; hi = 12; chars = 0 }
-
--- the walk has come to w: the records from there on give the places asked for
-pub record Walking (n p : ℕ) (s : List ℕ) (w : Places) : Type 0 where
-  pub store : Store
-  pub is : decode s ≡ some store
-  pub small : length s ≤ 65536
-  pub inside : Inside (length s) w
-  pub recs : List Rec
-  pub rest : split (drop (w .used) s) ≡ some recs
-  pub least : ℕ
-  pub behind : Under
-  pub order : sorted least behind recs ≡ true
-  pub places : gathered (asking n p 0) w recs ≡ placesOf n p (store .recs)
+use Rattle.store.proofs.Records.{Headed, is-font, is-character, head-inv}
+use Rattle.store.proofs.Codec.{Sorted, sorted-inv, begins-parts}
+use Rattle.store.proofs.Order.{below-in, below-out, from-in, from-out, none-below, sorted-from, Side, before, behind, side}
+use Rattle.store.proofs.Totals.{total-at}
+use Rattle.store.proofs.Lookup.{below-below}
+use Rattle.store.proofs.KeptFonts.{Standing, at-end, at-record, stands-at, char-size, decoded}
+use Rattle.store.proofs.Ready.{same-store}
 
 pub is-store : (s : List ℕ) → isStore s ≡ true → (st : Store) × (decode s ≡ some st)
 unfolding isStore
@@ -66,154 +36,190 @@ pub store-is : (s : List ℕ) (st : Store) → decode s ≡ some st → isStore 
 unfolding isStore
 store-is s st e = rw e
 
-store-small : (s : List ℕ) (st : Store) → decode s ≡ some st → length s ≤ 65536
+pub store-small : (s : List ℕ) (st : Store) → decode s ≡ some st → length s ≤ 65536
 unfolding decode
 store-small s st e = begins-parts s (Rattle.store.proofs.Records.guard-test _ _ st e) .1
 
-pub walking : (n p : ℕ) (s : List ℕ) → isStore s ≡ true → Walking n p s first
-walking n p s e =
-    let st = is-store s e in
-    let d = decoded s (st .0) (st .1) in
+-- ── the records from a key on stand at its place
+key-side : {k : ℕ} {u : Under} {r : Rec} {rs : List Rec} → (s : List ℕ) → split s ≡ some (r ∷ rs) → Side k u r rs
+    → split (drop (total (below k rs)) (drop (sizeOf r) s)) ≡ some (from k rs) → split (drop (total (below k (r ∷ rs))) s) ≡ some (from k (r ∷ rs))
+unfolding total
+key-side {k} {u} {r} {rs} s e (before l) ih = rw (below-in k r rs l, from-out k r rs l) (ap split (sym (drop-drop (total (below k rs)) (sizeOf r) s)) ∙ ih)
+key-side {k} {u} {r} {rs} s e (behind l z a) ih = rw (below-out k r rs l, from-in k r rs l, z, a) e
+
+-- behind a record stand the others
+pub split-rest : (s : List ℕ) (r : Rec) (rs : List Rec) → split s ≡ some (r ∷ rs) → (headRec s ≡ some r) × (split (drop (sizeOf r) s) ≡ some rs)
+split-rest s r rs e = go (stands-at s (r ∷ rs) e)
+  where
+    go : Standing s (r ∷ rs) → (headRec s ≡ some r) × (split (drop (sizeOf r) s) ≡ some rs)
+    go (at-end i z) = let y : _≡_ {A = ℕ} 0 1 = cc in absurd (omega arith)
+    go (at-record x ts i h q) =
+        let ix : x ≡ r = cc in
+        let it : ts ≡ rs = cc in
+        (rw (← ix) h, rw (← ix, ← it) q)
+
+pub from-key : (k j : ℕ) (u : Under) (rs : List Rec) (s : List ℕ) → sorted j u rs ≡ true → split s ≡ some rs → split (drop (total (below k rs)) s) ≡ some (from k rs)
+unfolding keep total
+from-key k j u [] s o e = e
+from-key k j u (r ∷ rs) s o e =
+    let w = sorted-inv j u r rs o in
+    key-side s e (side k j u r rs w) (from-key k (key r + 1) (under u r) rs (drop (sizeOf r) s) (w .rest) (split-rest s r rs e .1))
+
+-- ── a record, as its head tells it
+pub record Told (s : List ℕ) (here : ℕ) (r : Rec) : Type 0 where
+  pub key : key r ≡ keyAt s here
+  pub len : sizeOf r ≡ field 4 here s
+  pub room : here + 26 ≤ length s
+  pub fits : here + field 4 here s ≤ length s
+  pub some : 0 < field 4 here s
+
+told-by : (s : List ℕ) (here : ℕ) (r : Rec) → Headed (drop here s) r → Told s here r
+unfolding number place sizeOf
+told-by s here r (is-font f a b) =
+    let kind : field 2 (here + 4) s ≡ 2 = sym (field-drop 2 4 here s) ∙ a in
+    let n : field 2 6 (drop here s) ≡ field 2 (here + 6) s = field-drop 2 6 here s in
     record {
-      store = st .0;
-      is = st .1;
-      small = store-small s (st .0) (st .1);
-      inside = record { used = d .0; lo = omega arith; from = omega arith; to = omega arith; hi = omega arith; chars = omega arith };
-      recs = st .0 .recs;
-      rest = d .1;
-      least = 0;
-      behind = alone;
-      order = d .2;
-      places = rw (zero-add (length (charactersOf n (st .0 .recs))));
+      key = rw (kind, n);
+      len = sym b;
+      room = omega (arith, f, b, length-drop here s);
+      fits = omega (arith, f, b, length-drop here s);
+      some = omega (arith, b);
+    }
+told-by s here r (is-character f a b) =
+    let kind : field 2 (here + 4) s ≡ 3 = sym (field-drop 2 4 here s) ∙ a in
+    let n : field 2 6 (drop here s) ≡ field 2 (here + 6) s = field-drop 2 6 here s in
+    let m : field 2 8 (drop here s) ≡ field 2 (here + 8) s = field-drop 2 8 here s in
+    record {
+      key = rw (kind, n, m);
+      len = char-size (drop here s) f b;
+      room = omega (arith, f, b, length-drop here s);
+      fits = omega (arith, f, b, length-drop here s);
+      some = omega (arith, b);
     }
 
-module _ (n p : ℕ) (s : List ℕ) (w : Places) (x : Walking n p s w) where
-  ended : x .recs ≡ [] → Stands n p s w
-  unfolding total keep charactersOf
-  ended e =
-      let g : gathered (asking n p 0) w [] ≡ placesOf n p (x .store .recs) = rw e at (x .places) in
-      let z : gathered (asking n p 0) w [] ≡ w = simp add-zero in
-      record { store = x .store; is = x .is; at = sym g ∙ z }
+pub told-first : (s : List ℕ) (here : ℕ) (r : Rec) (rs : List Rec) → split (drop here s) ≡ some (r ∷ rs) → Told s here r
+told-first s here r rs e = told-by s here r (head-inv (drop here s) r (split-rest (drop here s) r rs e .0))
 
-  -- the end, where no record begins
-  pub walked-through : isRecord s (w .used) ≡ false → Stands n p s w
-  walked-through t = go (stands-at (drop (w .used) s) (x .recs) (x .rest))
-    where
-      not-both : (a b : Bool) → (a && not b) ≡ false → a ≡ true → b ≡ true
-      not-both true true e f = refl
-      not-both true false e f = sym e
-      not-both false b e f = cc
+-- ── a search
+-- a search for k has come to here: the records from there on have what its sum still lacks
+pub record Passing (s : List ℕ) (end k here : ℕ) : Type 0 where
+  pub store : Store
+  pub is : decode s ≡ some store
+  pub small : length s ≤ 65536
+  pub recs : List Rec
+  pub rest : split (drop here s) ≡ some recs
+  pub least : ℕ
+  pub behind : Under
+  pub order : sorted least behind recs ≡ true
+  pub sum : here + total (below k recs) ≡ 12 + total (below k (store .recs))
+  pub last : here + total recs ≡ end
 
-      go : Standing (drop (w .used) s) (x .recs) → Stands n p s w
-      go (at-end e z) = ended e
-      go (at-record r ts e h q) =
-          let m = headed-size (drop (w .used) s) r (head-inv (drop (w .used) s) r h) in
-          let a : leb 26 (length s - w .used) ≡ true = le-leb 26 (length s - w .used) (omega (arith, m .0, length-drop (w .used) s)) in
-          let f : field 4 (w .used) s ≡ 0 = eqb-true _ _ (not-both (leb 26 (length s - w .used)) (eqb (field 4 (w .used) s) 0) t a) in
-          let z : none ≡ some r = sym (zero-head (drop (w .used) s) f) ∙ h in
-          let y : _≡_ {A = ℕ} 0 1 = cc in absurd (omega arith)
+pub passing : (s : List ℕ) (end k here : ℕ) → Seeking s end k here → Passing s end k here
+passing s end k here x =
+    let st = x .store in
+    let d = decoded s st (x .is) in
+    let rs = st .recs in
+    let e : split (drop (total (below (x .base) rs)) (drop 12 s)) ≡ some (from (x .base) rs) = from-key (x .base) 0 alone rs (drop 12 s) (d .2) (d .1) in
+    let b = ap total (below-below (x .base) k 0 alone rs (d .2) (x .low)) ∙ Rattle.store.proofs.Totals.total-append (below (x .base) rs) (below k (from (x .base) rs)) in
+    record {
+      store = st;
+      is = x .is;
+      small = store-small s st (x .is);
+      recs = from (x .base) rs;
+      rest = ap (λ (y : ℕ). split (drop y s)) (x .at) ∙ ap split (sym (drop-drop (total (below (x .base) rs)) 12 s)) ∙ e;
+      least = x .base;
+      behind = after alone (below (x .base) rs);
+      order = sorted-from (x .base) 0 alone rs (d .2);
+      sum = omega (arith, x .at, b);
+      last = omega (arith, x .at, x .used, total-at (x .base) 0 alone rs (d .2));
+    }
 
-  -- a record's numbers, as its head has them
-  pub record Told : Type 0 where
+module _ (s : List ℕ) (end k here : ℕ) (x : Passing s end k here) where
+  -- all records are passed
+  pub passed-all : end ≤ here → Reaches s k here
+  passed-all l =
+      let t = total-at k (x .least) (x .behind) (x .recs) (x .order) in
+      record { store = x .store; is = x .is; at = omega (arith, x .sum, x .last, t) }
+
+  -- the record that begins here
+  pub record Next : Type 0 where
     pub rec : Rec
     pub after : List Rec
     pub recs : x .recs ≡ rec ∷ after
-    pub rest : split (drop (sizeOf rec) (drop (w .used) s)) ≡ some after
-    pub font : number rec ≡ field 2 (w .used + 6) s
-    pub place : place rec ≡ placeBy (field 2 (w .used + 4) s) (field 2 (w .used + 8) s)
-    pub len : sizeOf rec ≡ field 4 (w .used) s
-    pub room : w .used + 26 ≤ length s
-    pub fits : w .used + field 4 (w .used) s ≤ length s
-    pub some : 0 < field 4 (w .used) s
+    pub rest : split (drop (sizeOf rec) (drop here s)) ≡ some after
+    pub told : Told s here rec
 
-  told-by : (r : Rec) (ts : List Rec) → Headed (drop (w .used) s) r → x .recs ≡ r ∷ ts → headRec (drop (w .used) s) ≡ some r → split (drop (sizeOf r) (drop (w .used) s)) ≡ some ts → Told
-  unfolding number place sizeOf
-  told-by r ts (is-font f a b) e h q =
-      record {
-        rec = r;
-        after = ts;
-        recs = e;
-        rest = q;
-        font = field-drop 2 6 (w .used) s;
-        place = rw (sym (field-drop 2 4 (w .used) s) ∙ a);
-        len = sym b;
-        room = omega (arith, f, b, length-drop (w .used) s);
-        fits = omega (arith, f, b, length-drop (w .used) s);
-        some = omega (arith, b);
-      }
-  told-by r ts (is-character f a b) e h q =
-      record {
-        rec = r;
-        after = ts;
-        recs = e;
-        rest = q;
-        font = field-drop 2 6 (w .used) s;
-        place = rw (sym (field-drop 2 4 (w .used) s) ∙ a) (ap (λ (y : ℕ). y + 1) (field-drop 2 8 (w .used) s));
-        len = char-size (drop (w .used) s) f b;
-        room = omega (arith, f, b, length-drop (w .used) s);
-        fits = omega (arith, f, b, length-drop (w .used) s);
-        some = omega (arith, b);
-      }
-
-  pub told : isRecord s (w .used) ≡ true → Told
-  told t = go (stands-at (drop (w .used) s) (x .recs) (x .rest))
+  pub next : here < end → Next
+  unfolding total
+  next l = go (x .recs) refl
     where
-      not-zero : (a b : Bool) → (a && not b) ≡ true → b ≡ false
-      not-zero true true e = cc
-      not-zero true false e = refl
-      not-zero false b e = cc
+      go : (rs : List Rec) → x .recs ≡ rs → Next
+      go [] e = absurd (omega (arith, x .last, ap total e))
+      go (r ∷ ts) e = let q : split (drop here s) ≡ some (r ∷ ts) = x .rest ∙ ap some e in
+          record { rec = r; after = ts; recs = e; rest = split-rest (drop here s) r ts q .1; told = told-first s here r ts q }
 
-      go : Standing (drop (w .used) s) (x .recs) → Told
-      go (at-end e z) = absurd (eqb-false _ _ (not-zero (leb 26 (length s - w .used)) (eqb (field 4 (w .used) s) 0) t) (zeros-field 4 (drop (w .used) s) z))
-      go (at-record r ts e h q) = told-by r ts (head-inv (drop (w .used) s) r h) e h q
+  module _ (d : Next) where
+    order-of : Sorted (x .least) (x .behind) (d .rec) (d .after)
+    order-of = sorted-inv (x .least) (x .behind) (d .rec) (d .after) (rw (d .recs) at (x .order))
 
-  module _ (t : isRecord s (w .used) ≡ true) where
-    more : (r : Rec) (ts : List Rec) → gathered (asking n p 0) w (r ∷ ts) ≡ gathered (asking n p 0) (beyond (asking n p 0) w (number r) (place r) (sizeOf r)) ts
-    more r ts =
-        let q = asking n p 0 in
-        rw (
-          total-more r ts (w .used),
-          total-below (q .lo) r ts (w .lo),
-          total-below (q .from) r ts (w .from),
-          total-below (q .to) r ts (w .to),
-          total-below (q .hi) r ts (w .hi),
-          count-chars n (w .chars) r ts,
-        )
+    -- its key is not lower
+    pub stopped : k ≤ keyAt s here → Reaches s k here
+    unfolding total
+    stopped l =
+        let q = d .told .key in
+        let n : below k (d .rec ∷ d .after) ≡ [] = below-out k (d .rec) (d .after) (omega (arith, l, q)) ∙ none-below k (key (d .rec) + 1) (under (x .behind) (d .rec)) (d .after) (order-of .rest) (omega (arith, l, q)) in
+        let z : total (below k (x .recs)) ≡ 0 = ap (λ (l : List Rec). total (below k l)) (d .recs) ∙ ap total n in
+        record { store = x .store; is = x .is; at = omega (arith, x .sum, z) }
 
-    count-le : (b : Bool) (k : ℕ) → countIf b k ≤ k
-    count-le true k = unfold countIf in omega arith
-    count-le false k = unfold countIf in omega arith
-
-    pub walked-on : Walking n p s (beyondAt s (asking n p 0) w)
-    walked-on =
-        let d = told t in
-        let q = asking n p 0 in
-        let N = field 2 (w .used + 6) s in
-        let P = placeBy (field 2 (w .used + 4) s) (field 2 (w .used + 8) s) in
-        let L = field 4 (w .used) s in
-        let i = x .inside in
-        let g : gathered q w (d .rec ∷ d .after) ≡ placesOf n p (x .store .recs) = rw (d .recs) at (x .places) in
-        let o : sorted (x .least) (x .behind) (d .rec ∷ d .after) ≡ true = rw (d .recs) at (x .order) in
-        let b : beyond q w (number (d .rec)) (place (d .rec)) (sizeOf (d .rec)) ≡ beyondAt s q w = ap (λ (y : ℕ). beyond q w y (place (d .rec)) (sizeOf (d .rec))) (d .font) ∙ ap (λ (y : ℕ). beyond q w N y (sizeOf (d .rec))) (d .place) ∙ ap (λ (y : ℕ). beyond q w N P y) (d .len) in
+    -- its key is lower: on behind it
+    pub passed-one : keyAt s here < k → Passing s end k (here + field 4 here s)
+    unfolding total
+    passed-one l =
+        let q = d .told .key in
+        let len = d .told .len in
+        let n : below k (d .rec ∷ d .after) ≡ d .rec ∷ below k (d .after) = below-in k (d .rec) (d .after) (omega (arith, l, q)) in
+        let z : total (below k (x .recs)) ≡ sizeOf (d .rec) + total (below k (d .after)) = ap (λ (l : List Rec). total (below k l)) (d .recs) ∙ ap total n in
+        let y : total (x .recs) ≡ sizeOf (d .rec) + total (d .after) = ap total (d .recs) in
         record {
           store = x .store;
           is = x .is;
           small = x .small;
-          inside = record {
-            used = d .fits;
-            lo = omega (arith, i .lo, count-le (ltb (keyOf N P) (q .lo)) L);
-            from = omega (arith, i .from, count-le (ltb (keyOf N P) (q .from)) L);
-            to = omega (arith, i .to, count-le (ltb (keyOf N P) (q .to)) L);
-            hi = omega (arith, i .hi, count-le (ltb (keyOf N P) (q .hi)) L);
-            chars = omega (arith, i .chars, d .some, count-le (eqb N n && not (eqb P 0)) 1);
-          };
           recs = d .after;
-          rest = ap (λ (y : ℕ). split (drop y s)) (ap (λ (y : ℕ). w .used + y) (sym (d .len))) ∙ ap split (sym (drop-drop (sizeOf (d .rec)) (w .used) s)) ∙ d .rest;
+          rest = ap (λ (y : ℕ). split (drop (here + y) s)) (sym len) ∙ ap split (sym (drop-drop (sizeOf (d .rec)) here s)) ∙ d .rest;
           least = key (d .rec) + 1;
           behind = under (x .behind) (d .rec);
-          order = sorted-inv (x .least) (x .behind) (d .rec) (d .after) o .rest;
-          places = ap (λ (y : Places). gathered q y (d .after)) (sym b) ∙ sym (more (d .rec) (d .after)) ∙ g;
+          order = order-of .rest;
+          sum = omega (arith, x .sum, z, len);
+          last = omega (arith, x .last, y, len);
         }
 
-pub inside-more : (a b : ℕ) (w : Places) → Inside a w → a ≤ b → Inside b w
-inside-more a b w i l = record { used = omega (arith, i .used); lo = i .lo; from = i .from; to = i .to; hi = i .hi; chars = i .chars }
+-- ── where a search may begin
+module _ (s : List ℕ) (c : Cursor) (x : Points s c) where
+  pub from-here : (k : ℕ) → c .key ≤ k → Seeking s (c .used) k (c .at)
+  from-here k l = record { store = x .store; is = x .is; used = x .used; base = c .key; low = l; at = x .at }
+
+  pub from-font : (k : ℕ) → keyOf (c .font) 0 ≤ k → Seeking s (c .used) k (c .lo)
+  from-font k l = record { store = x .store; is = x .is; used = x .used; base = keyOf (c .font) 0; low = l; at = x .lo }
+
+  pub from-front : (k : ℕ) → Seeking s (c .used) k 12
+  unfolding total
+  from-front k =
+      let z : total (below 0 (x .store .recs)) ≡ 0 = ap total (none-below 0 0 alone (x .store .recs) (decoded s (x .store) (x .is) .2) (omega arith)) in
+      record { store = x .store; is = x .is; used = x .used; base = 0; low = omega arith; at = omega (arith, z) }
+
+  pub from-found : (j k here : ℕ) → Reaches s j here → j ≤ k → Seeking s (c .used) k here
+  from-found j k here y l =
+      let i : y .store ≡ x .store = same-store s (y .is) (x .is) in
+      record { store = x .store; is = x .is; used = x .used; base = j; low = l; at = rw i at (y .at) }
+
+  -- the four places, each found
+  pub four : (n p lo from to hi : ℕ) → Reaches s (keyOf n 0) lo → Reaches s (keyOf n p) from → Reaches s (keyOf n p + 1) to → Reaches s (keyOf (n + 1) 0) hi
+      → Stands n p s (record { used = c .used; lo = lo; from = from; to = to; hi = hi; chars = 0 })
+  four n p lo from to hi a b d e =
+      let rs = x .store .recs in
+      let at : (k here : ℕ) → Reaches s k here → 12 + total (below k rs) ≡ here = λ k here y. let i : y .store ≡ x .store = same-store s (y .is) (x .is) in sym (rw i at (y .at)) in
+      let a' : 12 + total (below (keyOf n 0) rs) ≡ lo = at (keyOf n 0) lo a in
+      let b' : 12 + total (below (keyOf n p) rs) ≡ from = at (keyOf n p) from b in
+      let d' : 12 + total (below (keyOf n p + 1) rs) ≡ to = at (keyOf n p + 1) to d in
+      let e' : 12 + total (below (keyOf (n + 1) 0) rs) ≡ hi = at (keyOf (n + 1) 0) hi e in
+      record { store = x .store; is = x .is; at = rw (a', b', d', e', ← (x .used)) }

@@ -1,5 +1,5 @@
 -- What an inspection that finds a store tells. Assumes nothing.
-use mathlib.Core.Path.{_≡_, refl, sym, ap, _∙_}
+use mathlib.Core.Path.{_≡_, refl, sym, ap, _∙_, subst}
 use mathlib.Core.List.{List, _++_}
 use mathlib.Core.Bool.{Bool, true, false, cond}
 use mathlib.Core.Option.{Option, none, some}
@@ -13,7 +13,8 @@ use Rattle.store.specs.Layout.{keyOf}
 use Rattle.store.specs.Num.{Bytes}
 use Rattle.store.specs.Model.{Rec, font, Store, alone, sorted, bytesOf, run, markBytes, encode, decode, total}
 use Rattle.store.specs.Order.{below, from, find}
-use Rattle.store.specs.Walk.{placesOf, inspected, lookedUp, Stands}
+use Rattle.store.specs.Calls.{charactersOf}
+use Rattle.store.specs.Walk.{placesWith, placesOf, inspected, lookedUp, Stands}
 use Rattle.store.specs.declared.walk.Places.{Places}
 use Rattle.store.specs.declared.walk.Lookup.the-variants.{At, Missing}
 use Rattle.store.specs.declared.walk.Inspected.the-variants.{Found as FoundAt, NotStore}
@@ -28,7 +29,7 @@ pub record Ready (n p : ℕ) (s : List ℕ) (w : Places) : Type 0 where
   pub is : decode s ≡ some store
   pub bytes : s ≡ encode store
   pub valid : Valid store
-  pub at : w ≡ placesOf n p (store .recs)
+  pub at : w ≡ placesWith n p (w .chars) (store .recs)
   pub size : length s ≡ store .size
   pub least : 12 ≤ w .lo
   pub span : w .lo ≤ w .hi
@@ -36,6 +37,10 @@ pub record Ready (n p : ℕ) (s : List ℕ) (w : Places) : Type 0 where
   pub one : w .from ≤ w .to
   pub last : w .to ≤ w .used
   pub room : w .used ≤ length s
+
+-- places with the characters counted are places
+pub uncounted : (n p : ℕ) (rs : List Rec) (w : Places) → placesOf n p rs ≡ w → placesWith n p (w .chars) rs ≡ w
+uncounted n p rs w e = subst (λ (x : Places). placesWith n p (x .chars) rs ≡ x) e refl
 
 module _ (n p : ℕ) (s : List ℕ) where
   pub not-store : inspected n p (decode s) ≡ NotStore → decode s ≡ none
@@ -46,8 +51,8 @@ module _ (n p : ℕ) (s : List ℕ) where
       go none q e' = q
       go (some st) q e' = let z : _≡_ {A = ℕ} 0 1 = cc in absurd (omega arith)
 
-  ready-of : Bytes s → (w : Places) (st : Store) → decode s ≡ some st → placesOf n p (st .recs) ≡ w → Ready n p s w
-  ready-of B w st q i =
+  ready-of : Bytes s → (k : ℕ) (w : Places) (st : Store) → decode s ≡ some st → placesWith n p k (st .recs) ≡ w → Ready n p s w
+  ready-of B k w st q i =
       let v = encode-decode s st B q in
       let l : length s ≡ st .size = ap length (v .0) ∙ length-encode st (v .1) in
       let o = v .1 .order in
@@ -75,7 +80,7 @@ module _ (n p : ℕ) (s : List ℕ) where
 
   -- of a store that stands
   pub standing : Bytes s → (w : Places) → Stands n p s w → Ready n p s w
-  standing B w x = ready-of B w (x .store) (x .is) (x .at)
+  standing B w x = ready-of B (w .chars) w (x .store) (x .is) (x .at)
 
   pub ready : Bytes s → (w : Places) → inspected n p (decode s) ≡ FoundAt w → Ready n p s w
   unfolding inspected
@@ -83,7 +88,12 @@ module _ (n p : ℕ) (s : List ℕ) where
     where
       go : (o : Option Store) → decode s ≡ o → inspected n p o ≡ FoundAt w → Ready n p s w
       go none q e' = let z : _≡_ {A = ℕ} 0 1 = cc in absurd (omega arith)
-      go (some st) q e' = ready-of B w st q (cc)
+      go (some st) q e' = ready-of B (length (charactersOf n (st .recs))) w st q (cc)
+
+  -- with the characters counted
+  pub found-places : (w : Places) (r : Ready n p s w) → inspected n p (decode s) ≡ FoundAt w → w ≡ placesOf n p (r .store .recs)
+  unfolding inspected
+  found-places w r e = let i : FoundAt (placesOf n p (r .store .recs)) ≡ FoundAt w = rw (r .is) at e in cc
 
 -- a buffer is one store
 pub same-store : (s : List ℕ) {a b : Store} → decode s ≡ some a → decode s ≡ some b → a ≡ b

@@ -1,10 +1,11 @@
 -- What seeking a font or a character tells of a call on it. Assumes nothing.
-use mathlib.Core.Path.{_≡_, refl, ap, _∙_}
+use mathlib.Core.Path.{_≡_, refl, sym, ap, _∙_}
 use mathlib.Core.List.{List}
 use mathlib.Core.Bool.{Bool, true, false}
 use mathlib.Core.Option.{Option, none, some}
 use Prim.Native.Nat.{ℕ, _+_, _-_, _<_, _≤_}
 use native.Mathlib.Omega.{arith}
+use lib.ListN.{length}
 use lib.Dec.{leb}
 use borrow.Author.Tests.{le-leb, lt-leb, leb-true}
 use Rattle.blocks.proofs.Checks.{both}
@@ -13,10 +14,12 @@ use Rattle.store.specs.Num.{Bytes}
 use Rattle.store.specs.Model.{Rec, font, character, Store, alone, decode}
 use Rattle.store.specs.Order.{find}
 use Rattle.store.specs.Answer.{onStore, checked, finding, numbered, onFont, onCharacter}
-use Rattle.store.specs.Walk.{placesOf, soughtFont, soughtCharacter}
+use Rattle.store.specs.Walk.{placesOf, inspected, soughtFont, soughtCharacter}
+use Rattle.store.specs.Calls.{charactersOf}
 use Rattle.store.specs.declared.walk.Places.{Places}
+use Rattle.store.specs.declared.walk.Inspected.the-variants.{Found as FoundAt}
 use Rattle.store.specs.declared.seek.Sought.the-variants.{Here, Refused}
-use Rattle.store.proofs.Ready.{Ready, standing, font-there, font-missing, record-there, record-missing, same-store}
+use Rattle.store.proofs.Ready.{Ready, uncounted, found-places, standing, font-there, font-missing, record-there, record-missing, same-store}
 use Rattle.store.proofs.Lookup.{found, font-at, char-at}
 
 -- ── seeking, by what the inspection found
@@ -35,11 +38,11 @@ module _ (n : ℕ) (s : List ℕ) where
     font-none l e =
         rw (r .is, le-leb n 32767 l, font-missing n (r .store .recs) (r .valid .order) (omega (arith, ap (λ (x : Places). x .lo) (r .at), ap (λ (x : Places). x .hi) (r .at))))
 
-    pub font-here : n ≤ 32767 → w .lo < w .hi → soughtFont n s ≡ Here w
+    pub font-here : n ≤ 32767 → w .lo < w .hi → inspected n 0 (decode s) ≡ FoundAt w → soughtFont n s ≡ Here w
     unfolding soughtFont onFont onStore finding
-    font-here l e =
+    font-here l e i =
         let f = font-there n (r .store .recs) (r .valid .order) (omega (arith, ap (λ (x : Places). x .lo) (r .at), ap (λ (x : Places). x .hi) (r .at))) in
-        rw (r .is, le-leb n 32767 l, f .1, r .at)
+        rw (r .is, le-leb n 32767 l, f .1, found-places n 0 s w r i)
 
 module _ (n c : ℕ) (s : List ℕ) where
   pub char-not : decode s ≡ none → soughtCharacter n c s ≡ Refused 1
@@ -62,12 +65,12 @@ module _ (n c : ℕ) (s : List ℕ) where
         let f = font-there n (r .store .recs) (r .valid .order) (omega (arith, ap (λ (x : Places). x .lo) (r .at), ap (λ (x : Places). x .hi) (r .at))) in
         rw (r .is, l, f .1, record-missing (keyOf n (c + 1)) (r .store .recs) (r .valid .order) (omega (arith, ap (λ (x : Places). x .from) (r .at), ap (λ (x : Places). x .to) (r .at))))
 
-    pub char-here : numbered n c ≡ true → w .lo < w .hi → w .from < w .to → soughtCharacter n c s ≡ Here w
+    pub char-here : numbered n c ≡ true → w .lo < w .hi → w .from < w .to → inspected n (c + 1) (decode s) ≡ FoundAt w → soughtCharacter n c s ≡ Here w
     unfolding soughtCharacter onCharacter onStore finding
-    char-here l e q =
+    char-here l e q i =
         let f = font-there n (r .store .recs) (r .valid .order) (omega (arith, ap (λ (x : Places). x .lo) (r .at), ap (λ (x : Places). x .hi) (r .at))) in
         let g = record-there (keyOf n (c + 1)) (r .store .recs) (r .valid .order) (omega (arith, ap (λ (x : Places). x .from) (r .at), ap (λ (x : Places). x .to) (r .at))) in
-        rw (r .is, l, f .1, g .1, r .at)
+        rw (r .is, l, f .1, g .1, found-places n (c + 1) s w r i)
 
 -- ── a call on what was sought
 -- the same checks give the same refusal
@@ -111,7 +114,8 @@ module _ (n : ℕ) (s : List ℕ) (w : Places) where
       seek : (st : Store) → decode s ≡ some st → n ≤ 32767 → (o : Option Rec) → find (keyOf n 0) (st .recs) ≡ o → finding Refused o 6 (λ r. Here (placesOf n 0 (st .recs))) ≡ Here w → KeptFont n 0 s w
       seek st d l none q e' = let z : _≡_ {A = ℕ} 0 1 = cc in absurd (omega arith)
       seek st d l (some x) q e' =
-          let r = standing n 0 s B w (record { store = st; is = d; at = cc }) in
+          let w' : placesOf n 0 (st .recs) ≡ w = cc in
+          let r = standing n 0 s B w (record { store = st; is = d; at = uncounted n 0 (st .recs) w w' }) in
           let i : st ≡ r .store = same-store s d (r .is) in
           font-of r l x (rw i at q)
 
@@ -126,6 +130,11 @@ module _ (n : ℕ) (s : List ℕ) (w : Places) where
   pub font-call : {A : Type 0} (refuse : ℕ → A) (f : Store → Rec → A) (x : KeptFont n 0 s w) → onFont refuse n s f ≡ f (x .ready .store) (font n (x .header))
   unfolding onFont onStore finding
   font-call refuse f x = rw (x .ready .is, le-leb n 32767 (x .low), x .there)
+
+  -- and its characters are counted
+  pub font-counted : soughtFont n s ≡ Here w → (x : KeptFont n 0 s w) → w .chars ≡ length (charactersOf n (x .ready .store .recs))
+  unfolding soughtFont
+  font-counted e x = let i : placesOf n 0 (x .ready .store .recs) ≡ w = cc (sym (font-call Refused (λ st r. Here (placesOf n 0 (st .recs))) x) ∙ e) in ap (λ (y : Places). y .chars) (sym i)
 
 -- ── the same for a character
 pub char-refused : {A : Type 0} (refuse : ℕ → A) (n c k : ℕ) (s : List ℕ) (f : Store → Rec → A) → soughtCharacter n c s ≡ Refused k → onCharacter refuse n c s f ≡ refuse k
@@ -181,7 +190,8 @@ module _ (n c : ℕ) (s : List ℕ) (w : Places) where
           → finding Refused o 7 (λ r. Here (placesOf n (c + 1) (st .recs))) ≡ Here w → KeptChar n c s w
       one st d l p a none q e' = let z : _≡_ {A = ℕ} 0 1 = cc in absurd (omega arith)
       one st d l p a (some x) q e' =
-          let r = standing n (c + 1) s B w (record { store = st; is = d; at = cc }) in
+          let w' : placesOf n (c + 1) (st .recs) ≡ w = cc in
+          let r = standing n (c + 1) s B w (record { store = st; is = d; at = uncounted n (c + 1) (st .recs) w w' }) in
           let i : st ≡ r .store = same-store s d (r .is) in
           char-of r (leb-true _ _ (l .0)) (leb-true _ _ (l .1)) p x (rw i at a) (rw i at q)
 

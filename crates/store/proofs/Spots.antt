@@ -28,11 +28,11 @@ count-keep t (r ∷ rs) = go (t r) (count-keep t rs)
     go true ih = omega (arith, size-pos r)
     go false ih = omega arith
 
-pub chars-few : (n p : ℕ) (s : List ℕ) (w : Places) → Ready n p s w → w .chars ≤ 65536
+pub chars-few : (n p : ℕ) (s : List ℕ) (w : Places) (r : Ready n p s w) → w .chars ≡ length (charactersOf n (r .store .recs)) → w .chars ≤ 65536
 unfolding charactersOf
-chars-few n p s w r =
+chars-few n p s w r e =
     let few : length (charactersOf n (r .store .recs)) ≤ total (r .store .recs) = count-keep _ (r .store .recs) in
-    omega (arith, ap (λ (x : Places). x .chars) (r .at), ap (λ (x : Places). x .used) (r .at), few, r .room, r .size, r .valid .small)
+    omega (arith, e, ap (λ (x : Places). x .used) (r .at), few, r .room, r .size, r .valid .small)
 
 -- ── a font
 module _ (n p : ℕ) (s : List ℕ) (w : Places) (x : KeptFont n p s w) where

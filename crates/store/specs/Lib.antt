@@ -8,4 +8,5 @@ pub mod Download
 pub mod Drawing
 pub mod Change
 pub mod Walk
+pub mod Cursor
 pub mod Fonts

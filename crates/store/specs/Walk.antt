@@ -131,49 +131,20 @@ Ahead n p (Go q) = (p .at < q .at) × Within n q
 Ahead n p (Stop w) = Unit {0}
 
 -- ── a whole buffer: the places of font n, and of the record at place p of it (0 the font, code + 1 a character)
-abbrev pub placesOf : ℕ → ℕ → List Rec → Places
-placesOf n p rs =
+abbrev pub placesWith : ℕ → ℕ → ℕ → List Rec → Places
+placesWith n p k rs =
     record {
       used = 12 + total rs;
       lo = 12 + total (below (keyOf n 0) rs);
       from = 12 + total (below (keyOf n p) rs);
       to = 12 + total (below (keyOf n p + 1) rs);
       hi = 12 + total (below (keyOf (n + 1) 0) rs);
-      chars = length (charactersOf n rs);
+      chars = k;
     }
 
--- ── the same for a buffer that is known to be a store, by the heads of its records
--- the place of a record of this kind: 0 a font, its code and 1 a character
-abbrev pub placeBy : ℕ → ℕ → ℕ
-placeBy kind code = cond (eqb kind 2) 0 (code + 1)
-
--- the places behind a record, which begins where w is used up to
-abbrev pub beyond : Query → Places → ℕ → ℕ → ℕ → Places
-beyond q w n p len =
-    record {
-      used = w .used + len;
-      lo = w .lo + countIf (ltb (keyOf n p) (q .lo)) len;
-      from = w .from + countIf (ltb (keyOf n p) (q .from)) len;
-      to = w .to + countIf (ltb (keyOf n p) (q .to)) len;
-      hi = w .hi + countIf (ltb (keyOf n p) (q .hi)) len;
-      chars = w .chars + countIf (eqb n (q .font) && not (eqb p 0)) 1;
-    }
-
-abbrev pub beyondAt : List ℕ → Query → Places → Places
-beyondAt s q w = beyond q w (field 2 (w .used + 6) s) (placeBy (field 2 (w .used + 4) s) (field 2 (w .used + 8) s)) (field 4 (w .used) s)
-
--- a record stands at a place of a store's run, and not the end
-abbrev pub isRecord : List ℕ → ℕ → Bool
-isRecord s at = leb 26 (length s - at) && not (eqb (field 4 at s) 0)
-
--- the sums of such a walk stay within what it passed
-pub record Inside (n : ℕ) (w : Places) : Type 0 where
-  pub used : w .used ≤ n
-  pub lo : w .lo ≤ w .used
-  pub from : w .from ≤ w .used
-  pub to : w .to ≤ w .used
-  pub hi : w .hi ≤ w .used
-  pub chars : w .chars ≤ w .used
+-- with the number of the font's characters
+abbrev pub placesOf : ℕ → ℕ → List Rec → Places
+placesOf n p rs = placesWith n p (length (charactersOf n rs)) rs
 
 -- the open mark by its numbers: closed, naming the character with a key, or neither
 unfoldable pub markSeen : Mark → MarkSeen
@@ -191,11 +162,11 @@ unfoldable pub inspected : ℕ → ℕ → Option Store → Inspected
 inspected n p none = NotStore
 inspected n p (some st) = Found (placesOf n p (st .recs))
 
--- s is a store, and w are the places of font n and its place p in it
+-- s is a store, and w are the places of font n and its place p in it; its characters may be uncounted
 pub record Stands (n p : ℕ) (s : List ℕ) (w : Places) : Type 0 where
   pub store : Store
   pub is : decode s ≡ some store
-  pub at : placesOf n p (store .recs) ≡ w
+  pub at : placesWith n p (w .chars) (store .recs) ≡ w
 
 -- a record, or a font with its characters, stands from one place to another, if these differ
 abbrev pub lookedUp : ℕ → ℕ → Lookup

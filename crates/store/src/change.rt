@@ -13,8 +13,32 @@ ghost use Rattle.store.specs.Change.{moved, put, remarked, unmarkedFor, 
 ghost use Rattle.store.specs.Calls.{shut};
 use crate::number;
 
-// Moves n bytes down, from `from` to `to`.
-fn shift_down(s: &mut [u8], to: usize, from: usize, n: usize)
+// Moves n bytes down by a font record's length. The distance is a constant, of which the compiler makes one block move.
+fn font_down(s: &mut [u8], to: usize, n: usize)
+    requires { ⌜ to + 72 + n ≤ length (now s) ⌝ }
+    ensures { λ _. ⌜ now (s .exit) ≡ paste (now (s .entry)) to (drop (to + 72) (now (s .entry))) n ⌝ }
+{
+    let mut i = 0;
+    while i < n {
+        s[to + i] = s[to + 72 + i];
+        i += 1;
+    }
+}
+
+// Moves n bytes up by a font record's length.
+fn font_up(s: &mut [u8], from: usize, n: usize)
+    requires { ⌜ from + 72 + n ≤ length (now s) ⌝ }
+    ensures { λ _. ⌜ now (s .exit) ≡ paste (now (s .entry)) (from + 72) (drop from (now (s .entry))) n ⌝ }
+{
+    let mut i = n;
+    while 0 < i {
+        i -= 1;
+        s[from + 72 + i] = s[from + i];
+    }
+}
+
+// Moves n bytes down by any distance.
+fn move_down(s: &mut [u8], to: usize, from: usize, n: usize)
     requires { ⌜ (to ≤ from) × (from + n ≤ length (now s)) ⌝ }
     ensures { λ _. ⌜ now (s .exit) ≡ paste (now (s .entry)) to (drop from (now (s .entry))) n ⌝ }
 {
@@ -25,8 +49,8 @@ fn shift_down(s: &mut [u8], to: usize, from: usize, n: usize)
     }
 }
 
-// Moves n bytes up, from `from` to `to`.
-fn shift_up(s: &mut [u8], to: usize, from: usize, n: usize)
+// Moves n bytes up by any distance.
+fn move_up(s: &mut [u8], to: usize, from: usize, n: usize)
     requires { ⌜ (from ≤ to) × (to + n ≤ length (now s)) ⌝ }
     ensures { λ _. ⌜ now (s .exit) ≡ paste (now (s .entry)) to (drop from (now (s .entry))) n ⌝ }
 {
@@ -34,6 +58,30 @@ fn shift_up(s: &mut [u8], to: usize, from: usize, n: usize)
     while 0 < i {
         i -= 1;
         s[to + i] = s[from + i];
+    }
+}
+
+// Moves n bytes down, from `from` to `to`.
+fn shift_down(s: &mut [u8], to: usize, from: usize, n: usize)
+    requires { ⌜ (to ≤ from) × (from + n ≤ length (now s)) ⌝ }
+    ensures { λ _. ⌜ now (s .exit) ≡ paste (now (s .entry)) to (drop from (now (s .entry))) n ⌝ }
+{
+    if from - to == 72 {
+        font_down(s, to, n);
+    } else {
+        move_down(s, to, from, n);
+    }
+}
+
+// Moves n bytes up, from `from` to `to`.
+fn shift_up(s: &mut [u8], to: usize, from: usize, n: usize)
+    requires { ⌜ (from ≤ to) × (to + n ≤ length (now s)) ⌝ }
+    ensures { λ _. ⌜ now (s .exit) ≡ paste (now (s .entry)) to (drop from (now (s .entry))) n ⌝ }
+{
+    if to - from == 72 {
+        font_up(s, from, n);
+    } else {
+        move_up(s, to, from, n);
     }
 }
 

@@ -1,81 +1,94 @@
-// Places in a buffer that is known to be a store: a walk over the heads of its records, which checks nothing again.
+// Places in a buffer that is known to be a store: by the heads of its records, which are not checked again, and from a place that an earlier
+// search left, so that a stream does not begin each search at the front.
 ghost use mathlib.Core.Path.{_≡_};
-ghost use mathlib.Core.Bool.{Bool, true};
 ghost use Prim.Native.Nat.{_+_, _≤_};
 ghost use lib.ListN.{length};
-ghost use Rattle.store.specs.Num.{field};
-ghost use Rattle.store.specs.Fonts.{isStore};
-ghost use Rattle.store.specs.Walk.{Stands, Inside, beyond, beyondAt, isRecord};
+ghost use Rattle.store.specs.Layout.{keyOf};
+ghost use Rattle.store.specs.Walk.{Stands};
+ghost use Rattle.store.specs.Cursor.{keyAt, Seeking, Reaches, Points};
 use crate::number;
-use crate::walk;
 use crate::walk::Places;
-use crate::walk::Query;
 
-// The places behind a record of a font's number, at a place of it, of len bytes.
-fn beyond(q: Query, w: Places, font: usize, place: usize, len: usize) -> Places
-    requires { ⌜ (font ≤ 65536) × (place ≤ 65536) × (len ≤ 65536) × Inside 65536 w ⌝ }
-    ensures { λ r. ⌜ r ≡ beyond q w font place len ⌝ }
-{
-    let key = font * 257 + place;
-    Places {
-        used: w.used + len,
-        lo: walk::add_if(w.lo, key < q.lo, len),
-        from: walk::add_if(w.from, key < q.from, len),
-        to: walk::add_if(w.to, key < q.to, len),
-        hi: walk::add_if(w.hi, key < q.hi, len),
-        chars: walk::add_if(w.chars, (font == q.font) & !(place == 0), 1),
-    }
+// What is known of a store: where its records end, where a font's place is, and where the place of one more key is.
+pub struct Cursor {
+    pub used: usize,
+    pub font: usize,
+    pub lo: usize,
+    pub key: usize,
+    pub at: usize,
 }
 
-// Whether a record begins at a place of the run, and not the zeros.
-fn is_record(s: &[u8], at: usize) -> bool
-    requires { ⌜ at ≤ length (now s) ⌝ }
-    ensures { λ r. ⌜ r ≡ isRecord (now (s .entry)) at ⌝ }
+// The key of the record that begins at a place.
+fn key_at(s: &[u8], at: usize) -> usize
+    requires { ⌜ at + 26 ≤ length (now s) ⌝ }
+    ensures { λ r. ⌜ r ≡ keyAt (now (s .entry)) at ⌝ }
 {
-    if s.len() - at < 26 {
-        return false;
-    }
-    number::le32(s, at) != 0
-}
-
-// The places behind the record that begins at w.used.
-fn pass_record(s: &[u8], q: Query, w: Places) -> Places
-    requires { ⌜ (w .used + 26 ≤ length (now s)) × (field 4 (w .used) (now s) ≤ 65536) × Inside 65536 w ⌝ }
-    ensures { λ r. ⌜ r ≡ beyondAt (now (s .entry)) q w ⌝ }
-{
-    let at = w.used;
-    let len = number::le32(s, at);
     let font = number::le16(s, at + 6);
     if number::le16(s, at + 4) == 2 {
-        return beyond(q, w, font, 0, len);
+        return font * 257 + 0;
     }
-    beyond(q, w, font, number::le16(s, at + 8) + 1, len)
+    font * 257 + (number::le16(s, at + 8) + 1)
 }
 
-// Where font `font` stands in a store, and the record at a place of it: 0 the font itself, code + 1 a character.
-pub fn locate(s: &[u8], font: usize, place: usize) -> Places
-    requires { ⌜ (isStore (now s) ≡ true) × (font ≤ 65536) × (place ≤ 65536) ⌝ }
+// The place of a key, by a search that begins at from.
+fn advance(s: &[u8], used: usize, from: usize, key: usize) -> usize
+    requires { ⌜ Seeking (now s) used key from ⌝ }
+    ensures { λ r. ⌜ Reaches (now (s .entry)) key r ⌝ }
+{
+    let mut at = from;
+    while at < used {
+        if key <= key_at(s, at) {
+            return at;
+        }
+        at += number::le32(s, at);
+    }
+    at
+}
+
+// The place of a key, from the nearest known place before it.
+fn seek_key(s: &[u8], c: Cursor, key: usize) -> usize
+    requires { ⌜ Points (now s) c ⌝ }
+    ensures { λ r. ⌜ Reaches (now (s .entry)) key r ⌝ }
+{
+    if c.key <= key {
+        return advance(s, c.used, c.at, key);
+    }
+    if c.font * 257 + 0 <= key {
+        return advance(s, c.used, c.lo, key);
+    }
+    advance(s, c.used, 12, key)
+}
+
+// The place of a key in a font whose place lo is known: from the cursor, if it is nearer.
+fn seek_place(s: &[u8], c: Cursor, lo: usize, font: usize, key: usize) -> usize
+    requires { ⌜ Points (now s) c × Reaches (now s) (keyOf font 0) lo × (keyOf font 0 ≤ key) ⌝ }
+    ensures { λ r. ⌜ Reaches (now (s .entry)) key r ⌝ }
+{
+    if key < c.key {
+        return advance(s, c.used, lo, key);
+    }
+    if c.at <= lo {
+        return advance(s, c.used, lo, key);
+    }
+    advance(s, c.used, c.at, key)
+}
+
+// Where font `font` stands in a store, and the record at a place of it: 0 the font itself, code + 1 a character. Its characters are not counted.
+pub(crate) fn locate(s: &[u8], c: Cursor, font: usize, place: usize) -> Places
+    requires { ⌜ Points (now s) c × (font ≤ 32767) × (place ≤ 256) ⌝ }
     ensures { λ r. ⌜ Stands font place (now (s .entry)) r ⌝ }
 {
     let key = font * 257 + place;
-    let q = Query {
-        font: font,
-        lo: font * 257 + 0,
-        from: key,
-        to: key + 1,
-        hi: (font + 1) * 257 + 0,
-        mark: 0,
-    };
-    let mut w = Places {
-        used: 12,
-        lo: 12,
-        from: 12,
-        to: 12,
-        hi: 12,
+    let lo = seek_key(s, c, font * 257 + 0);
+    let from = seek_place(s, c, lo, font, key);
+    let to = advance(s, c.used, from, key + 1);
+    let hi = advance(s, c.used, to, (font + 1) * 257 + 0);
+    Places {
+        used: c.used,
+        lo: lo,
+        from: from,
+        to: to,
+        hi: hi,
         chars: 0,
-    };
-    while is_record(s, w.used) {
-        w = pass_record(s, q, w);
     }
-    w
 }

@@ -2,7 +2,7 @@
 use mathlib.Core.Path.{_≡_, refl, sym, ap, _∙_, subst}
 use mathlib.Core.List.{List}
 use mathlib.Core.Bool.{Bool, true, false, cond}
-use mathlib.Core.Option.{Option, none, some}
+use mathlib.Core.Option.{none, some}
 use Prim.Native.Nat.{ℕ, zero, suc, _+_, _-_, _<_, _≤_}
 use native.Mathlib.Omega.{arith}
 use lib.ListN.{length}
@@ -12,15 +12,13 @@ use Rattle.store.specs.Model.{Store, decode}
 use Rattle.store.specs.Answer.{onStore}
 use Rattle.store.specs.Calls.{downloadingFont}
 use Rattle.store.specs.Download.{downloadingCharacter}
-use Rattle.store.specs.Fonts.{isStore}
-use Rattle.store.specs.Walk.{inspected}
-use Rattle.store.specs.declared.walk.Places.{Places}
-use Rattle.store.specs.declared.walk.Inspected.the-variants.{Found, NotStore}
+use Rattle.store.specs.Cursor.{Points}
 use Rattle.stream.specs.Command.{commandAt, Ends}
-use Rattle.stream.specs.Reading.{Spelled, spell, onward, spelledIn, spelledFrom, Course, outset, counted, setFont, setCode, part, obey, obeyAll, Reading, answerOf, ended, readFrom, reading, Underway, resumed, Ahead}
+use Rattle.stream.specs.Reading.{Spelled, spell, onward, spelledIn, spelledFrom, Course, outset, counted, setFont, setCode, part, obey, obeyAll, Reading, answerOf, ended, readFrom, reading, Underway, resumed, Ahead, Pointing}
 use Rattle.stream.specs.declared.command.Command.{Command}
 use Rattle.stream.specs.declared.command.Command.the-variants.{SetFont, SetCode, FontBlock, CharacterBlock, Broken, End}
 use Rattle.stream.specs.declared.reading.Progress.{Progress}
+use Rattle.stream.specs.declared.reading.Stage.{Stage}
 use Rattle.stream.specs.declared.reading.StreamRead.{StreamRead}
 use Rattle.stream.specs.declared.reading.Turned.{Turned}
 use Rattle.stream.specs.declared.reading.Turned.the-variants.{Go, Stop}
@@ -102,21 +100,13 @@ module _ (n at e : ℕ) (x : Progress) (u : Underway n at x) (l : at < e) (r : e
       go false q = under-block 2
 
 -- ── the whole
-pub read-not : (b s : List ℕ) → inspected 0 0 (decode s) ≡ NotStore → reading b s ≡ record { answer = record { refusal = 1; done = 0; refused = 0; place = 0 }; bytes = s }
-unfolding reading onStore inspected
-read-not b s e = go (decode s) e
-  where
-    go : (o : Option Store) → inspected 0 0 o ≡ NotStore → onStore (λ k. record { answer = record { refusal = k; done = 0; refused = 0; place = 0 }; bytes = s }) o (λ st. readFrom b 0 (record { progress = outset; bytes = s })) ≡ record { answer = record { refusal = 1; done = 0; refused = 0; place = 0 }; bytes = s }
-    go none e' = refl
-    go (some st) e' = let z : _≡_ {A = ℕ} 0 1 = cc in absurd (omega arith)
+pub read-not : (b s : List ℕ) → decode s ≡ none → reading b s ≡ record { answer = record { refusal = 1; done = 0; refused = 0; place = 0 }; bytes = s }
+unfolding reading onStore
+read-not b s e = rw e
 
-pub read-store : (b s : List ℕ) (w : Places) → inspected 0 0 (decode s) ≡ Found w → (isStore s ≡ true) × (reading b s ≡ readFrom b 0 (record { progress = outset; bytes = s }))
-unfolding reading onStore inspected isStore
-read-store b s w e = go (decode s) refl e
-  where
-    go : (o : Option Store) → decode s ≡ o → inspected 0 0 o ≡ Found w → (isStore s ≡ true) × (reading b s ≡ readFrom b 0 (record { progress = outset; bytes = s }))
-    go none q e' = let z : _≡_ {A = ℕ} 0 1 = cc in absurd (omega arith)
-    go (some st) q e' = (rw q, rw q)
+pub read-store : (b s : List ℕ) (st : Store) → decode s ≡ some st → reading b s ≡ readFrom b 0 (record { progress = outset; bytes = s })
+unfolding reading onStore
+read-store b s st e = rw e
 
 -- ── the turns of the code, by what its calls answered
 pub counted-done : (x : Progress) → counted 0 x ≡ record { font = x .font; code = x .code; done = x .done + 1; refused = x .refused }
@@ -166,53 +156,57 @@ course x s = record { progress = x; bytes = s }
 
 -- what a turn's contract says
 abbrev Turns : List ℕ → List ℕ → ℕ → Progress → List ℕ → Turned → Type 0
-Turns b s at x t r = (resumed b t r ≡ readFrom b at (course x s)) × ((isStore t ≡ true) × Ahead (length b) at r)
+Turns b s at x t r = (resumed b t r ≡ readFrom b at (course x s)) × (Pointing t r × Ahead (length b) at r)
 
-module _ (b s : List ℕ) (at : ℕ) (x : Progress) (k : isStore s ≡ true) (u : Underway (length b) at x) (y : Progress) where
-  pub turn-number : (n e : ℕ) → commandAt b at ≡ SetFont n e → y ≡ setFont n x → Turns b s at x s (Go y e)
-  unfolding resumed Ahead obey
-  turn-number n e q i =
+module _ (b s : List ℕ) (at : ℕ) (x : Progress) (u : Underway (length b) at x) (y : Stage) where
+  pub turn-number : (n e : ℕ) → commandAt b at ≡ SetFont n e → y .progress ≡ setFont n x → Points s (y .cursor) → Turns b s at x s (Go y e)
+  unfolding resumed Ahead Pointing obey
+  turn-number n e q i k =
       let h = ends-number b at n e q in
       rw i (sym (read-number b at (course x s) n e q), (k, (h .0, under-font (length b) at e x u (h .0) (h .1) n)))
 
-  pub turn-code : (n e : ℕ) → commandAt b at ≡ SetCode n e → y ≡ setCode n x → Turns b s at x s (Go y e)
-  unfolding resumed Ahead obey
-  turn-code n e q i =
+  pub turn-code : (n e : ℕ) → commandAt b at ≡ SetCode n e → y .progress ≡ setCode n x → Points s (y .cursor) → Turns b s at x s (Go y e)
+  unfolding resumed Ahead Pointing obey
+  turn-code n e q i k =
       let h = ends-code b at n e q in
       rw i (sym (read-code b at (course x s) n e q), (k, (h .0, under-code (length b) at e x u (h .0) (h .1) n)))
 
-  pub turn-font : (f e : ℕ) (t : List ℕ) → commandAt b at ≡ FontBlock f e → y ≡ counted (downloadingFont (x .font) (part b f e) s .answer) x → t ≡ downloadingFont (x .font) (part b f e) s .bytes → isStore t ≡ true → Turns b s at x t (Go y e)
-  unfolding resumed Ahead obey
+  pub turn-font : (f e : ℕ) (t : List ℕ) → commandAt b at ≡ FontBlock f e → y .progress ≡ counted (downloadingFont (x .font) (part b f e) s .answer) x → t ≡ downloadingFont (x .font) (part b f e) s .bytes → Points t (y .cursor) → Turns b s at x t (Go y e)
+  unfolding resumed Ahead Pointing obey
   turn-font f e t q i j m =
       let h = ends-font b at f e q in
       let l : at < e = omega (arith, h .0, h .1) in
-      let z : readFrom b e (course y t) ≡ readFrom b at (course x s) = ap (λ (p : Progress). readFrom b e (course p t)) i ∙ ap (λ (p : List ℕ). readFrom b e (course (counted (downloadingFont (x .font) (part b f e) s .answer) x) p)) j ∙ sym (read-font b at (course x s) f e q) in
+      let z : readFrom b e (course (y .progress) t) ≡ readFrom b at (course x s) = ap (λ (p : Progress). readFrom b e (course p t)) i ∙ ap (λ (p : List ℕ). readFrom b e (course (counted (downloadingFont (x .font) (part b f e) s .answer) x) p)) j ∙ sym (read-font b at (course x s) f e q) in
       (z, (m, (l, rw i (under-block (length b) at e x u l (h .2) (downloadingFont (x .font) (part b f e) s .answer)))))
 
-  pub turn-character : (f e : ℕ) (t : List ℕ) → commandAt b at ≡ CharacterBlock f e → y ≡ counted (downloadingCharacter (x .font) (x .code) (part b f e) s .answer) x → t ≡ downloadingCharacter (x .font) (x .code) (part b f e) s .bytes → isStore t ≡ true
+  pub turn-character : (f e : ℕ) (t : List ℕ) → commandAt b at ≡ CharacterBlock f e → y .progress ≡ counted (downloadingCharacter (x .font) (x .code) (part b f e) s .answer) x → t ≡ downloadingCharacter (x .font) (x .code) (part b f e) s .bytes → Points t (y .cursor)
       → Turns b s at x t (Go y e)
-  unfolding resumed Ahead obey
+  unfolding resumed Ahead Pointing obey
   turn-character f e t q i j m =
       let h = ends-character b at f e q in
       let l : at < e = omega (arith, h .0, h .1) in
-      let z : readFrom b e (course y t) ≡ readFrom b at (course x s) = ap (λ (p : Progress). readFrom b e (course p t)) i ∙ ap (λ (p : List ℕ). readFrom b e (course (counted (downloadingCharacter (x .font) (x .code) (part b f e) s .answer) x) p)) j ∙ sym (read-character b at (course x s) f e q) in
+      let z : readFrom b e (course (y .progress) t) ≡ readFrom b at (course x s) = ap (λ (p : Progress). readFrom b e (course p t)) i ∙ ap (λ (p : List ℕ). readFrom b e (course (counted (downloadingCharacter (x .font) (x .code) (part b f e) s .answer) x) p)) j ∙ sym (read-character b at (course x s) f e q) in
       (z, (m, (l, rw i (under-block (length b) at e x u l (h .2) (downloadingCharacter (x .font) (x .code) (part b f e) s .answer)))))
 
-pub turn-broken : (b s : List ℕ) (at : ℕ) (x : Progress) → isStore s ≡ true → commandAt b at ≡ Broken → Turns b s at x s (Stop (record { refusal = 13; done = x .done; refused = x .refused; place = at }))
-unfolding resumed Ahead answerOf
-turn-broken b s at x k q = (sym (read-broken b at (course x s) q), (k, tt))
+pub turn-broken : (b s : List ℕ) (at : ℕ) (x : Progress) → commandAt b at ≡ Broken → Turns b s at x s (Stop (record { refusal = 13; done = x .done; refused = x .refused; place = at }))
+unfolding resumed Ahead Pointing answerOf
+turn-broken b s at x q = (sym (read-broken b at (course x s) q), (tt, tt))
 
-pub turn-end : (b s : List ℕ) (at : ℕ) (x : Progress) → isStore s ≡ true → commandAt b at ≡ End → Turns b s at x s (Stop (record { refusal = 0; done = x .done; refused = x .refused; place = 0 }))
-unfolding resumed Ahead answerOf
-turn-end b s at x k q = (sym (read-end b at (course x s) q), (k, tt))
+pub turn-end : (b s : List ℕ) (at : ℕ) (x : Progress) → commandAt b at ≡ End → Turns b s at x s (Stop (record { refusal = 0; done = x .done; refused = x .refused; place = 0 }))
+unfolding resumed Ahead Pointing answerOf
+turn-end b s at x q = (sym (read-end b at (course x s) q), (tt, tt))
 
 -- ── the loop
-pub went : (n at : ℕ) (r : Turned) (y : Progress) (e : ℕ) → r ≡ Go y e → Ahead n at r → (at < e) × Underway n e y
+pub pointing : (t : List ℕ) (r : Turned) (y : Stage) (e : ℕ) → r ≡ Go y e → Pointing t r → Points t (y .cursor)
+unfolding Pointing
+pointing t r y e q h = subst (Pointing t) q h
+
+pub went : (n at : ℕ) (r : Turned) (y : Stage) (e : ℕ) → r ≡ Go y e → Ahead n at r → (at < e) × Underway n e (y .progress)
 unfolding Ahead
 went n at r y e q h = subst (Ahead n at) q h
 
 module _ (b s t : List ℕ) (at : ℕ) (x : Progress) (r : Turned) where
-  pub went-on : (y : Progress) (e : ℕ) → r ≡ Go y e → resumed b t r ≡ readFrom b at (course x s) → readFrom b e (course y t) ≡ readFrom b at (course x s)
+  pub went-on : (y : Stage) (e : ℕ) → r ≡ Go y e → resumed b t r ≡ readFrom b at (course x s) → readFrom b e (course (y .progress) t) ≡ readFrom b at (course x s)
   unfolding resumed
   went-on y e q h = sym (ap (resumed b t) q) ∙ h
 

@@ -11,6 +11,7 @@ use Rattle.store.specs.Model.{decode}
 use Rattle.store.specs.Answer.{onStore, After}
 use Rattle.store.specs.Calls.{downloadingFont}
 use Rattle.store.specs.Download.{downloadingCharacter}
+use Rattle.store.specs.Cursor.{Points}
 use Rattle.stream.specs.Command.{commandAt}
 use Rattle.stream.specs.declared.command.Command.{Command}
 use Rattle.stream.specs.declared.command.Command.the-variants.{SetFont, SetCode, FontBlock, CharacterBlock, Broken, End}
@@ -118,10 +119,15 @@ pub record Underway (n at : ℕ) (x : Progress) : Type 0 where
 
 -- the reading after a turn that left s
 unfoldable pub resumed : List ℕ → List ℕ → Turned → Reading
-resumed b s (Go x at) = readFrom b at (record { progress = x; bytes = s })
+resumed b s (Go x at) = readFrom b at (record { progress = x .progress; bytes = s })
 resumed b s (Stop a) = record { answer = a; bytes = s }
 
 -- a turn goes ahead
 unfoldable pub Ahead : ℕ → ℕ → Turned → Type 0
-Ahead n at (Go x next) = (at < next) × Underway n next x
+Ahead n at (Go x next) = (at < next) × Underway n next (x .progress)
 Ahead n at (Stop a) = Unit {0}
+
+-- and its cursor holds
+unfoldable pub Pointing : List ℕ → Turned → Type 0
+Pointing s (Go x next) = Points s (x .cursor)
+Pointing s (Stop a) = Unit {0}

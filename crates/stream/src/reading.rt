@@ -1,17 +1,17 @@
-// Reads a stream into a store: each command is carried out as it is met. The store is checked once, at the beginning.
+// Reads a stream into a store: each command is carried out as it is met. The store is checked once, at the beginning, and each search in it
+// begins where the last one ended.
 ghost use mathlib.Core.Path.{_≡_};
-ghost use mathlib.Core.Bool.{Bool, true};
 ghost use Prim.Native.Nat.{_+_, _≤_, _<_};
 ghost use lib.ListN.{length};
-ghost use Rattle.store.specs.Fonts.{isStore};
 ghost use Rattle.store.specs.Calls.{downloadingFont};
 ghost use Rattle.store.specs.Download.{downloadingCharacter};
-ghost use Rattle.stream.specs.Reading.{counted, setFont, setCode, Underway, Ahead, resumed, readFrom, reading};
+ghost use Rattle.store.specs.Cursor.{Points};
+ghost use Rattle.stream.specs.Reading.{counted, setFont, setCode, Underway, Pointing, Ahead, resumed, readFrom, reading};
 use crate::command;
 use crate::command::Command;
 use store::known;
-use store::walk;
-use store::walk::Inspected;
+use store::known::Opened;
+use store::locate::Cursor;
 
 // The font number and the code that the next block is for, and the commands done and refused so far.
 pub struct Progress {
@@ -30,9 +30,15 @@ pub struct StreamRead {
     pub place: u64,
 }
 
+// How far a reading is, and the cursor in the store.
+pub struct Stage {
+    pub progress: Progress,
+    pub cursor: Cursor,
+}
+
 // After a command: the place behind it, or the end of the reading.
 pub enum Turned {
-    Go(Progress, usize),
+    Go(Stage, usize),
     Stop(StreamRead),
 }
 
@@ -89,36 +95,56 @@ fn set_code(x: Progress, n: u32) -> Progress
     count(y, 0)
 }
 
-fn take_font(s: &mut [u8], x: Progress, block: &[u8]) -> Progress
-    requires { ⌜ (isStore (now s) ≡ true) × (x .font ≤ 32767) × (x .done + x .refused < 18446744073709551615) ⌝ }
-    ensures { λ r. ⌜ r ≡ counted (downloadingFont (x .font) (now (block .entry)) (now (s .entry)) .answer) x ⌝ }
-    ensures { λ _. ⌜ (now (s .exit) ≡ downloadingFont (x .font) (now (block .entry)) (now (s .entry)) .bytes) × (isStore (now (s .exit)) ≡ true) ⌝ }
+fn take_font(s: &mut [u8], c: Cursor, x: Progress, block: &[u8]) -> Stage
+    requires { ⌜ Points (now s) c × (x .font ≤ 32767) × (x .done + x .refused < 18446744073709551615) ⌝ }
+    ensures { λ r. ⌜ (r .progress ≡ counted (downloadingFont (x .font) (now (block .entry)) (now (s .entry)) .answer) x) × Points (now (s .exit)) (r .cursor) ⌝ }
+    ensures { λ _. ⌜ now (s .exit) ≡ downloadingFont (x .font) (now (block .entry)) (now (s .entry)) .bytes ⌝ }
 {
-    let answer = known::add_font(s, block, x.font);
-    count(x, answer)
+    let a = known::add_font(s, c, block, x.font);
+    let behind = a.cursor;
+    Stage {
+        progress: count(x, a.answer),
+        cursor: behind,
+    }
 }
 
-fn take_character(s: &mut [u8], x: Progress, block: &[u8]) -> Progress
-    requires { ⌜ (isStore (now s) ≡ true) × (x .font ≤ 32767) × (x .code ≤ 255) × (x .done + x .refused < 18446744073709551615) ⌝ }
-    ensures { λ r. ⌜ r ≡ counted (downloadingCharacter (x .font) (x .code) (now (block .entry)) (now (s .entry)) .answer) x ⌝ }
-    ensures { λ _. ⌜ (now (s .exit) ≡ downloadingCharacter (x .font) (x .code) (now (block .entry)) (now (s .entry)) .bytes) × (isStore (now (s .exit)) ≡ true) ⌝ }
+fn take_character(s: &mut [u8], c: Cursor, x: Progress, block: &[u8]) -> Stage
+    requires { ⌜ Points (now s) c × (x .font ≤ 32767) × (x .code ≤ 255) × (x .done + x .refused < 18446744073709551615) ⌝ }
+    ensures { λ r. ⌜ (r .progress ≡ counted (downloadingCharacter (x .font) (x .code) (now (block .entry)) (now (s .entry)) .answer) x) × Points (now (s .exit)) (r .cursor) ⌝ }
+    ensures { λ _. ⌜ now (s .exit) ≡ downloadingCharacter (x .font) (x .code) (now (block .entry)) (now (s .entry)) .bytes ⌝ }
 {
-    let answer = known::add_character(s, block, x.font, x.code);
-    count(x, answer)
+    let a = known::add_character(s, c, block, x.font, x.code);
+    let behind = a.cursor;
+    Stage {
+        progress: count(x, a.answer),
+        cursor: behind,
+    }
 }
 
 // Carries out the command at a place of a stream.
-fn turn(s: &mut [u8], stream: &[u8], at: usize, x: Progress) -> Turned
-    requires { ⌜ (isStore (now s) ≡ true) × Underway (length (now stream)) at x ⌝ }
+fn turn(s: &mut [u8], stream: &[u8], at: usize, c: Cursor, x: Progress) -> Turned
+    requires { ⌜ Points (now s) c × Underway (length (now stream)) at x ⌝ }
     ensures { λ r. ⌜ resumed (now (stream .entry)) (now (s .exit)) r ≡ readFrom (now (stream .entry)) at (record { progress = x; bytes = now (s .entry) }) ⌝ }
-    ensures { λ r. ⌜ (isStore (now (s .exit)) ≡ true) × Ahead (length (now (stream .entry))) at r ⌝ }
+    ensures { λ r. ⌜ Pointing (now (s .exit)) r × Ahead (length (now (stream .entry))) at r ⌝ }
 {
     match command::read_command(stream, at) {
-        Command::SetFont { number, next } => Turned::Go(set_font(x, number), next),
-        Command::SetCode { number, next } => Turned::Go(set_code(x, number), next),
-        Command::FontBlock { from, to } => Turned::Go(take_font(s, x, &stream[from..to]), to),
+        Command::SetFont { number, next } => Turned::Go(
+            Stage {
+                progress: set_font(x, number),
+                cursor: c,
+            },
+            next,
+        ),
+        Command::SetCode { number, next } => Turned::Go(
+            Stage {
+                progress: set_code(x, number),
+                cursor: c,
+            },
+            next,
+        ),
+        Command::FontBlock { from, to } => Turned::Go(take_font(s, c, x, &stream[from..to]), to),
         Command::CharacterBlock { from, to } => {
-            Turned::Go(take_character(s, x, &stream[from..to]), to)
+            Turned::Go(take_character(s, c, x, &stream[from..to]), to)
         }
         Command::Broken => Turned::Stop(StreamRead {
             refusal: 13,
@@ -140,7 +166,7 @@ pub fn read_stream(s: &mut [u8], stream: &[u8]) -> StreamRead
     ensures { λ r. ⌜ r ≡ reading (now (stream .entry)) (now (s .entry)) .answer ⌝ }
     ensures { λ _. ⌜ now (s .exit) ≡ reading (now (stream .entry)) (now (s .entry)) .bytes ⌝ }
 {
-    let Inspected::Found(_) = walk::inspect(s, 0, 0) else {
+    let Opened::At(front) = known::open_store(s) else {
         return StreamRead {
             refusal: 1,
             done: 0,
@@ -154,11 +180,13 @@ pub fn read_stream(s: &mut [u8], stream: &[u8]) -> StreamRead
         done: 0,
         refused: 0,
     };
+    let mut c = front;
     let mut at = 0;
     loop {
-        match turn(s, stream, at, x) {
+        match turn(s, stream, at, c, x) {
             Turned::Go(next, behind) => {
-                x = next;
+                x = next.progress;
+                c = next.cursor;
                 at = behind;
             }
             Turned::Stop(answer) => {

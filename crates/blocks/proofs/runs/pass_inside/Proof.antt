@@ -1,11 +1,11 @@
-use Prim.Native.Nat.{_-_, _≤_}
-use mathlib.Core.Path.{_≡_, refl, sym, _∙_}
-use mathlib.Core.Bool.{false}
-use lib.ListN.{length, drop}
-use Rattle.blocks.specs.Line.{insideOf}
-use Rattle.blocks.proofs.Passing.{inside-end, inside-next, inside-stop}
-use borrow.Author.Needs.{needs}
 use native.Mathlib.Omega.{arith}
+use borrow.Author.Needs.{needs}
+use Rattle.blocks.proofs.Passing.{inside-end, inside-next, inside-stop}
+use Rattle.blocks.specs.Line.{insideOf}
+use lib.ListN.{length, drop}
+use mathlib.Core.Bool.{false}
+use mathlib.Core.Path.{_≡_, sym, _∙_}
+use Prim.Native.Nat.{_-_, _≤_}
 use Rattle.blocks.proofs.runs.pass_inside.Statement.{statement}
 use Rattle.blocks.proofs.runs.pass_inside.Tie as tie
 
@@ -16,23 +16,19 @@ abbrev μ-loop : tie.MeasureT-loop
 μ-loop src from width at₀ filled₀ black₀ at filled black = length src - at
 
 loop-holds : tie.Need-loop-holds Inv-loop μ-loop
-loop-holds c = (search needs, refl)
+loop-holds c = (search needs, c .before .pass-eights .ensures)
 
 cast-end : tie.Need-cast-end Inv-loop μ-loop
-cast-end c = omega (arith, c .shared-slice-known .given (c .before .before .loop .at))
+cast-end c = omega (arith, c .shared-slice-known2 .given (c .before .before .loop .at))
 
 add-end : tie.Need-add-end Inv-loop μ-loop
-add-end c = omega (arith, c .shared-slice-known .given (c .before .before .loop .at))
+add-end c = omega (arith, c .shared-slice-known2 .given (c .before .before .loop .at))
 
 returns : tie.Need-returns Inv-loop μ-loop
-returns c =
-    let k3 = c .before .before .before in
-    sym (inside-stop _ _ _ _ _ (c .before .before .loop-test .taken) (c .if1 .taken)) ∙ k3 .loop .inv .1
+returns c = sym (inside-stop _ _ _ _ _ (c .before .before .loop-test .taken) (c .if1 .taken)) ∙ c .before .before .before .loop .inv .1
 
 loop-again : tie.Need-loop-again Inv-loop μ-loop
-loop-again c =
-    let k3 = c .before .before .before in
-    (omega arith, sym (inside-next _ _ _ _ _ (c .before .before .loop-test .taken) (c .if1 .left)) ∙ k3 .loop .inv .1)
+loop-again c = (omega arith, sym (inside-next _ _ _ _ _ (c .before .before .loop-test .taken) (c .if1 .left)) ∙ c .before .before .before .loop .inv .1)
 
 returns-2 : tie.Need-returns-2 Inv-loop μ-loop
 returns-2 c = sym (inside-end _ _ _ _ _ (c .loop-test .left)) ∙ c .before .loop .inv .1
@@ -43,6 +39,8 @@ pass-inside-spec =
     (tie.spec
     Inv-loop
     μ-loop
+    (λ c κs. search needs)
+    (λ c. search needs)
     loop-holds
     (λ c. search needs)
     cast-end

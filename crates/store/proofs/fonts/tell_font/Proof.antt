@@ -9,7 +9,7 @@ use Rattle.store.specs.Answer.{checked, Telling, untold}
 use Rattle.store.specs.Calls.{tellingFont, charactersOf, onto}
 use Rattle.store.specs.Model.{font}
 use Rattle.store.specs.declared.walk.Places.{Places}
-use Rattle.store.proofs.Seeks.{KeptFont, font-sought, font-refused, font-call}
+use Rattle.store.proofs.Seeks.{KeptFont, font-sought, font-refused, font-call, font-counted}
 use Rattle.store.proofs.Spots.{chars-few, font-span, font-kept}
 use borrow.Author.Needs.{needs}
 use native.Mathlib.Omega.{arith}
@@ -20,6 +20,9 @@ use Rattle.store.proofs.fonts.tell_font.Tie as tie
 at-found : (c : tie.After-known-told2) → KeptFont (c .before .before .before .before .before .before .args .font) 0 (now (c .before .before .before .before .before .before .args .s)) (c .before .p .given .0 .0)
 at-found c =
     font-sought _ _ (c .before .p .given .0 .0) (λ i. c .before .before .before .before .before .shared-slice-known .given i .fits) (sym (c .before .before .before .seek-font .ensures) ∙ c .before .p .given .1)
+
+counted : (c : tie.After-known-told2) → c .before .p .given .0 .0 .chars ≡ length (charactersOf (c .before .before .before .before .before .before .args .font) (at-found c .ready .store .recs))
+counted c = font-counted _ _ _ (sym (c .before .before .before .seek-font .ensures) ∙ c .before .p .given .1) (at-found c)
 
 -- what is told of a font that is there
 told : (n : ℕ) (s out : List ℕ) (w : Places) (x : KeptFont n 0 s w)
@@ -43,7 +46,7 @@ copy-kept-requires : tie.Need-copy-kept-requires
 copy-kept-requires c κs = let x = at-found (c .before .before) in (omega (arith, font-span _ _ _ _ x, x .ready .end, x .ready .room), c .before .if1 .left)
 
 cast-t14 : tie.Need-cast-t14
-cast-t14 c = let x = at-found (c .before .before .before .before .before .before) in omega (arith, chars-few _ _ _ _ (x .ready))
+cast-t14 c = let k6 = c .before .before .before .before .before .before in omega (arith, chars-few _ _ _ _ (at-found k6 .ready) (counted k6))
 
 returns-2 : tie.Need-returns-2
 unfolding tellingFont
@@ -56,7 +59,7 @@ returns-3 c =
     let k = c .before .before .before in
     let x = at-found (k .before .before .before) in
     let a = k .before .before .before .before .before .before .before .before .before .args in
-    same (ap (λ (y : Places). y .chars) (x .ready .at)) (k .copy-kept .ensures ∙ ap (λ (h : List ℕ). onto h (now (a .out))) (font-kept _ _ _ _ x))
+    same (counted (k .before .before .before)) (k .copy-kept .ensures ∙ ap (λ (h : List ℕ). onto h (now (a .out))) (font-kept _ _ _ _ x))
     ∙ sym (told _ _ (now (a .out)) _ x ∙ rw (le-leb 64 (length (now (a .out))) (k .before .before .if1 .left)))
 
 pub tell-font-spec : {M : Type 1} → statement M

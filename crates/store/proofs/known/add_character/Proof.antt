@@ -1,33 +1,26 @@
-use mathlib.Core.Path.{_∙_}
-use denote.Ref.{now}
+use Rattle.store.proofs.Cursors.{character-behind}
+use Rattle.store.proofs.Again.{known-block}
+use Rattle.store.proofs.Locates.{store-is}
 use Rattle.store.proofs.FontCalls.{answered}
-use Rattle.store.proofs.Again.{known-block, character-left}
+use denote.Ref.{now}
+use mathlib.Core.Path.{_∙_}
 use borrow.Author.Needs.{needs}
-use native.Mathlib.Omega.{arith}
 use Rattle.store.proofs.known.add_character.Statement.{statement}
 use Rattle.store.proofs.known.add_character.Tie as tie
 
-locate-requires : tie.Need-locate-requires
-locate-requires c κs = (c .before .before .before .pre .0, omega arith, omega arith)
-
-put-block-requires : tie.Need-put-block-requires
-put-block-requires c κs =
-    let k5 = c .before .before .before .before .before in
-    (c .before .locate .ensures, k5 .pre .1, k5 .pre .2)
+past-character-requires : tie.Need-past-character-requires
+past-character-requires c κs = let e = answered (known-block _ (now (c .before .before .before .before .before .before .before .before .before .args .block)) _ (store-is _ _ (c .before .before .before .before .before .before .before .before .before .pre .0 .is)) (c .before .before .before .before .before .before .before .before .before .pre .1) _ (c .before .before .before .before .before .before .before .before .before .pre .2)) in character-behind _ _ (now (c .before .before .before .before .before .before .before .before .before .args .block)) _ _ (c .before .before .before .before .before .locate .ensures) (c .before .before .before .before .before .before .before .before .before .pre .1) (c .before .before .before .before .before .before .before .before .before .pre .2) _ _ (c .before .before .before .put-block .ensures .1 ∙ e .1) (c .before .before .before .put-block .ensures .0 ∙ e .0)
 
 returns : tie.Need-returns
-returns c =
-    let k7 = c .before .before .before .before .before .before .before in
-    let k8 = k7 .before in
-    let e = answered (known-block _ (now (k8 .args .block)) _ (k8 .pre .0) (k8 .pre .1) _ (k8 .pre .2)) in
-    (c .before .before .put-block .ensures .0 ∙ e .0, character-left _ _ (now (k8 .args .block)) _ _ (k8 .pre .0) (c .before .before .put-block .ensures .1 ∙ e .1))
+returns c = let e = answered (known-block _ (now (c .before .before .before .before .before .before .before .before .before .before .args .block)) _ (store-is _ _ (c .before .before .before .before .before .before .before .before .before .before .pre .0 .is)) (c .before .before .before .before .before .before .before .before .before .before .pre .1) _ (c .before .before .before .before .before .before .before .before .before .before .pre .2)) in ((c .before .before .before .before .put-block .ensures .0 ∙ e .0, c .past-character .ensures), c .before .before .before .before .put-block .ensures .1 ∙ e .1)
 
 pub add-character-spec : {M : Type 1} → statement M
 add-character-spec =
     tie.close
     (tie.spec
     (λ c. search needs)
-    locate-requires
-    put-block-requires
+    (λ c κs. search needs)
+    (λ c κs. search needs)
+    past-character-requires
     (λ c. search needs)
     returns)

@@ -1,7 +1,10 @@
-use mathlib.Core.Path.{sym, _∙_}
+use mathlib.Core.Path.{_≡_, sym, _∙_}
 use Prim.Native.Nat.{_+_}
 use denote.Ref.{now}
 use Rattle.blocks.proofs.Checks.{failed, passed}
+use Rattle.store.specs.Model.{decode}
+use Rattle.store.specs.Walk.{inspected}
+use Rattle.store.specs.declared.walk.Inspected.the-variants.{Found}
 use Rattle.store.proofs.Ready.{Ready, ready, not-store, looked-at, looked-not}
 use Rattle.store.proofs.Seeks.{char-not, char-range, char-no-font, char-none, char-here}
 use borrow.Author.Needs.{needs}
@@ -12,6 +15,9 @@ use Rattle.store.proofs.seek.seek_character.Tie as tie
 at-found : (c : tie.After-known-told) → Ready (c .before .before .before .before .before .args .font) (c .before .before .before .before .before .args .code + 1) (now (c .before .before .before .before .before .args .s)) (c .before .p .given .0 .0)
 at-found c =
     ready _ _ _ (λ i. c .before .before .before .before .shared-slice-known .given i .fits) (c .before .p .given .0 .0) (sym (c .before .before .before .inspect .ensures) ∙ c .before .p .given .1)
+
+found-is : (c : tie.After-known-told) → inspected (c .before .before .before .before .before .args .font) (c .before .before .before .before .before .args .code + 1) (decode (now (c .before .before .before .before .before .args .s))) ≡ Found (c .before .p .given .0 .0)
+found-is c = sym (c .before .before .before .inspect .ensures) ∙ c .before .p .given .1
 
 returns : tie.Need-returns
 returns c = sym (char-not _ _ _ (not-store _ _ _ (sym (c .before .before .inspect .ensures) ∙ c .enum-told .given .1)))
@@ -39,7 +45,7 @@ returns-5 c =
     let k5 = k3 .before .before in
     let k6 = k5 .before in
     let k7 = k6 .before in
-    sym (char-here _ _ _ _ (at-found (c .before .before .before .before .before .before .before .before)) (passed (k7 .in-range .ensures) (k6 .if1 .left)) (looked-at _ _ _ (sym (k5 .look-up .ensures) ∙ k3 .enum-told2 .given .1) .0) (looked-at _ _ _ (sym (c .before .before .look-up2 .ensures) ∙ c .enum-told4 .given .1) .0))
+    sym (char-here _ _ _ _ (at-found (c .before .before .before .before .before .before .before .before)) (passed (k7 .in-range .ensures) (k6 .if1 .left)) (looked-at _ _ _ (sym (k5 .look-up .ensures) ∙ k3 .enum-told2 .given .1) .0) (looked-at _ _ _ (sym (c .before .before .look-up2 .ensures) ∙ c .enum-told4 .given .1) .0) (found-is (c .before .before .before .before .before .before .before .before)))
 
 pub seek-character-spec : {M : Type 1} → statement M
 seek-character-spec =

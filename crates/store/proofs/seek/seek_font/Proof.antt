@@ -1,5 +1,8 @@
-use mathlib.Core.Path.{sym, _∙_}
+use mathlib.Core.Path.{_≡_, sym, _∙_}
 use denote.Ref.{now}
+use Rattle.store.specs.Model.{decode}
+use Rattle.store.specs.Walk.{inspected}
+use Rattle.store.specs.declared.walk.Inspected.the-variants.{Found}
 use Rattle.store.proofs.Ready.{Ready, ready, not-store, looked-at, looked-not}
 use Rattle.store.proofs.Seeks.{font-not, font-range, font-none, font-here}
 use borrow.Author.Needs.{needs}
@@ -10,6 +13,9 @@ use Rattle.store.proofs.seek.seek_font.Tie as tie
 at-found : (c : tie.After-known-told) → Ready (c .before .before .before .before .before .args .font) 0 (now (c .before .before .before .before .before .args .s)) (c .before .p .given .0 .0)
 at-found c =
     ready _ 0 _ (λ i. c .before .before .before .before .shared-slice-known .given i .fits) (c .before .p .given .0 .0) (sym (c .before .before .before .inspect .ensures) ∙ c .before .p .given .1)
+
+found-is : (c : tie.After-known-told) → inspected (c .before .before .before .before .before .args .font) 0 (decode (now (c .before .before .before .before .before .args .s))) ≡ Found (c .before .p .given .0 .0)
+found-is c = sym (c .before .before .before .inspect .ensures) ∙ c .before .p .given .1
 
 returns : tie.Need-returns
 returns c = sym (font-not _ _ (not-store _ 0 _ (sym (c .before .before .inspect .ensures) ∙ c .enum-told .given .1)))
@@ -25,7 +31,7 @@ returns-3 c =
 returns-4 : tie.Need-returns-4
 returns-4 c =
     let k3 = c .before .before .before in
-    sym (font-here _ _ _ (at-found (c .before .before .before .before)) (k3 .if1 .left) (looked-at _ _ _ (sym (c .before .before .look-up .ensures) ∙ c .enum-told2 .given .1) .0))
+    sym (font-here _ _ _ (at-found (c .before .before .before .before)) (k3 .if1 .left) (looked-at _ _ _ (sym (c .before .before .look-up .ensures) ∙ c .enum-told2 .given .1) .0) (found-is (c .before .before .before .before)))
 
 pub seek-font-spec : {M : Type 1} → statement M
 seek-font-spec =

@@ -1,31 +1,13 @@
-use mathlib.Core.Path.{_∙_, ap}
-use Prim.Native.Nat.{ℕ}
 use Rattle.stream.specs.Reading.{counted}
+use Prim.Native.Nat.{ℕ}
+use mathlib.Core.Path.{_∙_, ap}
 use borrow.Author.Needs.{needs}
 use Rattle.stream.proofs.reading.take_character.Statement.{statement}
 use Rattle.stream.proofs.reading.take_character.Tie as tie
 
-add-character-requires : tie.Need-add-character-requires
-add-character-requires c κs =
-    let k3 = c .before .before .before in
-    (k3 .pre .0, k3 .pre .1, k3 .pre .2)
-
-count-requires : tie.Need-count-requires
-count-requires c κs =
-    let k6 = c .before .before .before .before .before .before in
-    k6 .pre .3
-
 returns : tie.Need-returns
-returns c =
-    let k3 = c .before .before .before in
-    let k7 = k3 .before .before .before .before in
-    (c .count .ensures ∙ ap (λ (k : ℕ). counted k (k7 .args .x)) (k3 .add-character .ensures .0), k3 .add-character .ensures .1)
+returns c = ((c .count .ensures ∙ ap (λ (k : ℕ). counted k (c .before .before .before .before .before .before .before .before .args .x)) (c .before .before .before .before .add-character .ensures .0 .0), c .before .before .before .before .add-character .ensures .0 .1), c .before .before .before .before .add-character .ensures .1)
 
 pub take-character-spec : {M : Type 1} → statement M
 take-character-spec =
-    tie.close
-    (tie.spec
-    add-character-requires
-    count-requires
-    (λ c. search needs)
-    returns)
+    tie.close (tie.spec (λ c κs. search needs) (λ c κs. search needs) (λ c. search needs) returns)
