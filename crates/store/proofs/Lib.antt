@@ -23,6 +23,9 @@ pub mod CharacterCalls
 pub mod KeptFonts
 pub mod Downloads
 pub mod Extends
+pub mod Host
+pub mod FirstBlocks
+pub mod Continuations
 pub mod Receives
 pub mod Drawings
 pub mod Locates

@@ -2,7 +2,7 @@ use mathlib.Core.Path.{sym, ap, _∙_}
 use Prim.Native.Nat.{ℕ}
 use lib.Dec.{eqb}
 use denote.Ref.{now}
-use Rattle.store.proofs.Receives.{names-off, names-other, names-by}
+use Rattle.store.proofs.Continuations.{names-off, names-other, names-by}
 use borrow.Author.Needs.{needs}
 use native.Mathlib.Omega.{arith}
 use Rattle.store.proofs.download.is_open.Statement.{statement}

@@ -4,7 +4,9 @@ use denote.Ref.{now}
 use Rattle.blocks.proofs.Checks.{failed, passed}
 use Rattle.store.proofs.FontCalls.{answered}
 use Rattle.store.proofs.Ready.{Ready, standing, looked-at, looked-not}
-use Rattle.store.proofs.Receives.{Host, arriving, block-short, block-length, block-no-font, block-host, block-unknown, block-first, block-more}
+use Rattle.store.proofs.Host.{Host, arriving}
+use Rattle.store.proofs.FirstBlocks.{block-short}
+use Rattle.store.proofs.Receives.{block-length, block-no-font, block-host, block-unknown, block-first, block-more}
 use borrow.Author.Needs.{needs}
 use Rattle.store.proofs.download.put_block.Statement.{statement}
 use Rattle.store.proofs.download.put_block.Tie as tie

@@ -1,7 +1,8 @@
 use mathlib.Core.Path.{sym, _∙_}
 use denote.Ref.{now}
 use Rattle.store.proofs.FontCalls.{answered}
-use Rattle.store.proofs.Receives.{Host, host, host-span, first-refused}
+use Rattle.store.proofs.Host.{Host, host, host-span}
+use Rattle.store.proofs.FirstBlocks.{first-refused}
 use borrow.Author.Needs.{needs}
 use native.Mathlib.Omega.{arith}
 use Rattle.store.proofs.download.put_first.Statement.{statement}

@@ -8,7 +8,9 @@ use Rattle.blocks.proofs.Checks.{failed, passed}
 use Rattle.store.specs.Model.{markIn}
 use Rattle.store.specs.Download.{names}
 use Rattle.store.proofs.FontCalls.{answered}
-use Rattle.store.proofs.Receives.{Host, host, Opened, opened-there, block-short, joined-at, more-not, more-past, more-within}
+use Rattle.store.proofs.Host.{Host, host}
+use Rattle.store.proofs.FirstBlocks.{block-short}
+use Rattle.store.proofs.Continuations.{Opened, opened-there, joined-at, more-not, more-past, more-within}
 use borrow.Author.Needs.{needs}
 use native.Mathlib.Omega.{arith}
 use Rattle.store.proofs.download.put_more.Statement.{statement}

@@ -3,7 +3,8 @@ use denote.Ref.{now}
 use Rattle.blocks.proofs.KeptFirst.{first-long}
 use Rattle.store.specs.Model.{isUnfinished}
 use Rattle.store.proofs.FontCalls.{answered}
-use Rattle.store.proofs.Receives.{Host, host, first-past, complete-small, complete-held, complete-fits, first-complete, incomplete-small, incomplete-held, incomplete-fits, first-incomplete}
+use Rattle.store.proofs.Host.{Host, host}
+use Rattle.store.proofs.FirstBlocks.{first-past, complete-small, complete-held, complete-fits, first-complete, incomplete-small, incomplete-held, incomplete-fits, first-incomplete}
 use borrow.Author.Needs.{needs}
 use Rattle.store.proofs.download.receive_first.Statement.{statement}
 use Rattle.store.proofs.download.receive_first.Tie as tie

@@ -4,7 +4,8 @@ use lib.ListN.{length, take, drop, length-take, length-drop}
 use denote.Ref.{now}
 use Rattle.store.specs.Walk.{dataAt}
 use Rattle.store.proofs.FontCalls.{answered}
-use Rattle.store.proofs.Receives.{Host, host, Opened, opened-there, more-large, more-marked, more-grows, more-placed}
+use Rattle.store.proofs.Host.{Host, host}
+use Rattle.store.proofs.Continuations.{Opened, opened-there, more-large, more-marked, more-grows, more-placed}
 use borrow.Author.Needs.{needs}
 use native.Mathlib.Omega.{arith}
 use Rattle.store.proofs.download.receive_more.Statement.{statement}

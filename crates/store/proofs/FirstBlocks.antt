@@ -1,0 +1,122 @@
+-- What becomes of a first block, by what the code has found out. Assumes nothing.
+use mathlib.Core.Path.{_≡_, refl, sym, ap, _∙_}
+use mathlib.Core.List.{List}
+use mathlib.Core.Bool.{true}
+use Prim.Native.Nat.{ℕ, _+_, _-_, _≤_}
+use native.Mathlib.Omega.{arith}
+use lib.ListN.{length, take, drop, length-drop}
+use lib.Seq.{take-all}
+use lib.Dec.{leb}
+use borrow.Author.Tests.{le-leb, leb-true}
+use Rattle.blocks.specs.Header.{orientation}
+use Rattle.blocks.specs.Character.{class, width, height, characterLength, kindOf, readFirst, keptFirst}
+use Rattle.blocks.specs.Picture.{judge, keptData}
+use Rattle.blocks.specs.declared.Verdict.the-variants.{Taken, Refused}
+use Rattle.blocks.specs.declared.character.Kind.the-variants.{First}
+use Rattle.blocks.specs.declared.picture.Held.the-variants.{Whole, Unfinished}
+use Rattle.blocks.specs.declared.picture.Judged.{Judged}
+use Rattle.blocks.specs.declared.picture.Judged.the-variants.{Complete, Incomplete, PastWidth}
+use Rattle.blocks.proofs.Checks.{both}
+use Rattle.blocks.proofs.KeptFirst.{first-long, kept-first, kept-other}
+use Rattle.blocks.proofs.KeptData.{complete-within, kept-complete, kept-incomplete, kept-length, held-whole, held-unfinished}
+use Rattle.store.specs.Model.{heldOf, heldUnder, isKept}
+use Rattle.store.specs.Answer.{onStore, finding, After, refuse}
+use Rattle.store.specs.Download.{ifWithin, placed, receiving, receivingFirst, puttingFirst}
+use Rattle.store.specs.Walk.{Fitting, fontTurn}
+use Rattle.store.specs.declared.walk.Places.{Places}
+use Rattle.store.proofs.Lookup.{found}
+use Rattle.store.proofs.Host.{Host, fitting, host-turn}
+
+-- the fields that say what the data means are kept as they are
+pub judged-kept : (b : List ℕ) → judge (class (keptFirst b)) (width (keptFirst b)) (height (keptFirst b)) (drop 16 b) ≡ judge (class b) (width b) (height b) (drop 16 b)
+judged-kept b = rw (kept-other b 3 tt tt tt tt, kept-other b 10 tt tt tt tt, kept-other b 11 tt tt tt tt, kept-other b 12 tt tt tt tt, kept-other b 13 tt tt tt tt)
+
+pub block-short : (b : List ℕ) → characterLength b ≡ true → (2 ≤ length b) × (length b ≤ 32767)
+unfolding characterLength
+block-short b e = let p = both (leb 2 (length b)) (leb (length b) 32767) e in (leb-true _ _ (p .0), leb-true _ _ (p .1))
+
+module _ (n c : ℕ) (b s : List ℕ) (w : Places) (x : Host n c s w) where
+  first-call : puttingFirst n c b s ≡ receivingFirst n c (x .header) b s (x .ready .store)
+  unfolding puttingFirst onStore finding
+  first-call = rw (x .ready .is, x .font-in)
+
+  pub first-refused : (k : ℕ) → readFirst b (fontTurn s w) ≡ Refused k → puttingFirst n c b s ≡ refuse s k
+  unfolding receivingFirst
+  first-refused k e = first-call ∙ rw (sym (ap (readFirst b) (host-turn n c s w x)) ∙ e)
+
+  module _ (l : characterLength b ≡ true) (f : kindOf b ≡ First) (e : readFirst b (fontTurn s w) ≡ Taken) where
+    read : readFirst b (orientation (x .header)) ≡ Taken
+    read = sym (ap (readFirst b) (host-turn n c s w x)) ∙ e
+
+    pub first-data : length (drop 16 b) ≤ 32751
+    first-data = omega (arith, length-drop 16 b, block-short b l)
+
+    first-taken : puttingFirst n c b s ≡ receiving n c (keptFirst b) (drop 16 b) s (x .ready .store)
+    unfolding receivingFirst
+    first-taken = first-call ∙ rw read
+
+    kept-ok : (d : List ℕ) → isKept (heldOf (keptFirst b) d) ≡ true → isKept (heldUnder (orientation (x .header)) (keptFirst b) d) ≡ true
+    unfolding heldUnder
+    kept-ok d q = rw (kept-first b (orientation (x .header)) f read) q
+
+    pub first-past : (row g r : ℕ) → judge (class b) (width b) (height b) (drop 16 b) ≡ PastWidth row g r → puttingFirst n c b s ≡ refuse s 8
+    unfolding receiving
+    first-past row g r q = first-taken ∙ rw (judged-kept b ∙ q)
+
+    -- data that is kept so goes into the store
+    first-kept : (j : Judged) (d : List ℕ) → judge (class (keptFirst b)) (width (keptFirst b)) (height (keptFirst b)) (drop 16 b) ≡ j → ((p q : After) → ifWithin j p q ≡ q)
+        → keptData (class (keptFirst b)) (width (keptFirst b)) (height (keptFirst b)) (drop 16 b) ≡ d → length d ≤ 32768 → puttingFirst n c b s ≡ placed n c (keptFirst b) d s
+    unfolding receiving placed onStore
+    first-kept j d q i k m = first-taken ∙ rw (q, k, le-leb (length d) 32768 m, x .ready .is) (i _ _)
+
+    module _ (k : ℕ) (q : judge (class b) (width b) (height b) (drop 16 b) ≡ Complete k) where
+      whole : judge (class (keptFirst b)) (width (keptFirst b)) (height (keptFirst b)) (drop 16 b) ≡ Complete k
+      whole = judged-kept b ∙ q
+
+      pub complete-small : (k ≤ 32768) × (16 + k ≤ length b)
+      complete-small =
+          let i = complete-within (class (keptFirst b)) (width (keptFirst b)) (height (keptFirst b)) (drop 16 b) k whole in
+          (omega (arith, i, first-data), omega (arith, i, length-drop 16 b, first-long b (orientation (x .header)) read))
+
+      kept-is : keptData (class (keptFirst b)) (width (keptFirst b)) (height (keptFirst b)) (drop 16 b) ≡ take k (drop 16 b)
+      kept-is = kept-complete (class (keptFirst b)) (width (keptFirst b)) (height (keptFirst b)) (drop 16 b) k whole
+
+      kept-few : length (keptData (class (keptFirst b)) (width (keptFirst b)) (height (keptFirst b)) (drop 16 b)) ≤ 32768
+      kept-few = omega (arith, kept-length (class (keptFirst b)) (width (keptFirst b)) (height (keptFirst b)) (drop 16 b) k whole, complete-small)
+
+      pub complete-held : heldOf (keptFirst b) (take k (drop 16 b)) ≡ Whole
+      complete-held = ap (heldOf (keptFirst b)) (sym kept-is) ∙ held-whole (class (keptFirst b)) (width (keptFirst b)) (height (keptFirst b)) (drop 16 b) k whole kept-few
+
+      pub complete-fits : Fitting n c (keptFirst b) (take k (drop 16 b)) s w
+      complete-fits = fitting n c s w x (keptFirst b) (take k (drop 16 b)) (kept-ok (take k (drop 16 b)) (rw complete-held))
+
+      pub first-complete : puttingFirst n c b s ≡ placed n c (keptFirst b) (take k (drop 16 b)) s
+      first-complete = first-kept (Complete k) (take k (drop 16 b)) whole (λ p r. refl) kept-is (subst-few kept-is kept-few)
+        where
+          subst-few : {a d : List ℕ} → a ≡ d → length a ≤ 32768 → length d ≤ 32768
+          subst-few i m = omega (arith, ap length i)
+
+    module _ (q : judge (class b) (width b) (height b) (drop 16 b) ≡ Incomplete) where
+      part : judge (class (keptFirst b)) (width (keptFirst b)) (height (keptFirst b)) (drop 16 b) ≡ Incomplete
+      part = judged-kept b ∙ q
+
+      all : take (length b - 16) (drop 16 b) ≡ drop 16 b
+      all = take-all (length b - 16) (drop 16 b) (simp length-drop (omega arith))
+
+      data-is : keptData (class (keptFirst b)) (width (keptFirst b)) (height (keptFirst b)) (drop 16 b) ≡ take (length b - 16) (drop 16 b)
+      data-is = kept-incomplete (class (keptFirst b)) (width (keptFirst b)) (height (keptFirst b)) (drop 16 b) part ∙ sym all
+
+      pub incomplete-small : (length b - 16 ≤ 32768) × (16 + (length b - 16) ≤ length b)
+      incomplete-small = (omega (arith, first-data, length-drop 16 b), omega (arith, first-long b (orientation (x .header)) read))
+
+      data-few : length (keptData (class (keptFirst b)) (width (keptFirst b)) (height (keptFirst b)) (drop 16 b)) ≤ 32768
+      data-few = omega (arith, ap length (data-is ∙ all), first-data)
+
+      pub incomplete-held : heldOf (keptFirst b) (take (length b - 16) (drop 16 b)) ≡ Unfinished
+      incomplete-held = ap (heldOf (keptFirst b)) (sym data-is) ∙ held-unfinished (class (keptFirst b)) (width (keptFirst b)) (height (keptFirst b)) (drop 16 b) part data-few
+
+      pub incomplete-fits : Fitting n c (keptFirst b) (take (length b - 16) (drop 16 b)) s w
+      incomplete-fits = fitting n c s w x (keptFirst b) (take (length b - 16) (drop 16 b)) (kept-ok (take (length b - 16) (drop 16 b)) (rw incomplete-held))
+
+      pub first-incomplete : puttingFirst n c b s ≡ placed n c (keptFirst b) (take (length b - 16) (drop 16 b)) s
+      first-incomplete = first-kept Incomplete (take (length b - 16) (drop 16 b)) part (λ p r. refl) data-is (omega (arith, ap length all, first-data))
