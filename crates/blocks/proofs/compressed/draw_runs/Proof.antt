@@ -22,12 +22,18 @@ Inv-loop width height bytes out₀ n at₀ top₀ out at top = (top ≤ height) 
 abbrev μ-loop : tie.MeasureT-loop
 μ-loop width height bytes out₀ n at₀ top₀ out at top = length bytes - at
 
+-- the rows that are drawn lie within the output
+rows-fit : (c : tie.At-loop Inv-loop μ-loop) → c .loop .top * ((c .before .before .before .args .width + 7) / 8) ≤ length (now (c .before .before .before .args .out))
+rows-fit c = within (c .before .before .before .args .width) (c .loop .top) (c .before .before .before .args .height) _ (c .before .before .before .pre) (c .loop .inv .0)
+
 loop-holds : tie.Need-loop-holds Inv-loop μ-loop
 unfolding picture
 loop-holds c = (zero-le, refl, rw zero-mul, λ _ j. rw zero-add)
 
 returns : tie.Need-returns Inv-loop μ-loop
-returns c = picture-all 2 (c .before .before .before .before .before .args .width) (now (c .before .before .before .before .before .args .bytes)) (c .before .before .loop .top) _ (c .before .before .loop .inv .2) (c .before .before .before .before .before .args .height) (c .before .before .loop .inv .0) (c .if1 .taken) (omega arith)
+returns c =
+    let k = c .before .before in
+    picture-all 2 (k .before .before .before .args .width) (now (k .before .before .before .args .bytes)) (k .loop .top) _ (k .loop .inv .2) (k .before .before .before .args .height) (k .loop .inv .0) (c .if1 .taken) (omega arith)
 
 cast-lesser : tie.Need-cast-lesser Inv-loop μ-loop
 cast-lesser c = omega (arith, c .shared-slice-known2 .given (c .before .before .before .loop .at))
@@ -36,25 +42,33 @@ add-lesser : tie.Need-add-lesser Inv-loop μ-loop
 add-lesser c = omega (arith, c .shared-slice-known2 .given (c .before .before .before .loop .at))
 
 mul-o : tie.Need-mul-o Inv-loop μ-loop
-mul-o c = omega (arith, within (c .before .before .before .before .before .before .before .args .width) (c .before .before .before .before .loop .top) (c .before .before .before .before .before .before .before .args .height) _ (c .before .before .before .before .before .before .before .pre) (c .before .before .before .before .loop .inv .0))
+mul-o c = omega (arith, rows-fit (c .before .before .before .before))
 
 sub-draw-times : tie.Need-sub-draw-times Inv-loop μ-loop
-sub-draw-times c = omega (arith, within (c .before .before .before .before .before .before .before .args .width) (c .before .before .before .before .loop .top) (c .before .before .before .before .before .before .before .args .height) _ (c .before .before .before .before .before .before .before .pre) (c .before .before .before .before .loop .inv .0))
+sub-draw-times c = omega (arith, rows-fit (c .before .before .before .before))
 
 part-draw-times-start : tie.Need-part-draw-times-start Inv-loop μ-loop
-part-draw-times-start c = omega (arith, within (c .before .before .before .before .before .before .before .args .width) (c .before .before .before .before .loop .top) (c .before .before .before .before .before .before .before .args .height) _ (c .before .before .before .before .before .before .before .pre) (c .before .before .before .before .loop .inv .0))
+part-draw-times-start c = omega (arith, rows-fit (c .before .before .before .before))
 
 draw-times-requires : tie.Need-draw-times-requires Inv-loop μ-loop
-draw-times-requires c κs = let n = (c .before .before .before .before .before .before .before .before .args .width + 7) / 8 in let m = c .before .lesser .result in
-    let l : c .before .before .before .before .before .loop .top + m ≤ c .before .before .before .before .before .before .before .before .args .height = omega (arith, c .before .lesser .ensures) in
-    (omega (arith, c .before .lesser .ensures), simp (length-take, length-drop) (omega (arith, within (c .before .before .before .before .before .before .before .before .args .width) (c .before .before .before .before .before .loop .top + m) (c .before .before .before .before .before .before .before .before .args .height) _ (c .before .before .before .before .before .before .before .before .pre) l, add-mul (c .before .before .before .before .before .loop .top) m n)))
+draw-times-requires c κs =
+    let k = c .before .before .before in
+    let n = (k .before .before .before .before .before .args .width + 7) / 8 in
+    let m = c .before .lesser .result in
+    let l : k .before .before .loop .top + m ≤ k .before .before .before .before .before .args .height = omega (arith, c .before .lesser .ensures) in
+    (omega (arith, c .before .lesser .ensures), simp (length-take, length-drop) (omega (arith, within (k .before .before .before .before .before .args .width) (k .before .before .loop .top + m) (k .before .before .before .before .before .args .height) _ (k .before .before .before .before .before .pre) l, add-mul (k .before .before .loop .top) m n)))
 
 returns-2 : tie.Need-returns-2 Inv-loop μ-loop
 unfolding rowDots
-returns-2 c = let w = c .before .before .before .before .before .before .before .before .before .before .before .before .before .args .width in let b = now (c .before .before .before .before .before .before .before .before .before .before .before .before .before .args .bytes) in let at = c .before .before .before .before .before .before .before .before .before .before .loop .at in let top = c .before .before .before .before .before .before .before .before .before .before .loop .top in
+returns-2 c =
+    let k = c .before .before .before .before .before .before .before .before in
+    let w = k .before .before .before .before .before .args .width in
+    let b = now (k .before .before .before .before .before .args .bytes) in
+    let at = k .before .before .loop .at in
+    let top = k .before .before .loop .top in
     let q = line-unfinished w b (at + 1) (sym (c .enum-told .given .1) ∙ c .before .before .before .before .draw-times .ensures .0) in
-    picture-rest 2 w b top _ (c .before .before .before .before .before .before .before .before .before .before .loop .inv .2) (c .before .before .before .before .before .before .before .before .before .before .before .before .before .args .height) (c .before .before .before .before .before .before .before .before .before .before .loop .inv .0) (omega arith)
-    (λ j l. sym (c .before .before .before .before .before .before .before .before .before .before .loop .inv .3 (c .before .before .before .before .before .before .before .before .if1 .left) j) ∙ rows-none w b at (c .before .before .before .before .before .before .before .before .before .loop-test .taken) j q) _ _
+    picture-rest 2 w b top _ (k .before .before .loop .inv .2) (k .before .before .before .before .before .args .height) (k .before .before .loop .inv .0) (omega arith)
+    (λ j l. sym (k .before .before .loop .inv .3 (k .if1 .left) j) ∙ rows-none w b at (k .before .loop-test .taken) j q) _ _
     (c .before .before .before .before .draw-times .ensures .1 ∙ rw q) refl
 
 add-top : tie.Need-add-top Inv-loop μ-loop
@@ -65,30 +79,41 @@ loop-less c = omega (arith, line-within _ _ _ _ (omega arith) (sym (c .before .n
 
 loop-again : tie.Need-loop-again Inv-loop μ-loop
 unfolding rowDots
-loop-again c = let w = c .before .before .before .before .before .before .before .before .before .before .before .before .before .before .args .width in let b = now (c .before .before .before .before .before .before .before .before .before .before .before .before .before .before .args .bytes) in let at = c .before .before .before .before .before .before .before .before .before .before .before .loop .at in let top = c .before .before .before .before .before .before .before .before .before .before .before .loop .top in let m = c .before .before .before .before .before .before .before .lesser .result in
+loop-again c =
+    let k = c .before .before .before .before .before .before .before .before .before in
+    let w = k .before .before .before .before .before .args .width in
+    let b = now (k .before .before .before .before .before .args .bytes) in
+    let at = k .before .before .loop .at in
+    let top = k .before .before .loop .top in
+    let m = c .before .before .before .before .before .before .before .lesser .result in
     let e = line-ends w b (at + 1) _ (sym (c .before .next .given .1) ∙ c .before .before .before .before .before .draw-times .ensures .0) in (
       omega (arith, c .before .before .before .before .before .before .before .lesser .ensures),
       omega arith,
-      picture-more 2 w b top _ (c .before .before .before .before .before .before .before .before .before .before .before .loop .inv .2) m (e .0) _ _ (rw (e .1) at (c .before .before .before .before .before .draw-times .ensures .1))
-          (λ j l. sym (c .before .before .before .before .before .before .before .before .before .before .before .loop .inv .3 (c .before .before .before .before .before .before .before .before .before .if1 .left) j) ∙ rows-here w b at (c .before .before .before .before .before .before .before .before .before .before .loop-test .taken) j (omega (arith, c .before .before .before .before .before .before .before .lesser .ensures)) ∙ ap dotsOf (e .1)),
+      picture-more 2 w b top _ (k .before .before .loop .inv .2) m (e .0) _ _ (rw (e .1) at (c .before .before .before .before .before .draw-times .ensures .1))
+          (λ j l. sym (k .before .before .loop .inv .3 (k .if1 .left) j) ∙ rows-here w b at (k .before .loop-test .taken) j (omega (arith, c .before .before .before .before .before .before .before .lesser .ensures)) ∙ ap dotsOf (e .1)),
       λ g j. let z : top + (getD b at 0 + 1 + j) ≡ top + m + j = omega (arith, c .before .before .before .before .before .before .before .lesser .ensures) in
-          sym (rows-below w b at (c .before .before .before .before .before .before .before .before .before .before .loop-test .taken) (e .0) _ j (e .1)) ∙ c .before .before .before .before .before .before .before .before .before .before .before .loop .inv .3 (c .before .before .before .before .before .before .before .before .before .if1 .left) (getD b at 0 + 1 + j) ∙ rw z,
+          sym (rows-below w b at (k .before .loop-test .taken) (e .0) _ j (e .1)) ∙ k .before .before .loop .inv .3 (k .if1 .left) (getD b at 0 + 1 + j) ∙ rw z,
     )
 
 mul-o-2 : tie.Need-mul-o-2 Inv-loop μ-loop
-mul-o-2 c = omega (arith, within (c .before .before .before .before .args .width) (c .before .loop .top) (c .before .before .before .before .args .height) _ (c .before .before .before .before .pre) (c .before .loop .inv .0))
+mul-o-2 c = omega (arith, rows-fit (c .before))
 
 sub-clear : tie.Need-sub-clear Inv-loop μ-loop
-sub-clear c = omega (arith, within (c .before .before .before .before .args .width) (c .before .loop .top) (c .before .before .before .before .args .height) _ (c .before .before .before .before .pre) (c .before .loop .inv .0))
+sub-clear c = omega (arith, rows-fit (c .before))
 
 part-clear-start : tie.Need-part-clear-start Inv-loop μ-loop
-part-clear-start c = omega (arith, within (c .before .before .before .before .args .width) (c .before .loop .top) (c .before .before .before .before .args .height) _ (c .before .before .before .before .pre) (c .before .loop .inv .0))
+part-clear-start c = omega (arith, rows-fit (c .before))
 
 returns-3 : tie.Need-returns-3 Inv-loop μ-loop
 unfolding rowDots
-returns-3 c = let w = c .before .before .before .before .before .before .before .before .args .width in let b = now (c .before .before .before .before .before .before .before .before .args .bytes) in let at = c .before .before .before .before .before .loop .at in let top = c .before .before .before .before .before .loop .top in
-    picture-rest 2 w b top _ (c .before .before .before .before .before .loop .inv .2) (c .before .before .before .before .before .before .before .before .args .height) (c .before .before .before .before .before .loop .inv .0) (omega arith)
-    (λ j l. sym (c .before .before .before .before .before .loop .inv .3 (omega arith) j) ∙ rows-past w b at j (c .before .before .before .before .loop-test .left)) _ _ (c .before .before .clear .ensures) refl
+returns-3 c =
+    let k = c .before .before .before .before .before in
+    let w = k .before .before .before .args .width in
+    let b = now (k .before .before .before .args .bytes) in
+    let at = k .loop .at in
+    let top = k .loop .top in
+    picture-rest 2 w b top _ (k .loop .inv .2) (k .before .before .before .args .height) (k .loop .inv .0) (omega arith)
+    (λ j l. sym (k .loop .inv .3 (omega arith) j) ∙ rows-past w b at j (c .before .before .before .before .loop-test .left)) _ _ (c .before .before .clear .ensures) refl
 
 pub draw-runs-spec : {M : Type 1} → statement M
 draw-runs-spec =
