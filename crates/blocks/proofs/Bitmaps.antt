@@ -16,10 +16,14 @@ use lib.Pow.{pow-pos, pow-add, mod-pow-add, shr-mod}
 use Rattle.blocks.specs.Character.{rowSize, pictureSize}
 use Rattle.blocks.specs.Dots.{bit, bits, pack, dotsIn, unpack}
 use Rattle.blocks.specs.Rows.{bitmapRow, rowDots, rowBytes, picture}
-use Rattle.blocks.specs.Drawing.{white, clipped, padded}
+use Rattle.blocks.specs.Drawing.{white, padded}
 use Rattle.blocks.proofs.Lists.{copied-all}
 use Rattle.blocks.proofs.Packing.{bits-append, pack-none}
 use Rattle.blocks.proofs.Pictures.{length-picture, tail-lent, tail-back}
+
+-- a byte without its k lowest bits
+abbrev pub clipped : ℕ → ℕ → ℕ
+clipped k x = x / 2 ^ k * 2 ^ k
 
 -- ---- the dots of a byte
 length-dots : (k x : ℕ) → length (dotsIn k x) ≡ k

@@ -5,14 +5,14 @@ use mathlib.Core.Path.{_≡_, refl, sym, ap, _∙_}
 use mathlib.Core.List.{List, [], _++_}
 use mathlib.Core.Bool.{Bool, true, false, cond}
 use native.Mathlib.Omega.{arith}
-use borrow.Author.Tests.{le-leb, lt-leb, leb-true, leb-false, eq-eqb, eqb-true}
+use borrow.Author.Tests.{le-leb, lt-leb, leb-true, leb-false, eq-eqb, ne-eqb, eqb-true}
 use lib.Dec.{leb, eqb}
 use lib.ListN.{length, take, drop, length-append, take-append-drop}
 use lib.Seq.{length-take-le, take-nil, take-take}
-use Rattle.blocks.specs.Character.{pictureSize, dataLimit}
+use Rattle.blocks.specs.Character.{bitmapClass, pictureSize, dataLimit}
 use Rattle.blocks.specs.Runs.{scanFrom, start}
-use Rattle.blocks.specs.Rows.{bitmapRow, runsRow, rowsFrom, count, rowDots, picture}
-use Rattle.blocks.specs.Picture.{judge, judgeBitmap, judgeScan, keptBy, keptData, held, heldBy}
+use Rattle.blocks.specs.Rows.{bitmapRow, runsRow, rowsFrom, rowsDrawn, count, rowDots, picture}
+use Rattle.blocks.specs.Picture.{judge, judgeBitmap, judgeScan, PastRun, keptBy, keptData, held, heldBy}
 use Rattle.blocks.specs.declared.runs.Reader.{Reader}
 use Rattle.blocks.specs.declared.runs.Scanned.{Scanned}
 use Rattle.blocks.specs.declared.runs.Scanned.the-variants.{Complete as ScanComplete, Open, PastWidth as ScanPast}
@@ -20,7 +20,7 @@ use Rattle.blocks.specs.declared.picture.Judged.{Judged}
 use Rattle.blocks.specs.declared.picture.Judged.the-variants.{Complete, Incomplete, PastWidth}
 use Rattle.blocks.specs.declared.picture.Held.the-variants.{Whole, Unfinished, Foreign}
 use Rattle.blocks.proofs.Used.{scan-used, scan-take, prefix-past, prefix-open, prefix-still-open}
-use Rattle.blocks.proofs.Completeness.{complete-height}
+use Rattle.blocks.proofs.Completeness.{complete-height, past-rows, rows-past}
 use Rattle.blocks.proofs.Bitmaps.{bitmap-take}
 use Rattle.blocks.proofs.Lines.{prefix-row}
 use Rattle.blocks.proofs.Pictures.{picture-rows}
@@ -143,6 +143,19 @@ module _ (k w h : ℕ) where
   take-picture : (d : List ℕ) (n : ℕ) → judge k w h d ≡ Complete n → picture k w (take n d) h ≡ picture k w d h
   unfolding judge rowDots
   take-picture d n e = picture-rows k w (take n d) d h (λ r l. dots-as w h (eqb k 1) d n e r l)
+
+  -- ---- 8 by the rows that the data draws
+  pub judged-past : (d : List ℕ) (row f b : ℕ) → 0 < h → judge k w h d ≡ PastWidth row f b → PastRun (rowsDrawn w) w h d row f b
+  unfolding judge
+  judged-past d row f b l e = past-of (eqb k bitmapClass) e
+    where
+      past-of : (t : Bool) → judgeAs w h t d ≡ PastWidth row f b → PastRun (rowsDrawn w) w h d row f b
+      past-of true e = absurd (bitmap-past (pictureSize w h) row f b (leb (pictureSize w h) (length d)) e)
+      past-of false e = past-rows w h d row f b l (scan-past (scanFrom w h 0 start d) row f b e)
+
+  pub past-judged : (d : List ℕ) (row f b : ℕ) → (k ≡ bitmapClass → ⊥) → PastRun (rowsDrawn w) w h d row f b → judge k w h d ≡ PastWidth row f b
+  unfolding judge
+  past-judged d row f b n x = rw (ne-eqb k bitmapClass n, rows-past w h d row f b x)
 
   -- ---- what is kept, by what it was judged
   pub kept-complete : (d : List ℕ) (n : ℕ) → judge k w h d ≡ Complete n → keptData k w h d ≡ take n d

@@ -75,22 +75,22 @@ module _ (k w : ℕ) (d : List ℕ) where
 
   module _ (top : ℕ) (out : List ℕ) (p : take (top * rowSize w) out ≡ picture k w d top) where
     -- a row and its repeats, drawn in the part below the first rows
-    pub picture-more : (m : ℕ) (ds : List Bool) (ys rest : List ℕ) → ys ≡ repeated m (pack (rowSize w) ds) ++ rest → ((j : ℕ) → j < m → rowDots k w d (top + j) ≡ ds)
-        → take ((top + m) * rowSize w) (putMid (top * rowSize w) (length out - top * rowSize w) out ys) ≡ picture k w d (top + m)
-    picture-more m ds ys rest y e =
+    pub picture-more : (o m : ℕ) (ds : List Bool) (ys rest : List ℕ) → o ≡ top * rowSize w → ys ≡ repeated m (pack (rowSize w) ds) ++ rest
+        → ((j : ℕ) → j < m → rowDots k w d (top + j) ≡ ds)
+        → take ((top + m) * rowSize w) (putMid o (length out - o) out ys) ≡ picture k w d (top + m)
+    picture-more o m ds ys rest z y e =
         let q = picture-same m top ds e in
-        rw (tail-back (top * rowSize w) out ys, p, y, ← (append-assoc (picture k w d top) (repeated m (pack (rowSize w) ds)) rest), ← q)
+        rw (z, tail-back (top * rowSize w) out ys, p, y, ← (append-assoc (picture k w d top) (repeated m (pack (rowSize w) ds)) rest), ← q)
         (take-at (picture k w d (top + m)) rest ((top + m) * rowSize w) (length-picture (top + m)))
 
     -- the part below the first rows is white
-    pub picture-rest : (h : ℕ) → top ≤ h → length out ≡ pictureSize w h → ((j : ℕ) → j < h - top → rowDots k w d (top + j) ≡ []) → (ys : List ℕ) (m : ℕ)
-        → ys ≡ white m → m ≡ length (take (length out - top * rowSize w) (drop (top * rowSize w) out))
-        → putMid (top * rowSize w) (length out - top * rowSize w) out ys ≡ picture k w d h
-    picture-rest h l len e ys m y q =
+    pub picture-rest : (o h : ℕ) → o ≡ top * rowSize w → top ≤ h → length out ≡ pictureSize w h → ((j : ℕ) → j < h - top → rowDots k w d (top + j) ≡ [])
+        → (ys : List ℕ) (m : ℕ) → ys ≡ white m → m ≡ length (take (length out - o) (drop o out)) → putMid o (length out - o) out ys ≡ picture k w d h
+    picture-rest o h u l len e ys m y q =
         let z : top + (h - top) ≡ h = omega arith in
-        let a : m ≡ length out - top * rowSize w = q ∙ ap length (tail-lent (top * rowSize w) out) ∙ length-drop (top * rowSize w) out in
+        let a : m ≡ length out - top * rowSize w = q ∙ ap length (tail-lent o out) ∙ length-drop o out ∙ rw u in
         let s : m ≡ (h - top) * rowSize w = omega (arith, add-mul top (h - top) (rowSize w), ap (λ (x : ℕ). x * rowSize w) z) in
-        rw (tail-back (top * rowSize w) out ys, p, y, s, ← (picture-white (h - top) top e), z)
+        rw (u, tail-back (top * rowSize w) out ys, p, y, s, ← (picture-white (h - top) top e), z)
 
     -- there are no rows below
     pub picture-all : (h : ℕ) → top ≤ h → h ≤ top → length out ≡ pictureSize w h → out ≡ picture k w d h

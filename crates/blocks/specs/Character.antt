@@ -19,23 +19,89 @@ abbrev pub continuationBytes : ℕ
 continuationBytes = 2
 
 -- where the fields stand (source document 001)
+abbrev pub formatAt : ℕ
+formatAt = 0
+
+abbrev pub continuedAt : ℕ
+continuedAt = 1
+
+abbrev pub descriptorSizeAt : ℕ
+descriptorSizeAt = 2
+
+abbrev pub classAt : ℕ
+classAt = 3
+
+abbrev pub orientationAt : ℕ
+orientationAt = 4
+
+abbrev pub reservedAt : ℕ
+reservedAt = 5
+
+abbrev pub leftOffsetAt : ℕ
+leftOffsetAt = 6
+
+abbrev pub topOffsetAt : ℕ
+topOffsetAt = 8
+
+abbrev pub widthAt : ℕ
+widthAt = 10
+
+abbrev pub heightAt : ℕ
+heightAt = 12
+
+abbrev pub deltaXAt : ℕ
+deltaXAt = 14
+
+-- the fields
+abbrev pub format : List ℕ → ℕ
+format b = byte b formatAt
+
+abbrev pub continued : List ℕ → ℕ
+continued b = byte b continuedAt
+
+abbrev pub descriptorSize : List ℕ → ℕ
+descriptorSize b = byte b descriptorSizeAt
+
 abbrev pub class : List ℕ → ℕ
-class b = byte b 3
+class b = byte b classAt
+
+abbrev pub orientation : List ℕ → ℕ
+orientation b = byte b orientationAt
 
 abbrev pub leftOffset : List ℕ → ℕ
-leftOffset b = word b 6
+leftOffset b = word b leftOffsetAt
 
 abbrev pub topOffset : List ℕ → ℕ
-topOffset b = word b 8
+topOffset b = word b topOffsetAt
 
 abbrev pub width : List ℕ → ℕ
-width b = word b 10
+width b = word b widthAt
 
 abbrev pub height : List ℕ → ℕ
-height b = word b 12
+height b = word b heightAt
 
 abbrev pub deltaX : List ℕ → ℕ
-deltaX b = word b 14
+deltaX b = word b deltaXAt
+
+-- the format and the descriptor size that are taken, and the classes
+abbrev pub characterFormat : ℕ
+characterFormat = 4
+
+abbrev pub sizeTaken : ℕ
+sizeTaken = 14
+
+abbrev pub bitmapClass : ℕ
+bitmapClass = 1
+
+abbrev pub runsClass : ℕ
+runsClass = 2
+
+-- how far the fields go
+abbrev pub offsetLimit : ℕ
+offsetLimit = 16384
+
+abbrev pub sideLimit : ℕ
+sideLimit = 16384
 
 -- "Length 2..32767, else 3"
 unfoldable pub characterLength : List ℕ → Bool
@@ -43,24 +109,38 @@ characterLength b = within continuationBytes blockLimit (length b)
 
 -- "byte 0 is 4, else 4. Byte 1 zero, a first block"; "Byte 1 not zero, a continuation"
 unfoldable pub kindOf : List ℕ → Kind
-kindOf b = cond (eqb (byte b 0) 4) (cond (eqb (byte b 1) 0) First Continuation) Unknown
+kindOf b = cond (eqb (format b) characterFormat) (cond (eqb (continued b) 0) First Continuation) Unknown
+
+-- document 01's number for a kind: "byte 0 is 4, else 4"
+abbrev pub kindNumber : Kind → ℕ
+kindNumber First = 0
+kindNumber Continuation = 0
+kindNumber Unknown = 4
 
 -- "length at least 16, else 3"
 abbrev pub firstLength : List ℕ → Bool
 firstLength b = leb descriptorBytes (length b)
 
+-- the classes that a first block is taken with
+abbrev pub takenClass : ℕ → Bool
+takenClass k = within bitmapClass runsClass k
+
+-- the classes of the characters in a store
+abbrev pub heldClass : ℕ → Bool
+heldClass k = within bitmapClass runsClass k
+
 -- "descriptor size (2) 14 and class (3) 1 or 2, else 4"
 abbrev pub firstForm : List ℕ → Bool
-firstForm b = eqb (byte b 2) 14 && within 1 2 (class b)
+firstForm b = eqb (descriptorSize b) sizeTaken && takenClass (class b)
 
 -- "Then, else 5: orientation (4) the font's; left (6) and top offset (8), signed, -16,384..16,384; width (10) and height (12) 1..16,384."
 abbrev pub firstFields : List ℕ → ℕ → Bool
-firstFields b orientation =
-    eqb (byte b 4) orientation
-    && signedWithin 16 16384 (leftOffset b)
-    && signedWithin 16 16384 (topOffset b)
-    && within 1 16384 (width b)
-    && within 1 16384 (height b)
+firstFields b o =
+    eqb (orientation b) o
+    && signedWithin 16 offsetLimit (leftOffset b)
+    && signedWithin 16 offsetLimit (topOffset b)
+    && within 1 sideLimit (width b)
+    && within 1 sideLimit (height b)
 
 -- "height rows of width/8 rounded up bytes"
 abbrev pub rowSize : ℕ → ℕ
@@ -78,19 +158,19 @@ abbrev pub firstSize : List ℕ → Bool
 firstSize b = leb (pictureSize (width b) (height b)) dataLimit
 
 abbrev pub firstChecks : List ℕ → ℕ → List Check
-firstChecks b orientation =
+firstChecks b o =
     (firstLength b else 3)
     ∷ (firstForm b else 4)
-    ∷ (firstFields b orientation else 5)
+    ∷ (firstFields b o else 5)
     ∷ (firstSize b else 9)
     ∷ []
 
 unfoldable pub readFirst : List ℕ → ℕ → Verdict
-readFirst b orientation = verdict (firstChecks b orientation)
+readFirst b o = verdict (firstChecks b o)
 
 -- "byte 5 zero, a negative delta X (14) made 0"
 unfoldable pub fixFirst : List ℕ → List ℕ
-fixFirst b = floorWord 14 (set b 5 0)
+fixFirst b = floorWord deltaXAt (set b reservedAt 0)
 
 -- "Kept: the 16 bytes", so fixed
 unfoldable pub keptFirst : List ℕ → List ℕ
@@ -98,10 +178,15 @@ keptFirst b = fixFirst (take descriptorBytes b)
 
 -- the bytes that an accepted first block always has, or that the rules change, stand as the rules leave them
 abbrev pub fixedFirst : List ℕ → Bool
-fixedFirst k = eqb (byte k 0) 4 && eqb (byte k 1) 0 && eqb (byte k 5) 0 && not (negative 16 (deltaX k))
+fixedFirst k =
+    eqb (format k) characterFormat
+    && eqb (continued k) 0
+    && eqb (descriptorSize k) sizeTaken
+    && eqb (byte k reservedAt) 0
+    && not (negative 16 (deltaX k))
 
 -- bytes that an accepted first block leaves of its descriptor, for a font of this orientation. The laws `kept-first` and `is-kept-first` say
 -- that they are just those.
 unfoldable pub isKeptFirst : List ℕ → ℕ → Bool
-isKeptFirst k orientation =
-    eqb (length k) descriptorBytes && (fixedFirst k && (firstForm k && (firstFields k orientation && firstSize k)))
+isKeptFirst k o =
+    eqb (length k) descriptorBytes && (fixedFirst k && (heldClass (class k) && (firstFields k o && firstSize k)))

@@ -1,5 +1,5 @@
--- How the code draws: what its inner functions promise each other. No public contract names anything of this file.
-use Prim.Native.Nat.{ℕ, zero, suc, _+_, _*_, _-_, _/_, _%_, _^_}
+-- For the code alone: how it draws, and what its inner functions promise each other. No public contract names anything of this file.
+use Prim.Native.Nat.{ℕ, zero, suc, _+_, _*_, _-_, _%_}
 use mathlib.Core.List.{List, [], _∷_, _++_}
 use mathlib.Core.Bool.{Bool, false, not}
 use lib.ListN.{length, drop, replicate}
@@ -15,10 +15,6 @@ darker x v = (x + v) % 256
 -- how many bits of the last byte of a row lie beyond the width
 abbrev pub paddingBits : ℕ → ℕ
 paddingBits w = 8 - ((w + 7) % 8 + 1)
-
--- a byte without its k lowest bits
-abbrev pub clipped : ℕ → ℕ → ℕ
-clipped k x = x / 2 ^ k * 2 ^ k
 
 -- n white bytes
 unfoldable pub white : ℕ → List ℕ

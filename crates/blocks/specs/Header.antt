@@ -17,47 +17,127 @@ abbrev pub headerBytes : ℕ
 headerBytes = 64
 
 -- where the fields stand (source document 004)
+abbrev pub descriptorSizeAt : ℕ
+descriptorSizeAt = 0
+
+abbrev pub formatAt : ℕ
+formatAt = 2
+
+abbrev pub fontTypeAt : ℕ
+fontTypeAt = 3
+
+abbrev pub styleHighAt : ℕ
+styleHighAt = 4
+
+abbrev pub reservedAt : ℕ
+reservedAt = 5
+
+abbrev pub baselineAt : ℕ
+baselineAt = 6
+
+abbrev pub cellWidthAt : ℕ
+cellWidthAt = 8
+
+abbrev pub cellHeightAt : ℕ
+cellHeightAt = 10
+
+abbrev pub orientationAt : ℕ
+orientationAt = 12
+
+abbrev pub spacingAt : ℕ
+spacingAt = 13
+
+abbrev pub symbolSetAt : ℕ
+symbolSetAt = 14
+
+abbrev pub pitchAt : ℕ
+pitchAt = 16
+
+abbrev pub heightAt : ℕ
+heightAt = 18
+
+abbrev pub styleLowAt : ℕ
+styleLowAt = 23
+
+abbrev pub strokeWeightAt : ℕ
+strokeWeightAt = 24
+
+abbrev pub typefaceLowAt : ℕ
+typefaceLowAt = 25
+
+abbrev pub typefaceHighAt : ℕ
+typefaceHighAt = 26
+
+-- the fields
 abbrev pub descriptorSize : List ℕ → ℕ
-descriptorSize b = word b 0
+descriptorSize b = word b descriptorSizeAt
 
 abbrev pub format : List ℕ → ℕ
-format b = byte b 2
+format b = byte b formatAt
 
 abbrev pub fontType : List ℕ → ℕ
-fontType b = byte b 3
+fontType b = byte b fontTypeAt
 
 abbrev pub style : List ℕ → ℕ
-style b = join (byte b 4) (byte b 23)
+style b = join (byte b styleHighAt) (byte b styleLowAt)
 
 abbrev pub baseline : List ℕ → ℕ
-baseline b = word b 6
+baseline b = word b baselineAt
 
 abbrev pub cellWidth : List ℕ → ℕ
-cellWidth b = word b 8
+cellWidth b = word b cellWidthAt
 
 abbrev pub cellHeight : List ℕ → ℕ
-cellHeight b = word b 10
+cellHeight b = word b cellHeightAt
 
 abbrev pub orientation : List ℕ → ℕ
-orientation b = byte b 12
+orientation b = byte b orientationAt
 
 abbrev pub spacing : List ℕ → ℕ
-spacing b = byte b 13
+spacing b = byte b spacingAt
 
 abbrev pub symbolSet : List ℕ → ℕ
-symbolSet b = word b 14
+symbolSet b = word b symbolSetAt
 
 abbrev pub pitch : List ℕ → ℕ
-pitch b = word b 16
+pitch b = word b pitchAt
 
 abbrev pub height : List ℕ → ℕ
-height b = word b 18
+height b = word b heightAt
 
 abbrev pub strokeWeight : List ℕ → ℕ
-strokeWeight b = byte b 24
+strokeWeight b = byte b strokeWeightAt
 
 abbrev pub typeface : List ℕ → ℕ
-typeface b = join (byte b 26) (byte b 25)
+typeface b = join (byte b typefaceHighAt) (byte b typefaceLowAt)
+
+-- the format that is taken, and how far the fields go
+abbrev pub bitmapFormat : ℕ
+bitmapFormat = 0
+
+abbrev pub lastFontType : ℕ
+lastFontType = 2
+
+abbrev pub lastStyle : ℕ
+lastStyle = 1023
+
+abbrev pub lastOrientation : ℕ
+lastOrientation = 1
+
+abbrev pub lastSpacing : ℕ
+lastSpacing = 1
+
+abbrev pub lastSymbolSet : ℕ
+lastSymbolSet = 2047
+
+abbrev pub weightLimit : ℕ
+weightLimit = 7
+
+abbrev pub pitchLimit : ℕ
+pitchLimit = 16800
+
+abbrev pub heightLimit : ℕ
+heightLimit = 10922
 
 -- "Length 64..32767, else 3."
 abbrev pub headerLength : List ℕ → Bool
@@ -65,22 +145,22 @@ headerLength b = within headerBytes blockLimit (length b)
 
 -- "Byte 2 (format) 0 and descriptor size 64 up to the block's length, else 4."
 abbrev pub headerForm : List ℕ → Bool
-headerForm b = eqb (format b) 0 && within headerBytes (length b) (descriptorSize b)
+headerForm b = eqb (format b) bitmapFormat && within headerBytes (length b) (descriptorSize b)
 
 -- "Then, else 5: type (3) 0..2; style word (byte 4 high, byte 23 low) 0..1023; cell width (8) and height (10) at least 1; baseline (6) below
 -- cell height; orientation (12) 0 portrait or 1 landscape; spacing (13) 0 fixed or 1 proportional; symbol set (14) 0..2047; stroke weight
 -- (24, signed) -7..7."
 abbrev pub headerFields : List ℕ → Bool
 headerFields b =
-    leb (fontType b) 2
-    && leb (style b) 1023
+    leb (fontType b) lastFontType
+    && leb (style b) lastStyle
     && leb 1 (cellWidth b)
     && leb 1 (cellHeight b)
     && ltb (baseline b) (cellHeight b)
-    && leb (orientation b) 1
-    && leb (spacing b) 1
-    && leb (symbolSet b) 2047
-    && signedWithin 8 7 (strokeWeight b)
+    && leb (orientation b) lastOrientation
+    && leb (spacing b) lastSpacing
+    && leb (symbolSet b) lastSymbolSet
+    && signedWithin 8 weightLimit (strokeWeight b)
 
 abbrev pub headerChecks : List ℕ → List Check
 headerChecks b = (headerLength b else 3) ∷ (headerForm b else 4) ∷ (headerFields b else 5) ∷ []
@@ -88,16 +168,9 @@ headerChecks b = (headerLength b else 3) ∷ (headerForm b else 4) ∷ (headerFi
 unfoldable pub readHeader : List ℕ → Verdict
 readHeader b = verdict (headerChecks b)
 
--- pitch (16) and height (18) are at most these
-abbrev pub pitchLimit : ℕ
-pitchLimit = 16800
-
-abbrev pub heightLimit : ℕ
-heightLimit = 10922
-
 -- "with descriptor size 64, byte 5 zero, pitch (16) above 16,800 made 16,800, height (18) above 10,922 made 10,922"
 unfoldable pub fixHeader : List ℕ → List ℕ
-fixHeader b = capWord 18 heightLimit (capWord 16 pitchLimit (set (putWord 0 headerBytes b) 5 0))
+fixHeader b = capWord heightAt heightLimit (capWord pitchAt pitchLimit (set (putWord descriptorSizeAt headerBytes b) reservedAt 0))
 
 -- "Kept: the first 64 bytes", so fixed
 unfoldable pub keptHeader : List ℕ → List ℕ
@@ -106,9 +179,9 @@ keptHeader b = fixHeader (take headerBytes b)
 -- the bytes that the rules change stand as the rules leave them
 abbrev pub fixedHeader : List ℕ → Bool
 fixedHeader k =
-    eqb (format k) 0
+    eqb (format k) bitmapFormat
     && eqb (descriptorSize k) headerBytes
-    && eqb (byte k 5) 0
+    && eqb (byte k reservedAt) 0
     && leb (pitch k) pitchLimit
     && leb (height k) heightLimit
 

@@ -3,7 +3,7 @@ pub mod Check
 pub mod Header
 pub mod Character
 pub mod Runs
-pub mod Line
+pub mod Passing
 pub mod Picture
 pub mod Dots
 pub mod Rows

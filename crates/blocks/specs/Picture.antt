@@ -1,10 +1,11 @@
 -- Document 01, picture data of either class: when it is complete, and what is kept of it.
-use Prim.Native.Nat.{ℕ}
-use mathlib.Core.List.{List, []}
+use Prim.Native.Nat.{ℕ, _+_, _-_, _<_, _≤_}
+use mathlib.Core.Path.{_≡_}
+use mathlib.Core.List.{List, [], _∷_, _++_}
 use mathlib.Core.Bool.{cond}
 use lib.Dec.{leb, eqb}
 use lib.ListN.{length, take}
-use Rattle.blocks.specs.Character.{pictureSize, dataLimit}
+use Rattle.blocks.specs.Character.{bitmapClass, pictureSize, dataLimit}
 use Rattle.blocks.specs.Runs.{scanFrom, start}
 use Rattle.blocks.specs.declared.runs.Scanned.{Scanned}
 use Rattle.blocks.specs.declared.runs.Scanned.the-variants.{Complete as ScanComplete, Open, PastWidth as ScanPast}
@@ -25,7 +26,26 @@ judgeScan (ScanPast row f b) = PastWidth row f b
 
 -- data of class k for a picture w dots wide and h rows high: complete with the bytes that it takes, incomplete, or with a run past the width
 unfoldable pub judge : ℕ → ℕ → ℕ → List ℕ → Judged
-judge k w h d = cond (eqb k 1) (judgeBitmap w h (length d)) (judgeScan (scanFrom w h 0 start d))
+judge k w h d = cond (eqb k bitmapClass) (judgeBitmap w h (length d)) (judgeScan (scanFrom w h 0 start d))
+
+-- A run b past the width w in data d, told by how many rows data draws: it stands behind `before`; the rows drawn are `row` in number, fewer than
+-- the height h; and f dots of the row in progress are filled, for a run of just the other w - f dots in its place would end that row. The laws
+-- `judged-past` and `past-judged` say that 8 is just this.
+pub record PastRun (drawn : List ℕ → ℕ) (w h : ℕ) (d : List ℕ) (row f b : ℕ) : Type 0 where
+  pub before : List ℕ
+  pub behind : List ℕ
+  pub parts : d ≡ before ++ (b ∷ behind)
+  pub rows : drawn before ≡ row
+  pub below : row < h
+  pub filled : f ≤ w
+  pub past : w < f + b
+  pub ends : row < drawn (before ++ ((w - f) ∷ []))
+
+-- document 01's number for data: "8 if class 2 data has a run past the width before all rows are drawn"
+abbrev pub judgedNumber : Judged → ℕ
+judgedNumber (Complete n) = 0
+judgedNumber Incomplete = 0
+judgedNumber (PastWidth row f b) = 8
 
 abbrev pub keptBy : Judged → List ℕ → List ℕ
 keptBy (Complete n) d = take n d

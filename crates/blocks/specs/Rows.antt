@@ -4,7 +4,7 @@ use mathlib.Core.List.{List, [], _∷_, _++_}
 use mathlib.Core.Bool.{Bool, false, not, cond}
 use lib.Dec.{eqb}
 use lib.ListN.{length, getD, drop, take, replicate}
-use Rattle.blocks.specs.Character.{rowSize}
+use Rattle.blocks.specs.Character.{bitmapClass, rowSize}
 use Rattle.blocks.specs.Dots.{pack, unpack}
 use Rattle.blocks.specs.Runs.{fillRow, onFill}
 
@@ -28,13 +28,17 @@ rowsFrom w (inRow r ds c) (b ∷ xs) =
     (replicate (suc r) (ds ++ replicate b c) ++ rowsFrom w count xs)
     (λ _. rowsFrom w (inRow r (ds ++ replicate b c) (not c)) xs)
 
+-- how many rows the data draws
+abbrev pub rowsDrawn : ℕ → List ℕ → ℕ
+rowsDrawn w d = length (rowsFrom w count d)
+
 -- the dots of row t. "Rows not drawn are white": they have no dots.
 unfoldable pub runsRow : ℕ → List ℕ → ℕ → List Bool
 runsRow w d t = getD (rowsFrom w count d) t []
 
 -- the dots of row t of data of class k
 unfoldable pub rowDots : ℕ → ℕ → List ℕ → ℕ → List Bool
-rowDots k w d t = cond (eqb k 1) (bitmapRow w d t) (runsRow w d t)
+rowDots k w d t = cond (eqb k bitmapClass) (bitmapRow w d t) (runsRow w d t)
 
 -- the bytes of row t. "Bits beyond the width are drawn 0": a row has no dots there, and missing dots are white.
 unfoldable pub rowBytes : ℕ → ℕ → List ℕ → ℕ → List ℕ

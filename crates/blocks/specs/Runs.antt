@@ -67,9 +67,3 @@ onStep (Past row f b) k = PastWidth row f b
 unfoldable pub scanFrom : ℕ → ℕ → ℕ → Reader → List ℕ → Scanned
 scanFrom w h n s [] = cond (isFinished (s .at)) (Complete n) (Open s)
 scanFrom w h n s (b ∷ xs) = cond (isFinished (s .at)) (Complete n) (onStep (stepRun w h s b) (λ t. scanFrom w h (n + 1) t xs))
-
--- the scan of xs after a scan that gave r and used n bytes
-abbrev pub andThen : ℕ → ℕ → ℕ → Scanned → List ℕ → Scanned
-andThen w h n (Complete k) xs = Complete k
-andThen w h n (Open s) xs = scanFrom w h n s xs
-andThen w h n (PastWidth row f b) xs = PastWidth row f b

@@ -3,10 +3,11 @@ ghost use mathlib.Core.Path.{_≡_};
 ghost use mathlib.Core.List.{List};
 ghost use Prim.Native.Nat.{ℕ, _<_};
 ghost use lib.ListN.{length, drop, getD};
-ghost use Rattle.blocks.specs.Character.{rowSize, pictureSize};
+ghost use Rattle.blocks.specs.Character.{bitmapClass, rowSize, pictureSize};
 ghost use Rattle.blocks.specs.Dots.{pack};
 ghost use Rattle.blocks.specs.Rows.{bitmapRow, picture};
 ghost use Rattle.blocks.specs.Drawing.{padded};
+use crate::character;
 use crate::dots;
 
 // Copies the data from a place on as far as it goes, and white bytes behind it.
@@ -41,9 +42,9 @@ pub(crate) fn draw_bitmap_row(width: u16, bytes: &[u8], row: u16, out: &mut [u8]
 fn clip_rows(width: u16, height: u16, out: &mut [u8])
     requires { ⌜ (0 < width) × (length (now out) ≡ pictureSize width height) ⌝ }
     ensures { λ _. ⌜ ((d : List ℕ) → ((i : ℕ) → getD d i 0 < 256) → now (out .entry) ≡ padded (pictureSize width height) d
-        → now (out .exit) ≡ picture 1 width d height) ⌝ }
+        → now (out .exit) ≡ picture bitmapClass width d height) ⌝ }
 {
-    let n = ((width as usize) + 7) / 8;
+    let n = character::row_size(width);
     let kept = dots::kept_bits(width);
     let mut at: usize = 0;
     let mut row: u16 = 0;
@@ -58,7 +59,7 @@ fn clip_rows(width: u16, height: u16, out: &mut [u8])
 // Draws all rows.
 pub(crate) fn draw_bitmap(width: u16, height: u16, bytes: &[u8], out: &mut [u8])
     requires { ⌜ (0 < width) × (length (now out) ≡ pictureSize width height) ⌝ }
-    ensures { λ _. ⌜ now (out .exit) ≡ picture 1 width (now (bytes .entry)) height ⌝ }
+    ensures { λ _. ⌜ now (out .exit) ≡ picture bitmapClass width (now (bytes .entry)) height ⌝ }
 {
     copy_padded(bytes, 0, out);
     if width % 8 == 0 {

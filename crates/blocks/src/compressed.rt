@@ -4,10 +4,11 @@ ghost use mathlib.Core.List.{_++_};
 ghost use Prim.Native.Nat.{_+_, _*_, _≤_, _<_, min};
 ghost use lib.ListN.{length, drop, take};
 ghost use lib.Seq.{paste};
-ghost use Rattle.blocks.specs.Character.{rowSize, pictureSize};
+ghost use Rattle.blocks.specs.Character.{runsClass, rowSize, pictureSize};
 ghost use Rattle.blocks.specs.Dots.{pack};
 ghost use Rattle.blocks.specs.Rows.{runsRow, picture};
 ghost use Rattle.blocks.specs.Drawing.{lineFrom, lineOf, dotsOf, drawnOf, repeated};
+use crate::character;
 use crate::dots;
 
 // Where a row of the data ends, if it is whole.
@@ -139,7 +140,7 @@ fn draw_times(bytes: &[u8], from: usize, width: u16, times: usize, out: &mut [u8
     ensures { λ r. ⌜ r ≡ lineOf (lineFrom width (now (bytes .entry)) from) ⌝ }
     ensures { λ _. ⌜ now (out .exit) ≡ drawnOf (rowSize width) times (lineFrom width (now (bytes .entry)) from) (now (out .entry)) ⌝ }
 {
-    let n = ((width as usize) + 7) / 8;
+    let n = character::row_size(width);
     let line = draw_line(bytes, from, width, &mut out[..n]);
     match line {
         Line::Ends(next) => {
@@ -156,9 +157,9 @@ fn draw_times(bytes: &[u8], from: usize, width: u16, times: usize, out: &mut [u8
 // Draws all rows, in one pass over the data.
 pub(crate) fn draw_runs(width: u16, height: u16, bytes: &[u8], out: &mut [u8])
     requires { ⌜ length (now out) ≡ pictureSize width height ⌝ }
-    ensures { λ _. ⌜ now (out .exit) ≡ picture 2 width (now (bytes .entry)) height ⌝ }
+    ensures { λ _. ⌜ now (out .exit) ≡ picture runsClass width (now (bytes .entry)) height ⌝ }
 {
-    let n = ((width as usize) + 7) / 8;
+    let n = character::row_size(width);
     let mut at = 0;
     let mut top: usize = 0;
     while at < bytes.len() {

@@ -2,7 +2,18 @@
 ghost use mathlib.Core.Path.{_≡_};
 ghost use Prim.Native.Nat.{_+_, _<_, _≤_};
 ghost use lib.ListN.{length, take};
-ghost use Rattle.blocks.specs.Field.{join, word, negative, signedWithin, capWord, floorWord};
+ghost use Rattle.blocks.specs.Field.{join, word, negative, signedWithin, putWord, capWord, floorWord};
+ghost use Rattle.blocks.specs.Header.{weightLimit};
+ghost use Rattle.blocks.specs.Character.{offsetLimit};
+
+// A signed field goes from minus its limit up to it: as an unsigned number at most the limit, or at least what stands for minus the limit.
+const WEIGHT_LIMIT: u8 = 7;
+
+const LEAST_WEIGHT: u8 = 255 - WEIGHT_LIMIT + 1;
+
+const OFFSET_LIMIT: u16 = 16384;
+
+const LEAST_OFFSET: u16 = 65535 - OFFSET_LIMIT + 1;
 
 pub(crate) fn join(high: u8, low: u8) -> u16
     ensures { λ r. ⌜ r ≡ join high low ⌝ }
@@ -18,18 +29,18 @@ pub fn word(s: &[u8], at: usize) -> u16
     join(s[at], s[at + 1])
 }
 
-// A byte that is, as a signed number, from -7 up to 7.
+// A stroke weight within its limit.
 pub(crate) fn weight_allowed(x: u8) -> bool
-    ensures { λ r. ⌜ r ≡ signedWithin 8 7 x ⌝ }
+    ensures { λ r. ⌜ r ≡ signedWithin 8 weightLimit x ⌝ }
 {
-    (x <= 7) | (249 <= x)
+    (x <= WEIGHT_LIMIT) | (LEAST_WEIGHT <= x)
 }
 
-// A 16-bit field that is, as a signed number, from -16,384 up to 16,384.
+// A left or top offset within its limit.
 pub(crate) fn offset_allowed(n: u16) -> bool
-    ensures { λ r. ⌜ r ≡ signedWithin 16 16384 n ⌝ }
+    ensures { λ r. ⌜ r ≡ signedWithin 16 offsetLimit n ⌝ }
 {
-    (n <= 16384) | (49152 <= n)
+    (n <= OFFSET_LIMIT) | (LEAST_OFFSET <= n)
 }
 
 // A 16-bit field that is, as a signed number, below 0.
@@ -39,16 +50,23 @@ pub(crate) fn is_negative(n: u16) -> bool
     32768 <= n
 }
 
+// Puts a 16-bit number at a place.
+pub(crate) fn put_word(s: &mut [u8], at: usize, value: u16)
+    requires { ⌜ at + 1 < length (now s) ⌝ }
+    ensures { λ _. ⌜ now (s .exit) ≡ putWord at value (now (s .entry)) ⌝ }
+{
+    s[at] = (value / 256) as u8;
+    s[at + 1] = (value % 256) as u8;
+}
+
 // Makes the 16-bit field at a place at most a limit.
 pub(crate) fn cap_word(s: &mut [u8], at: usize, limit: u16)
     requires { ⌜ at + 1 < length (now s) ⌝ }
     ensures { λ _. ⌜ now (s .exit) ≡ capWord at limit (now (s .entry)) ⌝ }
 {
-    if word(s, at) <= limit {
-        return;
+    if limit < word(s, at) {
+        put_word(s, at, limit);
     }
-    s[at] = (limit / 256) as u8;
-    s[at + 1] = (limit % 256) as u8;
 }
 
 // Makes the 16-bit field at a place 0 if it is negative as a signed number.
@@ -57,8 +75,7 @@ pub(crate) fn floor_word(s: &mut [u8], at: usize)
     ensures { λ _. ⌜ now (s .exit) ≡ floorWord at (now (s .entry)) ⌝ }
 {
     if is_negative(word(s, at)) {
-        s[at] = 0;
-        s[at + 1] = 0;
+        put_word(s, at, 0);
     }
 }
 

@@ -1,42 +1,103 @@
-// The font block: its checks, and the 64 bytes that are kept.
+// The font block: its checks, and the bytes that are kept.
 ghost use mathlib.Core.Path.{_≡_};
 ghost use Prim.Native.Nat.{_≤_};
 ghost use lib.ListN.{length};
-ghost use Rattle.blocks.specs.Header.{headerForm, headerFields, readHeader, fixHeader, keptHeader, isKeptHeader, fixedHeader};
+ghost use Rattle.blocks.specs.Header.{headerBytes, orientation, headerForm, headerFields, readHeader, fixHeader, keptHeader, isKeptHeader, fixedHeader};
 use crate::Verdict;
 use crate::field;
 
+// A block has at most so many bytes; of a header so many are kept.
+pub const BLOCK_LIMIT: usize = 32767;
+
+pub const KEPT: usize = 64;
+
+// Where the fields stand.
+const DESCRIPTOR_SIZE_AT: usize = 0;
+
+const FORMAT_AT: usize = 2;
+
+const FONT_TYPE_AT: usize = 3;
+
+const STYLE_HIGH_AT: usize = 4;
+
+const RESERVED_AT: usize = 5;
+
+const BASELINE_AT: usize = 6;
+
+const CELL_WIDTH_AT: usize = 8;
+
+const CELL_HEIGHT_AT: usize = 10;
+
+pub const ORIENTATION_AT: usize = 12;
+
+const SPACING_AT: usize = 13;
+
+const SYMBOL_SET_AT: usize = 14;
+
+const PITCH_AT: usize = 16;
+
+const HEIGHT_AT: usize = 18;
+
+const STYLE_LOW_AT: usize = 23;
+
+const STROKE_WEIGHT_AT: usize = 24;
+
+// The format that is taken, and how far the fields go.
+const BITMAP_FORMAT: u8 = 0;
+
+const LAST_FONT_TYPE: u8 = 2;
+
+const LAST_STYLE: u16 = 1023;
+
+const LAST_ORIENTATION: u8 = 1;
+
+const LAST_SPACING: u8 = 1;
+
+const LAST_SYMBOL_SET: u16 = 2047;
+
+const PITCH_LIMIT: u16 = 16800;
+
+const HEIGHT_LIMIT: u16 = 10922;
+
+// The orientation of a header.
+pub fn orientation(h: &[u8]) -> u8
+    requires { ⌜ headerBytes ≤ length (now h) ⌝ }
+    ensures { λ r. ⌜ r ≡ orientation (now (h .entry)) ⌝ }
+{
+    h[ORIENTATION_AT]
+}
+
 fn header_form(block: &[u8]) -> bool
-    requires { ⌜ 64 ≤ length (now block) ⌝ }
+    requires { ⌜ headerBytes ≤ length (now block) ⌝ }
     ensures { λ r. ⌜ r ≡ headerForm (now (block .entry)) ⌝ }
 {
-    let size = field::word(block, 0) as usize;
-    (block[2] == 0) & ((64 <= size) & (size <= block.len()))
+    let size = field::word(block, DESCRIPTOR_SIZE_AT) as usize;
+    (block[FORMAT_AT] == BITMAP_FORMAT) & ((KEPT <= size) & (size <= block.len()))
 }
 
 fn header_fields(block: &[u8]) -> bool
-    requires { ⌜ 64 ≤ length (now block) ⌝ }
+    requires { ⌜ headerBytes ≤ length (now block) ⌝ }
     ensures { λ r. ⌜ r ≡ headerFields (now (block .entry)) ⌝ }
 {
-    (block[3] <= 2)
-        & (field::join(block[4], block[23]) <= 1023)
-        & (1 <= field::word(block, 8))
-        & (1 <= field::word(block, 10))
-        & (field::word(block, 6) < field::word(block, 10))
-        & (block[12] <= 1)
-        & (block[13] <= 1)
-        & (field::word(block, 14) <= 2047)
-        & field::weight_allowed(block[24])
+    (block[FONT_TYPE_AT] <= LAST_FONT_TYPE)
+        & (field::join(block[STYLE_HIGH_AT], block[STYLE_LOW_AT]) <= LAST_STYLE)
+        & (1 <= field::word(block, CELL_WIDTH_AT))
+        & (1 <= field::word(block, CELL_HEIGHT_AT))
+        & (field::word(block, BASELINE_AT) < field::word(block, CELL_HEIGHT_AT))
+        & (block[ORIENTATION_AT] <= LAST_ORIENTATION)
+        & (block[SPACING_AT] <= LAST_SPACING)
+        & (field::word(block, SYMBOL_SET_AT) <= LAST_SYMBOL_SET)
+        & field::weight_allowed(block[STROKE_WEIGHT_AT])
 }
 
 // The checks of a font block, in document 01's order.
 pub fn read_header(block: &[u8]) -> Verdict
     ensures { λ r. ⌜ r ≡ readHeader (now (block .entry)) ⌝ }
 {
-    if block.len() < 64 {
+    if block.len() < KEPT {
         return Verdict::Refused(3);
     }
-    if 32767 < block.len() {
+    if BLOCK_LIMIT < block.len() {
         return Verdict::Refused(3);
     }
     if !header_form(block) {
@@ -49,19 +110,18 @@ pub fn read_header(block: &[u8]) -> Verdict
 }
 
 fn fix_header(s: &mut [u8])
-    requires { ⌜ 64 ≤ length (now s) ⌝ }
+    requires { ⌜ headerBytes ≤ length (now s) ⌝ }
     ensures { λ _. ⌜ now (s .exit) ≡ fixHeader (now (s .entry)) ⌝ }
 {
-    s[0] = 0;
-    s[1] = 64;
-    s[5] = 0;
-    field::cap_word(s, 16, 16800);
-    field::cap_word(s, 18, 10922);
+    field::put_word(s, DESCRIPTOR_SIZE_AT, KEPT as u16);
+    s[RESERVED_AT] = 0;
+    field::cap_word(s, PITCH_AT, PITCH_LIMIT);
+    field::cap_word(s, HEIGHT_AT, HEIGHT_LIMIT);
 }
 
-// Writes what is kept of an accepted block into the 64 bytes lent.
+// Writes what is kept of an accepted block into the bytes lent.
 pub fn keep_header(block: &[u8], out: &mut [u8])
-    requires { ⌜ (64 ≤ length (now block)) × (length (now out) ≡ 64) ⌝ }
+    requires { ⌜ (headerBytes ≤ length (now block)) × (length (now out) ≡ headerBytes) ⌝ }
     ensures { λ _. ⌜ now (out .exit) ≡ keptHeader (now (block .entry)) ⌝ }
 {
     field::copy_front(block, out);
@@ -70,21 +130,21 @@ pub fn keep_header(block: &[u8], out: &mut [u8])
 
 // The bytes that the rules change stand as the rules leave them.
 fn fixed_header(k: &[u8]) -> bool
-    requires { ⌜ length (now k) ≡ 64 ⌝ }
+    requires { ⌜ length (now k) ≡ headerBytes ⌝ }
     ensures { λ r. ⌜ r ≡ fixedHeader (now (k .entry)) ⌝ }
 {
-    (k[2] == 0)
-        & (field::word(k, 0) == 64)
-        & (k[5] == 0)
-        & (field::word(k, 16) <= 16800)
-        & (field::word(k, 18) <= 10922)
+    (k[FORMAT_AT] == BITMAP_FORMAT)
+        & (field::word(k, DESCRIPTOR_SIZE_AT) == KEPT as u16)
+        & (k[RESERVED_AT] == 0)
+        & (field::word(k, PITCH_AT) <= PITCH_LIMIT)
+        & (field::word(k, HEIGHT_AT) <= HEIGHT_LIMIT)
 }
 
 // Whether bytes are what an accepted block leaves.
 pub fn is_kept_header(k: &[u8]) -> bool
     ensures { λ r. ⌜ r ≡ isKeptHeader (now (k .entry)) ⌝ }
 {
-    if k.len() != 64 {
+    if k.len() != KEPT {
         return false;
     }
     fixed_header(k) & header_fields(k)

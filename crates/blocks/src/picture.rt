@@ -1,7 +1,7 @@
 // Picture data of either class: when it is complete, what is kept of it, and drawing it.
 ghost use mathlib.Core.Path.{_≡_};
 ghost use mathlib.Core.List.{_++_};
-ghost use Prim.Native.Nat.{_+_, _^_, _≤_, _<_};
+ghost use Prim.Native.Nat.{_+_, _<_};
 ghost use lib.ListN.{length};
 ghost use Rattle.blocks.specs.Character.{rowSize, pictureSize};
 ghost use Rattle.blocks.specs.Picture.{judge, judgeBitmap, judgeScan, held, heldBy};
@@ -51,7 +51,7 @@ fn judge_scan(s: Scanned) -> Judged
 pub fn judge_joined(class: u8, width: u16, height: u16, kept: &[u8], more: &[u8]) -> Judged
     ensures { λ r. ⌜ r ≡ judge class width height (now (kept .entry) ++ now (more .entry)) ⌝ }
 {
-    if class == 1 {
+    if class == character::BITMAP {
         return judge_bitmap(kept.len() + more.len(), width, height);
     }
     judge_scan(runs::scan_joined(kept, more, width, height))
@@ -61,7 +61,7 @@ pub fn judge_joined(class: u8, width: u16, height: u16, kept: &[u8], more: &[u8]
 pub fn judge_first(class: u8, width: u16, height: u16, bytes: &[u8]) -> Judged
     ensures { λ r. ⌜ r ≡ judge class width height (now (bytes .entry)) ⌝ }
 {
-    if class == 1 {
+    if class == character::BITMAP {
         return judge_bitmap(bytes.len(), width, height);
     }
     judge_scan(runs::scan(bytes, width, height))
@@ -85,7 +85,7 @@ fn held_by(j: Judged, len: usize) -> Held
 pub fn held_in(class: u8, width: u16, height: u16, bytes: &[u8]) -> Held
     ensures { λ r. ⌜ r ≡ held class width height (now (bytes .entry)) ⌝ }
 {
-    if 32768 < bytes.len() {
+    if character::DATA_LIMIT < bytes.len() {
         return Held::Foreign;
     }
     held_by(judge_first(class, width, height, bytes), bytes.len())
@@ -96,7 +96,7 @@ pub fn draw_row(class: u8, width: u16, bytes: &[u8], row: u16, out: &mut [u8])
     requires { ⌜ (0 < width) × (length (now out) ≡ rowSize width) ⌝ }
     ensures { λ _. ⌜ now (out .exit) ≡ rowBytes class width (now (bytes .entry)) row ⌝ }
 {
-    if class == 1 {
+    if class == character::BITMAP {
         bitmap::draw_bitmap_row(width, bytes, row, out);
     } else {
         compressed::draw_runs_row(width, bytes, row, out);
@@ -108,7 +108,7 @@ pub fn draw_picture(class: u8, width: u16, height: u16, bytes: &[u8], out: &mut 
     requires { ⌜ (0 < width) × (length (now out) ≡ pictureSize width height) ⌝ }
     ensures { λ _. ⌜ now (out .exit) ≡ picture class width (now (bytes .entry)) height ⌝ }
 {
-    if class == 1 {
+    if class == character::BITMAP {
         bitmap::draw_bitmap(width, height, bytes, out);
     } else {
         compressed::draw_runs(width, height, bytes, out);

@@ -1,11 +1,10 @@
 // Class 2 picture data: the reader's state, its step, and scanning data from a state.
 ghost use mathlib.Core.Path.{_≡_};
-ghost use mathlib.Core.Bool.{false};
-ghost use mathlib.Core.List.{_++_};
-ghost use Prim.Native.Nat.{_+_, _-_, _^_, _≤_, _<_};
-ghost use lib.ListN.{length, drop};
+ghost use mathlib.Core.List.{[], _++_};
+ghost use Prim.Native.Nat.{ℕ, _+_, _-_, _^_, _≤_, _<_};
+ghost use lib.ListN.{length};
 ghost use Rattle.blocks.specs.Runs.{fillRow, endRow, placeOf, runIn, stepRun, isFinished, scanFrom, start};
-ghost use Rattle.blocks.specs.Line.{insideOf, pairAt, fourAt, eightAt, passOf, goingAt};
+ghost use Rattle.blocks.specs.Passing.{isAtRun, isBlack, filledAt, atRun, countRow, pairAt, fourAt, eightAt, Passes};
 
 // Where the reader is: at a repeat count, in a white or a black run with dots filled, finished.
 pub enum Place {
@@ -42,18 +41,10 @@ pub enum Scanned {
     PastWidth { row: u16, filled: u16, run: u8 },
 }
 
-// A place in the data within a row: the dots filled, and whether the next run is black.
-pub struct Inside {
+// Where a scan goes on: the state and the place in the data.
+pub struct Passed {
+    pub reader: Reader,
     pub at: usize,
-    pub filled: u16,
-    pub black: bool,
-}
-
-// The runs of one row: where it ends, the place in it where the data ends, or a run past the width with the dots filled.
-pub enum Passed {
-    Ends(usize),
-    Cut(Place),
-    Over { filled: u16, run: u8 },
 }
 
 // A run in a row of which some dots are filled.
@@ -68,73 +59,6 @@ pub fn fill(width: u16, filled: u16, run: u8) -> Filled
         return Filled::Whole;
     }
     Filled::Part(end as u16)
-}
-
-// A whole row: the next row's count, or finished.
-pub fn end_row(s: Reader, height: u16) -> Reader
-    ensures { λ r. ⌜ r ≡ endRow height s ⌝ }
-{
-    let next = (s.row as u32) + 1 + (s.repeat as u32);
-    if (height as u32) <= next {
-        Reader {
-            row: height,
-            repeat: 0,
-            at: Place::Finished,
-        }
-    } else {
-        Reader {
-            row: next as u16,
-            repeat: 0,
-            at: Place::Count,
-        }
-    }
-}
-
-// The place in a row of the next run's colour.
-fn place_of(black: bool, filled: u16) -> Place
-    ensures { λ r. ⌜ r ≡ placeOf black filled ⌝ }
-{
-    if black {
-        Place::Black(filled)
-    } else {
-        Place::White(filled)
-    }
-}
-
-// A run, black or not, where some dots of its row are filled: the next one has the other colour.
-fn run_in(s: Reader, width: u16, height: u16, run: u8, black: bool, filled: u16) -> Stepped
-    ensures { λ r. ⌜ r ≡ runIn width height s run black filled ⌝ }
-{
-    match fill(width, filled, run) {
-        Filled::Over => Stepped::Past {
-            row: s.row,
-            filled: filled,
-            run: run,
-        },
-        Filled::Whole => Stepped::Next(end_row(s, height)),
-        Filled::Part(n) => Stepped::Next(Reader {
-            row: s.row,
-            repeat: s.repeat,
-            at: place_of(!black, n),
-        }),
-    }
-}
-
-// One byte of data.
-pub fn step(s: Reader, width: u16, height: u16, byte: u8) -> Stepped
-    ensures { λ r. ⌜ r ≡ stepRun width height s byte ⌝ }
-{
-    let at = s.at;
-    match at {
-        Place::Count => Stepped::Next(Reader {
-            row: s.row,
-            repeat: byte,
-            at: Place::White(0),
-        }),
-        Place::White(filled) => run_in(s, width, height, byte, false, filled),
-        Place::Black(filled) => run_in(s, width, height, byte, true, filled),
-        Place::Finished => Stepped::Next(s),
-    }
 }
 
 fn wide(x: u8) -> u32
@@ -165,149 +89,274 @@ fn sum_of_eight(src: &[u8], at: usize) -> u32
     sum_of_four(src, at) + sum_of_four(src, at + 4)
 }
 
-// The places before it have eight bytes from there on.
-fn last_eight(len: usize) -> usize
-    ensures { λ r. ⌜ r ≡ len - 7 ⌝ }
+// The places before it have eight bytes from there on, and one more.
+fn before_eight(len: usize) -> usize
+    ensures { λ r. ⌜ r ≡ len - 8 ⌝ }
 {
-    if len < 7 {
+    if len < 8 {
         return 0;
     }
-    len - 7
+    len - 8
 }
 
-// Over eight runs at a time that leave a row unfinished: their sum alone tells, several times as fast as run by run.
-fn pass_eights(src: &[u8], from: usize, width: u16) -> Inside
-    ensures { λ r. ⌜ insideOf width (r .at) (r .filled) false (drop (r .at) (now (src .entry))) ≡ insideOf width from 0 false (drop from (now (src .entry))) ⌝ }
+// The place in a row of the next run's colour.
+fn place_of(black: bool, filled: u16) -> Place
+    ensures { λ r. ⌜ r ≡ placeOf black filled ⌝ }
 {
-    let mut at = from;
-    let mut filled: u32 = 0;
-    let last = last_eight(src.len());
-    while at < last {
-        let end = filled + sum_of_eight(src, at);
-        if (width as u32) <= end {
-            return Inside {
-                at: at,
-                filled: filled as u16,
-                black: false,
+    if black {
+        Place::Black(filled)
+    } else {
+        Place::White(filled)
+    }
+}
+
+impl Place {
+    fn is_finished(self) -> bool
+        ensures { λ r. ⌜ r ≡ isFinished self ⌝ }
+    {
+        match self {
+            Place::Count => false,
+            Place::White(_) => false,
+            Place::Black(_) => false,
+            Place::Finished => true,
+        }
+    }
+
+    fn is_at_run(self) -> bool
+        ensures { λ r. ⌜ r ≡ isAtRun self ⌝ }
+    {
+        match self {
+            Place::Count => false,
+            Place::White(_) => true,
+            Place::Black(_) => true,
+            Place::Finished => false,
+        }
+    }
+
+    fn is_black(self) -> bool
+        ensures { λ r. ⌜ r ≡ isBlack self ⌝ }
+    {
+        match self {
+            Place::Count => false,
+            Place::White(_) => false,
+            Place::Black(_) => true,
+            Place::Finished => false,
+        }
+    }
+
+    fn filled(self) -> u16
+        ensures { λ r. ⌜ r ≡ filledAt self ⌝ }
+    {
+        match self {
+            Place::Count => 0,
+            Place::White(f) => f,
+            Place::Black(f) => f,
+            Place::Finished => 0,
+        }
+    }
+}
+
+impl Reader {
+    // At the first row's repeat count.
+    pub fn start() -> Reader
+        ensures { λ r. ⌜ r ≡ start ⌝ }
+    {
+        Reader {
+            row: 0,
+            repeat: 0,
+            at: Place::Count,
+        }
+    }
+
+    // At a run of its row.
+    fn at_run(self, black: bool, filled: u16) -> Reader
+        ensures { λ r. ⌜ r ≡ atRun self black filled ⌝ }
+    {
+        Reader {
+            row: self.row,
+            repeat: self.repeat,
+            at: place_of(black, filled),
+        }
+    }
+
+    // A whole row: the next row's count, or finished.
+    fn end_row(self, height: u16) -> Reader
+        ensures { λ r. ⌜ r ≡ endRow height self ⌝ }
+    {
+        let next = (self.row as u32) + 1 + (self.repeat as u32);
+        if (height as u32) <= next {
+            Reader {
+                row: height,
+                repeat: 0,
+                at: Place::Finished,
+            }
+        } else {
+            Reader {
+                row: next as u16,
+                repeat: 0,
+                at: Place::Count,
+            }
+        }
+    }
+
+    // A run, black or not, where some dots of its row are filled: the next one has the other colour.
+    fn run_in(self, width: u16, height: u16, run: u8, black: bool, filled: u16) -> Stepped
+        ensures { λ r. ⌜ r ≡ runIn width height self run black filled ⌝ }
+    {
+        match fill(width, filled, run) {
+            Filled::Over => Stepped::Past {
+                row: self.row,
+                filled: filled,
+                run: run,
+            },
+            Filled::Whole => Stepped::Next(self.end_row(height)),
+            Filled::Part(n) => Stepped::Next(self.at_run(!black, n)),
+        }
+    }
+
+    // At a repeat count.
+    fn count(self, byte: u8) -> Reader
+        ensures { λ r. ⌜ r ≡ countRow self byte ⌝ }
+    {
+        Reader {
+            row: self.row,
+            repeat: byte,
+            at: Place::White(0),
+        }
+    }
+
+    // One byte of data. The colour is no branch, since whether a run ends the row does not depend on it.
+    pub fn step(self, width: u16, height: u16, byte: u8) -> Stepped
+        ensures { λ r. ⌜ r ≡ stepRun width height self byte ⌝ }
+    {
+        let place = self.at;
+        if place.is_at_run() {
+            return self.run_in(width, height, byte, place.is_black(), place.filled());
+        }
+        if place.is_finished() {
+            return Stepped::Next(self);
+        }
+        Stepped::Next(self.count(byte))
+    }
+
+    // Over a repeat count, unless it is the last byte.
+    fn pass_count(self, src: &[u8], from: usize) -> Passed
+        requires { ⌜ from < length (now src) ⌝ }
+        ensures { λ r. ⌜ ((w : ℕ) → Passes w (now (src .entry)) from self r) ⌝ }
+    {
+        let place = self.at;
+        if place.is_at_run() | place.is_finished() {
+            return Passed {
+                reader: self,
+                at: from,
             };
         }
-        filled = end;
-        at += 8;
-    }
-    Inside {
-        at: at,
-        filled: filled as u16,
-        black: false,
-    }
-}
-
-// Over the runs that leave a row unfinished.
-fn pass_inside(src: &[u8], from: usize, width: u16) -> Inside
-    ensures { λ r. ⌜ r ≡ insideOf width from 0 false (drop from (now (src .entry))) ⌝ }
-{
-    let start = pass_eights(src, from, width);
-    let mut at = start.at;
-    let mut filled: u32 = start.filled as u32;
-    let mut black = false;
-    while at < src.len() {
-        let end = filled + (src[at] as u32);
-        if (width as u32) <= end {
-            return Inside {
-                at: at,
-                filled: filled as u16,
-                black: black,
+        if src.len() - from < 2 {
+            return Passed {
+                reader: self,
+                at: from,
             };
         }
-        filled = end;
-        black = !black;
-        at += 1;
+        Passed {
+            reader: self.count(src[from]),
+            at: from + 1,
+        }
     }
-    Inside {
-        at: at,
-        filled: filled as u16,
-        black: black,
-    }
-}
 
-// The row whose runs start at from.
-pub fn pass_row(src: &[u8], from: usize, width: u16) -> Passed
-    ensures { λ r. ⌜ r ≡ passOf width (now (src .entry)) from ⌝ }
-{
-    let i = pass_inside(src, from, width);
-    let at = i.at;
-    if src.len() <= at {
-        return Passed::Cut(place_of(i.black, i.filled));
-    }
-    let run = src[at];
-    if (i.filled as u32) + (run as u32) == (width as u32) {
-        return Passed::Ends(at + 1);
-    }
-    Passed::Over {
-        filled: i.filled,
-        run: run,
-    }
-}
-
-// The data from place from on, at the repeat count of row first; used bytes were read before it.
-fn scan_rows(src: &[u8], from: usize, first: u16, used: usize, width: u16, height: u16) -> Scanned
-    requires { ⌜ used + length (now src) < 2 ^ 64 ⌝ }
-    ensures { λ r. ⌜ r ≡ scanFrom width height (used + from) (record { row = first; repeat = 0; at = Place.Count }) (drop from (now (src .entry))) ⌝ }
-{
-    let mut at = from;
-    let mut row = first;
-    while at < src.len() {
-        let repeat = src[at];
-        match pass_row(src, at + 1, width) {
-            Passed::Ends(next) => {
-                let below = (row as u32) + 1 + (repeat as u32);
-                if (height as u32) <= below {
-                    return Scanned::Complete(used + next);
-                }
-                row = below as u16;
-                at = next;
-            }
-            Passed::Cut(place) => {
-                return Scanned::Open(Reader {
-                    row: row,
-                    repeat: repeat,
-                    at: place,
-                });
-            }
-            Passed::Over { filled, run } => {
-                return Scanned::PastWidth {
-                    row: row,
-                    filled: filled,
-                    run: run,
+    // Over eight runs at a time that leave the row unfinished: their sum alone tells, several times as fast as run by run.
+    fn pass_eights(self, src: &[u8], from: usize, width: u16) -> Passed
+        requires { ⌜ from < length (now src) ⌝ }
+        ensures { λ r. ⌜ Passes width (now (src .entry)) from self r ⌝ }
+    {
+        let place = self.at;
+        if !place.is_at_run() {
+            return Passed {
+                reader: self,
+                at: from,
+            };
+        }
+        let black = place.is_black();
+        let last = before_eight(src.len());
+        let mut at = from;
+        let mut filled: u32 = place.filled() as u32;
+        while at < last {
+            let end = filled + sum_of_eight(src, at);
+            if (width as u32) <= end {
+                return Passed {
+                    reader: self.at_run(black, filled as u16),
+                    at: at,
                 };
             }
+            filled = end;
+            at += 8;
+        }
+        Passed {
+            reader: self.at_run(black, filled as u16),
+            at: at,
         }
     }
-    Scanned::Open(Reader {
-        row: row,
-        repeat: 0,
-        at: Place::Count,
-    })
-}
 
-// How a scan goes on at a place: at a row's start, in a row, or it is done.
-pub enum Going {
-    AtRow,
-    InRow,
-    Done,
-}
+    // The same run by run.
+    fn pass_ones(self, src: &[u8], from: usize, width: u16) -> Passed
+        requires { ⌜ from < length (now src) ⌝ }
+        ensures { λ r. ⌜ Passes width (now (src .entry)) from self r ⌝ }
+    {
+        let place = self.at;
+        if !place.is_at_run() {
+            return Passed {
+                reader: self,
+                at: from,
+            };
+        }
+        let last = src.len() - 1;
+        let mut at = from;
+        let mut filled: u32 = place.filled() as u32;
+        let mut black = place.is_black();
+        while at < last {
+            let end = filled + (src[at] as u32);
+            if (width as u32) <= end {
+                return Passed {
+                    reader: self.at_run(black, filled as u16),
+                    at: at,
+                };
+            }
+            filled = end;
+            black = !black;
+            at += 1;
+        }
+        Passed {
+            reader: self.at_run(black, filled as u16),
+            at: at,
+        }
+    }
 
-fn going_at(at: Place) -> Going
-    ensures { λ r. ⌜ r ≡ goingAt at ⌝ }
-{
-    match at {
-        Place::Count => Going::AtRow,
-        Place::White(_) => Going::InRow,
-        Place::Black(_) => Going::InRow,
-        Place::Finished => Going::Done,
+    // Over a count and the runs that leave the row unfinished. The byte that it stops at is left to `step`: a run that ends the row or passes
+    // the width, or the last byte.
+    fn pass_runs(self, src: &[u8], from: usize, width: u16) -> Passed
+        requires { ⌜ from < length (now src) ⌝ }
+        ensures { λ r. ⌜ Passes width (now (src .entry)) from self r ⌝ }
+    {
+        let c = self.pass_count(src, from);
+        let counted = c.reader;
+        let e = counted.pass_eights(src, c.at, width);
+        let s = e.reader;
+        s.pass_ones(src, e.at, width)
+    }
+
+    // The data after all of it is read, where so many bytes were used.
+    fn answer(self, used: usize) -> Scanned
+        ensures { λ r. ⌜ ((w h : ℕ) → r ≡ scanFrom w h used self []) ⌝ }
+    {
+        let at = self.at;
+        if at.is_finished() {
+            Scanned::Complete(used)
+        } else {
+            Scanned::Open(self)
+        }
     }
 }
 
-// The data from a state that an earlier part of used bytes left: the row in progress byte by byte, then row by row.
+// The data from a state that an earlier part of used bytes left.
 pub fn scan_from(from: Reader, used: usize, src: &[u8], width: u16, height: u16) -> Scanned
     requires { ⌜ used + length (now src) < 2 ^ 64 ⌝ }
     ensures { λ r. ⌜ r ≡ scanFrom width height used from (now (src .entry)) ⌝ }
@@ -315,17 +364,14 @@ pub fn scan_from(from: Reader, used: usize, src: &[u8], width: u16, height: u16)
     let mut s = from;
     let mut i = 0;
     while i < src.len() {
-        let at = s.at;
-        match going_at(at) {
-            Going::AtRow => {
-                return scan_rows(src, i, s.row, used, width, height);
-            }
-            Going::Done => {
-                return Scanned::Complete(used + i);
-            }
-            Going::InRow => {}
+        let place = s.at;
+        if place.is_finished() {
+            return Scanned::Complete(used + i);
         }
-        match step(s, width, height, src[i]) {
+        let p = s.pass_runs(src, i, width);
+        let at = p.at;
+        let passed = p.reader;
+        match passed.step(width, height, src[at]) {
             Stepped::Next(n) => {
                 s = n;
             }
@@ -333,20 +379,15 @@ pub fn scan_from(from: Reader, used: usize, src: &[u8], width: u16, height: u16)
                 return Scanned::PastWidth { row, filled, run };
             }
         }
-        i += 1;
+        i = at + 1;
     }
-    let at = s.at;
-    match going_at(at) {
-        Going::Done => Scanned::Complete(used + i),
-        Going::AtRow => Scanned::Open(s),
-        Going::InRow => Scanned::Open(s),
-    }
+    s.answer(used + i)
 }
 
 pub fn scan(src: &[u8], width: u16, height: u16) -> Scanned
     ensures { λ r. ⌜ r ≡ scanFrom width height 0 start (now (src .entry)) ⌝ }
 {
-    scan_rows(src, 0, 0, 0, width, height)
+    scan_from(Reader::start(), 0, src, width, height)
 }
 
 // The data in two parts, as if they were joined.

@@ -8,13 +8,13 @@ use native.Mathlib.Nat.{le-antisymm}
 use native.Mathlib.Omega.{arith}
 use Rattle.store.specs.Fonts.{Font, RisingFrom}
 use Rattle.choice.specs.Lists.{In}
-use Rattle.choice.specs.Steps.{chosen, firstNumber, choose, takesPart}
+use Rattle.choice.specs.Steps.{fontsLeft, firstNumber, choice, takesPart}
 use Rattle.choice.specs.Scores.{scoreOf}
 use Rattle.choice.specs.Right.{Keyed}
 use Rattle.choice.specs.declared.Request.{Request}
 use Rattle.choice.specs.declared.Chosen.the-variants.{Number, NoFont}
 use Rattle.choice.proofs.Least.{whether, not-both}
-use Rattle.choice.proofs.Steps.{Before, is-chosen}
+use Rattle.choice.proofs.Steps.{Before, is-left}
 
 module _ (r : Request) where
   pub same-number : (x y : Font) → Before r x y → Before r y x → x .number ≡ y .number
@@ -25,42 +25,42 @@ module _ (r : Request) where
       le-antisymm (hm .1 (km .0)) (km .1 (hm .0))
 
   -- what is left is one font
-  pub only-one : (l : List Font) → Keyed l → (x y : Font) → In x (chosen r l) → In y (chosen r l) → x ≡ y
+  pub only-one : (l : List Font) → Keyed l → (x y : Font) → In x (fontsLeft r l) → In y (fontsLeft r l) → x ≡ y
   only-one l kd x y mx my =
-      kd x y (is-chosen r l .base x mx .0) (is-chosen r l .base y my .0)
-      (same-number x y (is-chosen r l .low x y mx (is-chosen r l .base y my)) (is-chosen r l .low y x my (is-chosen r l .base x mx)))
+      kd x y (is-left r l .base x mx .0) (is-left r l .base y my .0)
+      (same-number x y (is-left r l .low x y mx (is-left r l .base y my)) (is-left r l .low y x my (is-left r l .base x mx)))
 
-  pub choose-is : (l : List Font) → Keyed l → (c : Font) → In c (chosen r l) → choose r l ≡ Number (c .number)
-  unfolding choose firstNumber
-  choose-is l kd c m = go (chosen r l) (λ x mx. only-one l kd x c mx m) m
+  pub choice-is : (l : List Font) → Keyed l → (c : Font) → In c (fontsLeft r l) → choice r l ≡ Number (c .number)
+  unfolding choice firstNumber
+  choice-is l kd c m = go (fontsLeft r l) (λ x mx. only-one l kd x c mx m) m
     where
       go : (k : List Font) → ((x : Font) → In x k → x ≡ c) → In c k → firstNumber k ≡ Number (c .number)
       go [] h mc = absurd mc
       go (f ∷ k) h mc = ap (λ (x : Font). Number (x .number)) (h f (inl refl))
 
   -- either none takes part, and the answer is a refusal, or a font is left
-  pub either : (l : List Font) → ((choose r l ≡ NoFont) × ((x : Font) → In x l → takesPart r x ≡ false)) ⊎ ((c : Font) × In c (chosen r l))
-  unfolding choose firstNumber
-  either l = go (chosen r l) (is-chosen r l .some)
+  pub either : (l : List Font) → ((choice r l ≡ NoFont) × ((x : Font) → In x l → takesPart r x ≡ false)) ⊎ ((c : Font) × In c (fontsLeft r l))
+  unfolding choice firstNumber
+  either l = go (fontsLeft r l) (is-left r l .some)
     where
       go : (k : List Font) → ((x : Font) → In x l × (takesPart r x ≡ true) → (y : Font) × In y k)
           → ((firstNumber k ≡ NoFont) × ((x : Font) → In x l → takesPart r x ≡ false)) ⊎ ((c : Font) × In c k)
       go [] s = inl (refl, λ x m. ⊎-elim (λ t. absurd (s x (m, t) .1)) (λ e. e) (whether (takesPart r x)))
       go (f ∷ k) s = inr (f, inl refl)
 
-  pub choose-none : (l : List Font) → ((x : Font) → In x l → takesPart r x ≡ false) → choose r l ≡ NoFont
-  choose-none l h =
+  pub choice-none : (l : List Font) → ((x : Font) → In x l → takesPart r x ≡ false) → choice r l ≡ NoFont
+  choice-none l h =
       ⊎-elim (λ a. a .0)
-      (λ c. absurd (not-both (takesPart r (c .0)) (is-chosen r l .base (c .0) (c .1) .1) (h (c .0) (is-chosen r l .base (c .0) (c .1) .0)))) (either l)
+      (λ c. absurd (not-both (takesPart r (c .0)) (is-left r l .base (c .0) (c .1) .1) (h (c .0) (is-left r l .base (c .0) (c .1) .0)))) (either l)
 
   -- of fewer fonts, among which is the one chosen before, the choice is the same
-  pub stands : (l k : List Font) → Keyed l → ((x : Font) → In x k → In x l) → ((c : Font) → In c (chosen r l) → In c k) → choose r k ≡ choose r l
+  pub stands : (l k : List Font) → Keyed l → ((x : Font) → In x k → In x l) → ((c : Font) → In c (fontsLeft r l) → In c k) → choice r k ≡ choice r l
   stands l k kd sub has =
-      ⊎-elim (λ a. choose-none k (λ x m. a .1 x (sub x m)) ∙ sym (a .0))
+      ⊎-elim (λ a. choice-none k (λ x m. a .1 x (sub x m)) ∙ sym (a .0))
       (λ c.
-      choose-is k (λ x y mx my. kd x y (sub x mx) (sub y my)) (c .0)
-      (is-chosen r k .back (c .0) (has (c .0) (c .1), is-chosen r l .base (c .0) (c .1) .1)
-      (λ y m. is-chosen r l .low (c .0) y (c .1) (sub y (m .0), m .1))) ∙ sym (choose-is l kd (c .0) (c .1)))
+      choice-is k (λ x y mx my. kd x y (sub x mx) (sub y my)) (c .0)
+      (is-left r k .back (c .0) (has (c .0) (c .1), is-left r l .base (c .0) (c .1) .1)
+      (λ y m. is-left r l .low (c .0) y (c .1) (sub y (m .0), m .1))) ∙ sym (choice-is l kd (c .0) (c .1)))
       (either l)
 
 -- fonts by rising number: no two have one number

@@ -1,4 +1,4 @@
--- The least of a list by a relation, and what the steps are made of: keep, least, greatest, orElse, one after another.
+-- The least of a list by a relation, and what the steps are made of: having, least, greatest, orElse, one after another.
 -- Assumes nothing.
 use Prim.Native.Nat.{ℕ, _+_, _-_, _*_, _≤_, _<_}
 use mathlib.Core.Path.{_≡_, refl, sym, ap, _∙_}
@@ -9,8 +9,8 @@ use native.Mathlib.Nat.{le-refl, le-trans, mul-le-mul-right}
 use native.Mathlib.Omega.{arith}
 use lib.Dec.{leb}
 use borrow.Author.Tests.{leb-true, leb-false, le-leb}
-use Rattle.choice.specs.Lists.{In, keep, every, orElse, prefer, least, greatest}
-use Rattle.choice.specs.Scores.{miss}
+use Rattle.choice.specs.Lists.{In, having, every, orElse, prefer, least, greatest}
+use Rattle.choice.specs.Scores.{miss, digit}
 
 -- a Bool with the equation that says which it is
 pub whether : (b : Bool) → (b ≡ true) ⊎ (b ≡ false)
@@ -30,8 +30,12 @@ or-right false b e = e
 pub or-rest : (a b : Bool) → a ≡ false → (a || b) ≡ true → b ≡ true
 or-rest a b e h = rw e at h
 
+pub miss-bound : (b : Bool) → miss b < 2
+miss-bound true = omega arith
+miss-bound false = omega arith
+
 -- the order of two numbers of two digits, the high one first
-joined : (a b c d k : ℕ) → c < k → d < k → ((a ≤ b) × (b ≤ a → c ≤ d)) ↔ (a * k + c ≤ b * k + d)
+joined : (a b c d k : ℕ) → c < k → d < k → ((a ≤ b) × (b ≤ a → c ≤ d)) ↔ (digit k a c ≤ digit k b d)
 joined a b c d k hc hd = (to, fro)
   where
     -- a higher high digit outweighs the low ones
@@ -56,22 +60,22 @@ module _ {A : Type 0} where
   pub carry : (l : List A) {x y : A} → x ≡ y → In x l → In y l
   carry l e m = rw e at m
 
-  pub in-keep : (p : A → Bool) (l : List A) (x : A) → In x l → p x ≡ true → In x (keep p l)
-  unfolding keep
-  in-keep p [] x m t = m
-  in-keep p (y ∷ l) x (inl e) t = rw (← e) (rw t (inl refl))
-  in-keep p (y ∷ l) x (inr m) t = go (p y) (in-keep p l x m t)
+  pub in-having : (p : A → Bool) (l : List A) (x : A) → In x l → p x ≡ true → In x (having p l)
+  unfolding having
+  in-having p [] x m t = m
+  in-having p (y ∷ l) x (inl e) t = rw (← e) (rw t (inl refl))
+  in-having p (y ∷ l) x (inr m) t = go (p y) (in-having p l x m t)
     where
-      go : (b : Bool) → In x (keep p l) → In x (cond b (y ∷ keep p l) (keep p l))
+      go : (b : Bool) → In x (having p l) → In x (cond b (y ∷ having p l) (having p l))
       go true h = inr h
       go false h = h
 
-  pub keep-out : (p : A → Bool) (l : List A) (x : A) → In x (keep p l) → In x l × (p x ≡ true)
-  unfolding keep
-  keep-out p [] x m = absurd m
-  keep-out p (y ∷ l) x m = go (p y) refl (keep-out p l x) m
+  pub having-out : (p : A → Bool) (l : List A) (x : A) → In x (having p l) → In x l × (p x ≡ true)
+  unfolding having
+  having-out p [] x m = absurd m
+  having-out p (y ∷ l) x m = go (p y) refl (having-out p l x) m
     where
-      go : (b : Bool) → p y ≡ b → (In x (keep p l) → In x l × (p x ≡ true)) → In x (cond b (y ∷ keep p l) (keep p l)) → In x (y ∷ l) × (p x ≡ true)
+      go : (b : Bool) → p y ≡ b → (In x (having p l) → In x l × (p x ≡ true)) → In x (cond b (y ∷ having p l) (having p l)) → In x (y ∷ l) × (p x ≡ true)
       go true e f (inl i) = (inl i, ap p i ∙ e)
       go true e f (inr m′) = (inr (f m′ .0), f m′ .1)
       go false e f m′ = (inr (f m′ .0), f m′ .1)
@@ -129,18 +133,18 @@ module _ {A : Type 0} where
 
   -- two steps by numbers are one by the joined number, if the second number is below the base k
   pub is-join : {P : A → Type 0} {m n : List A} (s t : A → ℕ) (k : ℕ) → ((x : A) → t x < k) → Is P (By s) m → Is (λ x. In x m) (By t) n
-      → Is P (By (λ x. s x * k + t x)) n
+      → Is P (By (λ x. digit k (s x) (t x))) n
   is-join s t k b i j =
       is-same (λ x. (λ p. p, λ p. p)) (λ x y _ _. joined (s x) (s y) (t x) (t y) k (b x) (b y)) (is-then (λ x y z h h′. le-trans h h′) i j)
 
   -- those that pass a test
-  pub is-keep : (p : A → Bool) (l : List A) → Is (λ x. In x l × (p x ≡ true)) (By (λ x. 0)) (keep p l)
-  is-keep p l =
+  pub is-having : (p : A → Bool) (l : List A) → Is (λ x. In x l × (p x ≡ true)) (By (λ x. 0)) (having p l)
+  is-having p l =
       record {
-        base = keep-out p l;
+        base = having-out p l;
         low = λ x y m q. le-refl 0;
-        back = λ x q h. in-keep p l x (q .0) (q .1);
-        some = λ x q. (x, in-keep p l x (q .0) (q .1));
+        back = λ x q h. in-having p l x (q .0) (q .1);
+        some = λ x q. (x, in-having p l x (q .0) (q .1));
       }
 
   pub is-all : (l : List A) → Is (λ x. In x l) (By (λ x. 0)) l
@@ -161,18 +165,18 @@ module _ {A : Type 0} where
             (λ xy. (f .0, inr (f .1), λ z. ⊎-elim (λ e. rw e (total x (f .0) xy)) (λ m. f .2 z m)))
             (whether (r x (f .0)))
 
-    pub is-first : (l : List A) → Is (λ x. In x l) (λ x y. r x y ≡ true) (keep (λ x. every (r x) l) l)
+    pub is-first : (l : List A) → Is (λ x. In x l) (λ x y. r x y ≡ true) (having (λ x. every (r x) l) l)
     is-first l =
         record {
-          base = λ x m. keep-out (λ x. every (r x) l) l x m .0;
-          low = λ x y m q. every-at (r x) l (keep-out (λ x. every (r x) l) l x m .1) y q;
-          back = λ x m h. in-keep (λ x. every (r x) l) l x m (at-every (r x) l h);
+          base = λ x m. having-out (λ x. every (r x) l) l x m .0;
+          low = λ x y m q. every-at (r x) l (having-out (λ x. every (r x) l) l x m .1) y q;
+          back = λ x m h. in-having (λ x. every (r x) l) l x m (at-every (r x) l h);
           some = λ x m. one l x m;
         }
       where
-        one : (l : List A) (x : A) → In x l → (y : A) × In y (keep (λ x. every (r x) l) l)
+        one : (l : List A) (x : A) → In x l → (y : A) × In y (having (λ x. every (r x) l) l)
         one [] x m = absurd m
-        one (w ∷ l′) x m = (first w l′ .0, in-keep (λ x. every (r x) (w ∷ l′)) (w ∷ l′) (first w l′ .0) (first w l′ .1) (at-every (r (first w l′ .0)) (w ∷ l′) (first w l′ .2)))
+        one (w ∷ l′) x m = (first w l′ .0, in-having (λ x. every (r x) (w ∷ l′)) (w ∷ l′) (first w l′ .0) (first w l′ .1) (at-every (r (first w l′ .0)) (w ∷ l′) (first w l′ .2)))
 
   -- the least and the greatest, by numbers t that stand as what is compared does
   module _ {K : Type 0} (le : K → K → Bool) (s : A → K) (t : A → ℕ) (as-t : (x y : A) → le (s x) (s y) ≡ leb (t x) (t y)) where
@@ -198,13 +202,13 @@ module _ {A : Type 0} where
         (is-first (λ x y. le (s y) (s x)) (λ x. of-t (le-refl (t x))) (λ x y. le-total y x) (λ x y z h k. of-t (le-trans (to-t k) (to-t h))) l)
 
     -- of those that pass a test
-    pub least-of : (p : A → Bool) (l : List A) → Is (λ x. In x l × (p x ≡ true)) (By t) (least le s (keep p l))
-    least-of p l = is-same (λ x. (keep-out p l x, λ w. in-keep p l x (w .0) (w .1))) (λ x y _ _. (λ h. h, λ h. h)) (is-least (keep p l))
+    pub least-of : (p : A → Bool) (l : List A) → Is (λ x. In x l × (p x ≡ true)) (By t) (least le s (having p l))
+    least-of p l = is-same (λ x. (having-out p l x, λ w. in-having p l x (w .0) (w .1))) (λ x y _ _. (λ h. h, λ h. h)) (is-least (having p l))
 
     pub greatest-of :
-        (k : ℕ) → ((x : A) → t x ≤ k) → (p : A → Bool) (l : List A) → Is (λ x. In x l × (p x ≡ true)) (By (λ x. k - t x)) (greatest le s (keep p l))
+        (k : ℕ) → ((x : A) → t x ≤ k) → (p : A → Bool) (l : List A) → Is (λ x. In x l × (p x ≡ true)) (By (λ x. k - t x)) (greatest le s (having p l))
     greatest-of k b p l =
-        is-same (λ x. (keep-out p l x, λ w. in-keep p l x (w .0) (w .1))) (λ x y _ _. (λ h. h, λ h. h)) (is-greatest k b (keep p l))
+        is-same (λ x. (having-out p l x, λ w. in-having p l x (w .0) (w .1))) (λ x y _ _. (λ h. h, λ h. h)) (is-greatest k b (having p l))
 
   -- the first list or, where nothing is in it, the second: what passes p comes before what does not
   module _ (l : List A) (p q : A → Bool) (s t : A → ℕ) (k : ℕ) (b : (x : A) → s x < k) where
@@ -250,8 +254,12 @@ module _ {A : Type 0} where
   unfolding prefer
   is-prefer p l =
       is-same (λ x. (λ w. w .0, λ m. (m, or-right (p x) true refl))) (λ x y _ _. (λ h. h, λ h. h))
-      (is-orElse l p (λ x. true) (λ x. 0) (λ x. 0) 1 (λ x. omega arith) (is-keep p l)
+      (is-orElse l p (λ x. true) (λ x. 0) (λ x. 0) 1 (λ x. omega arith) (is-having p l)
       (is-same (λ x. (λ m. (m, refl), λ w. w .0)) (λ x y _ _. (λ h. h, λ h. h)) (is-all l)))
+
+  -- such a step after another is one digit more
+  pub then-prefer : {P : A → Type 0} {s : A → ℕ} {m : List A} (p : A → Bool) → Is P (By s) m → Is P (By (λ x. digit 2 (s x) (miss (p x)))) (prefer p m)
+  then-prefer {s = s} {m = m} p i = is-join s (λ x. miss (p x)) 2 (λ x. miss-bound (p x)) i (is-prefer p m)
 
   -- another number that is the same for each
   pub is-score : {P : A → Type 0} {s : A → ℕ} {m : List A} (t : A → ℕ) → ((x : A) → P x → t x ≡ s x) → Is P (By s) m → Is P (By t) m

@@ -1,5 +1,6 @@
 pub mod Least
 pub mod Signed
+pub mod Fields
 pub mod Steps
 pub mod Choice
 pub mod Single

@@ -9,16 +9,15 @@ use lib.Dec.{eqb, ltb}
 use borrow.Author.Tests.{ltb-true, ltb-false, eqb-true, eqb-false, eq-eqb, ne-eqb, le-ltb}
 use Rattle.store.specs.Fonts.{Font}
 use Rattle.choice.specs.Lists.{In}
-use Rattle.choice.specs.Fields.{word, symbolSet}
-use Rattle.choice.specs.Steps.{roman8, hasSet, hasSpacing, chosen, choose, takesPart}
-use Rattle.choice.specs.Scores.{majorOf, minorOf, scoreOf, before, better, noFont, none, weighed, pass, answerOf}
+use Rattle.choice.specs.Steps.{hasSet, hasSpacing, fontsLeft, choice, takesPart}
+use Rattle.choice.specs.Scores.{majorOf, minorOf, scoreOf, comesBefore, better, noMajor, noScore, weighed, pass, scoreAnswer}
 use Rattle.choice.specs.Right.{Keyed}
 use Rattle.choice.specs.declared.Request.{Request}
 use Rattle.choice.specs.declared.Score.{Score}
 use Rattle.choice.specs.declared.Chosen.the-variants.{Number}
-use Rattle.choice.proofs.Least.{whether, carry, not-both}
-use Rattle.choice.proofs.Steps.{miss-bound, pitch-score-bound, Ahead, Before, is-chosen}
-use Rattle.choice.proofs.Choice.{same-number, choose-is, choose-none, either, stands}
+use Rattle.choice.proofs.Least.{whether, carry, not-both, miss-bound}
+use Rattle.choice.proofs.Steps.{pitch-score-bound, Ahead, Before, is-left}
+use Rattle.choice.proofs.Choice.{same-number, choice-is, choice-none, either, stands}
 
 -- a test that decides by the numbers a and b and, where they are level, by the test that follows
 module _ (a b : ℕ) (rest : Bool) {R : Type 0} where
@@ -45,31 +44,31 @@ which b s =
     ⊎-elim
     (λ e. inl (rw e, decided _ _ _ e (λ u. decided _ _ _ u (λ v. omega (arith, ltb-true (s .number) (b .number) v)))))
     (λ e. inr (rw e, undecided _ _ _ e (λ u. undecided _ _ _ u (λ v. ltb-false (s .number) (b .number) v))))
-    (whether (before s b))
+    (whether (comesBefore s b))
 
 -- a score that a higher number of steps 1 to 3 puts behind needs no other number
 behind : (b s : Score) → b .major < s .major → better b s ≡ b
 unfolding better
 behind b s h = simp (le-ltb (s .major) (b .major) (omega arith), ne-eqb (s .major) (b .major) (λ e. omega arith))
 
-major-bound : (r : Request) (f : Font) → majorOf r f < noFont
+major-bound : (r : Request) (f : Font) → majorOf r f < noMajor
 unfolding majorOf
 major-bound r f = omega (arith, miss-bound (hasSet (r .«symbol_set») f), miss-bound (hasSpacing r f), pitch-score-bound r f)
 
 module _ (r : Request) where
   -- the best so far is the score of one of the fonts, or of none
-  data Held (b : Score) : List Font → Type 0 where
-    nothing : b .major ≡ noFont → Held b []
-    some : (f : Font) → takesPart r f ≡ true → b ≡ scoreOf r f → Held b (f ∷ [])
+  data BestOf (b : Score) : List Font → Type 0 where
+    nothing : b .major ≡ noMajor → BestOf b []
+    some : (f : Font) → takesPart r f ≡ true → b ≡ scoreOf r f → BestOf b (f ∷ [])
 
-  Next : Score → List Font → List Font → Type 0
-  Next b l k = (h : List Font) × Held b h × Keyed (h ++ l) × (choose r (h ++ l) ≡ choose r k)
+  Carried : Score → List Font → List Font → Type 0
+  Carried b l k = (h : List Font) × BestOf b h × Keyed (h ++ l) × (choice r (h ++ l) ≡ choice r k)
 
   -- a font that takes no part may go
   passed-over : (h : List Font) (f : Font) (l : List Font) → takesPart r f ≡ false → Keyed (h ++ f ∷ l)
-      → Keyed (h ++ l) × (choose r (h ++ l) ≡ choose r (h ++ f ∷ l))
+      → Keyed (h ++ l) × (choice r (h ++ l) ≡ choice r (h ++ f ∷ l))
   passed-over h f l t kd =
-      (λ x y mx my. kd x y (sub h x mx) (sub h y my), stands r (h ++ f ∷ l) (h ++ l) kd (sub h) (λ c m. has h c (is-chosen r (h ++ f ∷ l) .base c m .1) (is-chosen r (h ++ f ∷ l) .base c m .0)))
+      (λ x y mx my. kd x y (sub h x mx) (sub h y my), stands r (h ++ f ∷ l) (h ++ l) kd (sub h) (λ c m. has h c (is-left r (h ++ f ∷ l) .base c m .1) (is-left r (h ++ f ∷ l) .base c m .0)))
     where
       sub : (h : List Font) (x : Font) → In x (h ++ l) → In x (h ++ f ∷ l)
       sub [] x m = inr m
@@ -82,9 +81,9 @@ module _ (r : Request) where
       has (g ∷ h) c p (inl e) = inl e
       has (g ∷ h) c p (inr m) = inr (has h c p m)
 
-  compared : (b : Score) (h : List Font) (f : Font) (l : List Font) → takesPart r f ≡ true → Held b h → Keyed (h ++ f ∷ l)
-      → Next (better b (scoreOf r f)) l (h ++ f ∷ l)
-  unfolding Next scoreOf Before
+  compared : (b : Score) (h : List Font) (f : Font) (l : List Font) → takesPart r f ≡ true → BestOf b h → Keyed (h ++ f ∷ l)
+      → Carried (better b (scoreOf r f)) l (h ++ f ∷ l)
+  unfolding Carried scoreOf Before
   compared b [] f l t (nothing e) kd =
       ⊎-elim (λ w. (f ∷ [], some f t (w .0), kd, refl)) (λ w. absurd (omega (arith, w .1 .0, major-bound r f))) (which b (scoreOf r f))
   compared b (g ∷ []) f l t (some _ u e) kd = ⊎-elim new old (which b (scoreOf r f))
@@ -96,54 +95,50 @@ module _ (r : Request) where
       level : Before r g f → Before r f g → g ≡ f
       level h k = kd g f (inl refl) (inr (inl refl)) (same-number r g f h k)
 
-      new : (better b (scoreOf r f) ≡ scoreOf r f) × Ahead (scoreOf r f) b → Next (better b (scoreOf r f)) l (g ∷ f ∷ l)
+      new : (better b (scoreOf r f) ≡ scoreOf r f) × Ahead (scoreOf r f) b → Carried (better b (scoreOf r f)) l (g ∷ f ∷ l)
       new w = (
         f ∷ [],
         some f t (w .0),
         λ x y mx my. kd x y (inr mx) (inr my),
         stands r all (f ∷ l) kd (λ x m. inr m)
-            (λ c m. ⊎-elim (λ i. inl (i ∙ level (is-chosen r all .low g f (carry (chosen r all) i m) (inr (inl refl), t)) (rw e at (w .1)))) (λ n. n) (is-chosen r all .base c m .0)),
+            (λ c m. ⊎-elim (λ i. inl (i ∙ level (is-left r all .low g f (carry (fontsLeft r all) i m) (inr (inl refl), t)) (rw e at (w .1)))) (λ n. n) (is-left r all .base c m .0)),
       )
 
-      old : (better b (scoreOf r f) ≡ b) × Ahead b (scoreOf r f) → Next (better b (scoreOf r f)) l (g ∷ f ∷ l)
+      old : (better b (scoreOf r f) ≡ b) × Ahead b (scoreOf r f) → Carried (better b (scoreOf r f)) l (g ∷ f ∷ l)
       old w = (
         g ∷ [],
         some g u (w .0 ∙ e),
         λ x y mx my. kd x y (⊎-elim inl (λ n. inr (inr n)) mx) (⊎-elim inl (λ n. inr (inr n)) my),
         stands r all (g ∷ l) kd (λ x. ⊎-elim inl (λ n. inr (inr n)))
             (λ c m. ⊎-elim (λ i. inl i)
-            (⊎-elim (λ i. inl (i ∙ sym (level (rw e at (w .1)) (is-chosen r all .low f g (carry (chosen r all) i m) (inl refl, u))))) (λ n. inr n))
-            (is-chosen r all .base c m .0)),
+            (⊎-elim (λ i. inl (i ∙ sym (level (rw e at (w .1)) (is-left r all .low f g (carry (fontsLeft r all) i m) (inl refl, u))))) (λ n. inr n))
+            (is-left r all .base c m .0)),
       )
 
-  one-more : (b : Score) (h : List Font) (f : Font) (l : List Font) → Held b h → Keyed (h ++ f ∷ l) → Next (weighed r b f) l (h ++ f ∷ l)
-  unfolding weighed Next
+  one-more : (b : Score) (h : List Font) (f : Font) (l : List Font) → BestOf b h → Keyed (h ++ f ∷ l) → Carried (weighed r b f) l (h ++ f ∷ l)
+  unfolding weighed Carried
   one-more b h f l hb kd =
       ⊎-elim (λ t. rw t (compared b h f l t hb kd)) (λ t. rw t (h, hb, passed-over h f l t kd .0, passed-over h f l t kd .1)) (whether (takesPart r f))
 
-  passes : (l : List Font) (b : Score) (h : List Font) → Held b h → Keyed (h ++ l) → answerOf (pass r b l) ≡ choose r (h ++ l)
-  unfolding pass scoreOf Next
-  passes [] b [] (nothing e) kd = simp (eq-eqb _ _ e) (sym (choose-none r [] (λ x m. absurd m)))
-  passes [] b (f ∷ []) (some _ t e) kd = rw e (simp (ne-eqb (majorOf r f) noFont (λ z. omega (arith, major-bound r f))) (sym one))
+  passes : (l : List Font) (b : Score) (h : List Font) → BestOf b h → Keyed (h ++ l) → scoreAnswer (pass r b l) ≡ choice r (h ++ l)
+  unfolding pass scoreOf Carried
+  passes [] b [] (nothing e) kd = simp (eq-eqb _ _ e) (sym (choice-none r [] (λ x m. absurd m)))
+  passes [] b (f ∷ []) (some _ t e) kd = rw e (simp (ne-eqb (majorOf r f) noMajor (λ z. omega (arith, major-bound r f))) (sym one))
     where
-      one : choose r (f ∷ []) ≡ Number (f .number)
+      one : choice r (f ∷ []) ≡ Number (f .number)
       one =
           ⊎-elim (λ a. absurd (not-both (takesPart r f) t (a .1 f (inl refl))))
-          (λ c. ⊎-elim (λ i. choose-is r (f ∷ []) kd (c .0) (c .1) ∙ ap (λ (x : Font). Number (x .number)) i) (λ n. absurd n) (is-chosen r (f ∷ []) .base (c .0) (c .1) .0))
+          (λ c. ⊎-elim (λ i. choice-is r (f ∷ []) kd (c .0) (c .1) ∙ ap (λ (x : Font). Number (x .number)) i) (λ n. absurd n) (is-left r (f ∷ []) .base (c .0) (c .1) .0))
           (either r (f ∷ []))
   passes (f ∷ l) b h hb kd =
       let n = one-more b h f l hb kd in
       passes l (weighed r b f) (n .0) (n .1) (n .2) ∙ n .3
 
   -- the pass over all the fonts gives the choice
-  pub once : (l : List Font) → Keyed l → answerOf (pass r none l) ≡ choose r l
-  once l kd = passes l none [] (nothing refl) kd
+  pub once : (l : List Font) → Keyed l → scoreAnswer (pass r noScore l) ≡ choice r l
+  once l kd = passes l noScore [] (nothing refl) kd
 
--- who takes part, and one font more, from what the code's calls give
-pub part : (r : Request) (f : Font) (set : ℕ) → set ≡ word (f .kept) 14 15 → (eqb set (r .«symbol_set») || eqb set 277) ≡ takesPart r f
-unfolding takesPart hasSet symbolSet roman8
-part r f set e = rw e
-
+-- one font more, from what the code's calls give
 module _ (r : Request) (b : Score) (f : Font) where
   pub weighed-out : takesPart r f ≡ false → b ≡ weighed r b f
   unfolding weighed

@@ -1,24 +1,16 @@
 -- Signed numbers by unsigned comparisons. Assumes nothing.
-use Prim.Native.Nat.{ℕ, zero, suc, _+_, _-_, _/_, _%_, _^_, _≤_, _<_}
+use Prim.Native.Nat.{ℕ, suc, _+_, _-_, _/_, _%_, _^_, _≤_, _<_}
 use mathlib.Core.Path.{_≡_, refl, sym, ap, _∙_}
-use mathlib.Core.Bool.{Bool, true, false, not, _&&_, _||_}
+use mathlib.Core.Bool.{Bool, true, false, not, _||_}
 use native.Mathlib.Omega.{arith}
 use native.Mathlib.Nat.{mod-eq-of-lt, mod-eq-sub-mod}
 use borrow.Author.Tests.{le-leb, lt-leb, lt-ltb, le-ltb, leb-true, leb-false, ltb-true, ltb-false}
-use lib.Dec.{leb, ltb, leb·zero, leb·suc-suc}
-use lib.IntN.{ℤ, pos, negsuc, subℕ}
+use lib.Dec.{leb, ltb}
+use lib.IntN.{ℤ, pos, negsuc}
 use lib.Signed.{leZ, ltZ}
-use Rattle.choice.specs.Fields.{signed}
-
--- two tests of which each implies the other
-leb-iff : (a b c d : ℕ) → (a ≤ b → c ≤ d) → (c ≤ d → a ≤ b) → leb a b ≡ leb c d
-leb-iff a b c d f g = go (leb a b) refl (leb c d) refl
-  where
-    go : (s : Bool) → leb a b ≡ s → (t : Bool) → leb c d ≡ t → s ≡ t
-    go true e true q = refl
-    go true e false q = sym (le-leb c d (f (leb-true a b e))) ∙ q
-    go false e true q = sym e ∙ le-leb a b (g (leb-true c d q))
-    go false e false q = refl
+use Rattle.blocks.specs.Field.{signed, signedWithin}
+use Rattle.blocks.proofs.Signed.{leb-iff, signed-within}
+use Rattle.choice.specs.Request.{highestWeight}
 
 ltb-not : (a b : ℕ) → ltb a b ≡ not (leb b a)
 ltb-not a b = go (leb b a) refl
@@ -103,37 +95,8 @@ at-least-lowest h w n d hn = go (ltb n (2 ^ w / 2)) refl
 pub raised-byte : (n : ℕ) → n < 256 → Raised 128 8 n
 raised-byte n k = raised 128 8 n (omega arith) k (at-least-lowest 128 8 n refl k)
 
-or-false : (b : Bool) → (b || false) ≡ b
-or-false true = refl
-or-false false = refl
-
-and-true : (b : Bool) → (b && true) ≡ b
-and-true true = refl
-and-true false = refl
-
--- -m is at most n
-below-pos : (m n : ℕ) → leZ (subℕ 0 m) (pos n) ≡ true
-below-pos zero n = leb·zero n
-below-pos (suc m) n = simp (leb·suc-suc 0 m, leb·zero m)
-
--- -m is at most -(k + 1)
-below-neg : (m k : ℕ) → leZ (subℕ 0 m) (negsuc k) ≡ ltb k m
-below-neg zero k = simp (le-ltb k 0 (omega arith))
-below-neg (suc m) k = simp (leb·suc-suc 0 m, leb·zero m) (leb-iff k (suc m - 1) (suc k) (suc m) (λ h. omega arith) (λ h. omega arith))
-
--- a number of w bits is -m up to m exactly if it is at most m or at least 2 ^ w - m
-pub within : (w m n : ℕ) → m < 2 ^ w / 2 → n < 2 ^ w → (leZ (subℕ 0 m) (signed w n) && leZ (signed w n) (pos m)) ≡ (leb n m || leb (2 ^ w - m) n)
-within w m n hm hn = go (ltb n (2 ^ w / 2)) refl
-  where
-    go : (s : Bool) → ltb n (2 ^ w / 2) ≡ s → (leZ (subℕ 0 m) (signed w n) && leZ (signed w n) (pos m)) ≡ (leb n m || leb (2 ^ w - m) n)
-    go true e =
-        let h : n < 2 ^ w / 2 = ltb-true _ _ e in
-        simp (signed-pos w n h, below-pos m n, lt-leb (2 ^ w - m) n (omega arith), or-false (leb n m))
-    go false e =
-        let h : 2 ^ w / 2 ≤ n = ltb-false _ _ e in
-        simp (signed-neg w n h hn, below-neg m (2 ^ w - suc n), lt-leb n m (omega arith), and-true)
-        (leb-iff (suc (2 ^ w - suc n)) m (2 ^ w - m) n (λ k. omega arith) (λ k. omega arith))
-
 -- a weight that a request may ask for
-pub raised-request : (n : ℕ) → n < 4294967296 → (leb n 7 || leb 4294967289 n) ≡ true → Raised 128 32 n
-raised-request n k t = raised 128 32 n (omega arith) k (at-least 128 32 7 n (omega arith) (omega arith) k t)
+pub raised-request : (n : ℕ) → n < 2 ^ 32 → signedWithin 32 highestWeight n ≡ true → Raised 128 32 n
+raised-request n k t =
+    raised 128 32 n (omega arith) k
+    (at-least 128 32 highestWeight n (omega arith) (omega arith) k (sym (signed-within 32 highestWeight n (omega arith) k) ∙ t))

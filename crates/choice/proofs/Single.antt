@@ -7,13 +7,13 @@ use lib.Dec.{leb}
 use lib.IntN.{pos}
 use lib.Signed.{leZ}
 use Rattle.store.specs.Fonts.{Font}
-use Rattle.choice.specs.Lists.{In, keep, every, orElse, prefer, least, greatest}
-use Rattle.choice.specs.Fields.{isFixed, pitch, weight}
-use Rattle.choice.specs.Range.{asked}
-use Rattle.choice.specs.Steps.{step1, step2, step3, heightOff, step4, step5, nearestThicker, nearestThinner, step6, step7, step8, step9, chosen}
+use Rattle.choice.specs.Lists.{In, having, every, orElse, prefer, least, greatest}
+use Rattle.choice.specs.Fields.{isFixed, comparedPitch, weightOf}
+use Rattle.choice.specs.Request.{askedWeight}
+use Rattle.choice.specs.Steps.{bySet, bySpacing, byPitch, heightOff, byHeight, byStyle, nearestThicker, nearestThinner, byWeight, byTypeface, byOrientation, byNumber, steps, worked, fontsLeft}
 use Rattle.choice.specs.Right.{Keyed}
 use Rattle.choice.specs.declared.Request.{Request}
-use Rattle.choice.proofs.Least.{keep-out}
+use Rattle.choice.proofs.Least.{having-out}
 use Rattle.choice.proofs.Choice.{only-one}
 
 abbrev pub Distinct : List Font → Type 0
@@ -27,13 +27,13 @@ distinct-keyed (f ∷ l) d x y (inl ex) (inr my) h = absurd (d .0 y my (sym h �
 distinct-keyed (f ∷ l) d x y (inr mx) (inl ey) h = absurd (d .0 x mx (h ∙ ap (λ (g : Font). g .number) ey))
 distinct-keyed (f ∷ l) d x y (inr mx) (inr my) h = distinct-keyed l (d .1) x y mx my h
 
-pub by-keep : (p : Font → Bool) (l : List Font) → Distinct l → Distinct (keep p l)
-unfolding keep
-by-keep p [] d = tt
-by-keep p (f ∷ l) d = go (p f) (by-keep p l (d .1))
+pub by-having : (p : Font → Bool) (l : List Font) → Distinct l → Distinct (having p l)
+unfolding having
+by-having p [] d = tt
+by-having p (f ∷ l) d = go (p f) (by-having p l (d .1))
   where
-    go : (b : Bool) → Distinct (keep p l) → Distinct (cond b (f ∷ keep p l) (keep p l))
-    go true k = (λ x m. d .0 x (keep-out p l x m .0), k)
+    go : (b : Bool) → Distinct (having p l) → Distinct (cond b (f ∷ having p l) (having p l))
+    go true k = (λ x m. d .0 x (having-out p l x m .0), k)
     go false k = k
 
 by-or : (l k : List Font) → Distinct l → Distinct k → Distinct (orElse l k)
@@ -47,34 +47,34 @@ by-cond false l k a b = b
 
 by-prefer : (p : Font → Bool) (l : List Font) → Distinct l → Distinct (prefer p l)
 unfolding prefer
-by-prefer p l d = by-or (keep p l) l (by-keep p l d) d
+by-prefer p l d = by-or (having p l) l (by-having p l d) d
 
 by-least : {K : Type 0} (le : K → K → Bool) (s : Font → K) (l : List Font) → Distinct l → Distinct (least le s l)
 unfolding least
-by-least le s l d = by-keep _ l d
+by-least le s l d = by-having _ l d
 
 by-greatest : {K : Type 0} (le : K → K → Bool) (s : Font → K) (l : List Font) → Distinct l → Distinct (greatest le s l)
 unfolding greatest
-by-greatest le s l d = by-keep _ l d
+by-greatest le s l d = by-having _ l d
 
-by-six : (r : Request) (l : List Font) → Distinct l → Distinct (step6 r l)
-unfolding step6 nearestThicker nearestThinner
+by-six : (r : Request) (l : List Font) → Distinct l → Distinct (byWeight r l)
+unfolding byWeight nearestThicker nearestThinner
 by-six r l d =
-    let a = by-least leZ weight _ (by-keep _ l d) in
-    let b = by-greatest leZ weight _ (by-keep _ l d) in
-    by-or _ _ (by-keep _ l d) (by-cond (leZ (pos 0) (asked r)) _ _ (by-or _ _ a b) (by-or _ _ b a))
+    let a = by-least leZ weightOf _ (by-having _ l d) in
+    let b = by-greatest leZ weightOf _ (by-having _ l d) in
+    by-or _ _ (by-having _ l d) (by-cond (leZ (pos 0) (askedWeight r)) _ _ (by-or _ _ a b) (by-or _ _ b a))
 
-by-three : (r : Request) (l : List Font) → Distinct l → Distinct (step3 r l)
-unfolding step3
-by-three r l d = by-cond (every isFixed l) _ _ (by-or _ _ (by-greatest leb pitch _ (by-keep _ l d)) (by-least leb pitch l d)) d
+by-three : (r : Request) (l : List Font) → Distinct l → Distinct (byPitch r l)
+unfolding byPitch
+by-three r l d = by-cond (every isFixed l) _ _ (by-or _ _ (by-greatest leb comparedPitch _ (by-having _ l d)) (by-least leb comparedPitch l d)) d
 
-pub chosen-distinct : (r : Request) (l : List Font) → Distinct l → Distinct (chosen r l)
-unfolding chosen step1 step2 step4 step5 step7 step8 step9
-chosen-distinct r l d =
-    by-least leb (λ f. f .number) _ (by-prefer _ _ (by-prefer _ _ (by-six r _ (by-prefer _ _ (by-least leb (heightOff r) _ (by-three r _ (by-prefer _ _ (by-or _ _ (by-keep _ l d) (by-keep _ l d)))))))))
+pub left-distinct : (r : Request) (l : List Font) → Distinct l → Distinct (fontsLeft r l)
+unfolding fontsLeft steps worked bySet bySpacing byHeight byStyle byTypeface byOrientation byNumber
+left-distinct r l d =
+    by-least leb (λ f. f .number) _ (by-prefer _ _ (by-prefer _ _ (by-six r _ (by-prefer _ _ (by-least leb (heightOff r) _ (by-three r _ (by-prefer _ _ (by-prefer _ _ (by-having _ l d)))))))))
 
-pub leaves-one : (r : Request) (l : List Font) → Distinct l → (c : Font) → In c (chosen r l) → chosen r l ≡ c ∷ []
-leaves-one r l d c m = go (chosen r l) (chosen-distinct r l d) (λ x mx. only-one r l (distinct-keyed l d) x c mx m) m
+pub leaves-one : (r : Request) (l : List Font) → Distinct l → (c : Font) → In c (fontsLeft r l) → fontsLeft r l ≡ c ∷ []
+leaves-one r l d c m = go (fontsLeft r l) (left-distinct r l d) (λ x mx. only-one r l (distinct-keyed l d) x c mx m) m
   where
     go : (k : List Font) → Distinct k → ((x : Font) → In x k → x ≡ c) → In c k → k ≡ c ∷ []
     go [] e h mc = absurd mc

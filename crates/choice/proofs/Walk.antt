@@ -5,15 +5,17 @@ use mathlib.Core.List.{List}
 use mathlib.Core.Bool.{true, false}
 use native.Mathlib.Omega.{arith}
 use lib.ListN.{take, drop}
-use Rattle.store.specs.Fonts.{fontsAt, fontsOf, Begun, Onward}
-use Rattle.store.specs.declared.kept_fonts.Begin.{Begin}
-use Rattle.store.specs.declared.kept_fonts.Begin.the-variants.{At, NotStore}
+use Rattle.store.specs.Records.{Begun}
+use Rattle.store.specs.Fonts.{fontsAt, fontsOf, Onward}
+use Rattle.store.specs.declared.records.Begin.{Begin}
+use Rattle.store.specs.declared.records.Begin.the-variants.{At, NotStore}
 use Rattle.store.specs.declared.kept_fonts.Next.{Next}
 use Rattle.store.specs.declared.kept_fonts.Next.the-variants.{Font as found, End}
-use Rattle.choice.specs.Fields.{keptLength}
-use Rattle.choice.specs.Range.{inRange}
-use Rattle.choice.specs.Choosing.{choosing}
-use Rattle.choice.specs.Scores.{none, weighed, pass, answerOf}
+use Rattle.store.proofs.KeptFonts.{fonts-rise, fonts-begun}
+use Rattle.blocks.specs.Header.{headerBytes}
+use Rattle.choice.specs.Request.{inRange}
+use Rattle.choice.specs.Choosing.{choosingAmong, choosing}
+use Rattle.choice.specs.Scores.{noScore, weighed, pass, scoreAnswer}
 use Rattle.choice.specs.declared.Request.{Request}
 use Rattle.choice.specs.declared.Score.{Score}
 use Rattle.choice.specs.declared.Chosen.{Chosen}
@@ -28,11 +30,11 @@ module _ (s : List ℕ) (at : ℕ) (v : Next) (h : Onward s at v) where
 
   -- the pass goes on with the fonts behind it
   pub again : (n k next : ℕ) → v ≡ found n k next → (r : Request) (best new end : Score)
-      → new ≡ weighed r best (record { number = n; kept = take ((k + keptLength) - k) (drop k s) }) → pass r best (fontsAt s at) ≡ end
+      → new ≡ weighed r best (record { number = n; kept = take ((k + headerBytes) - k) (drop k s) }) → pass r best (fontsAt s at) ≡ end
       → pass r new (fontsAt s next) ≡ end
   unfolding pass
   again n k next e r best new end t i =
-      let w : (k + keptLength) - k ≡ keptLength = omega arith in
+      let w : (k + headerBytes) - k ≡ headerBytes = omega arith in
       rw (t, w) (sym (ap (pass r best) (met n k next e .0)) ∙ i)
 
   -- no font is left
@@ -40,7 +42,19 @@ module _ (s : List ℕ) (at : ℕ) (v : Next) (h : Onward s at v) where
   unfolding pass
   stops e r best end i = let none-left : Onward s at End = rw e at h in sym (ap (pass r best) none-left) ∙ i
 
--- the answers, by where the run begins
+-- the answers among the fonts of a store, whose run begins at p
+module _ (s : List ℕ) (r : Request) (p : ℕ) (h : Begun s (At p)) where
+  pub out-of-range : inRange r ≡ false → OutOfRange ≡ choosingAmong (fontsOf s) r
+  unfolding choosingAmong
+  out-of-range t = rw t
+
+  pub chooses : inRange r ≡ true → (best : Score) → best ≡ pass r noScore (fontsAt s p) → (a : Chosen) → a ≡ scoreAnswer best
+      → a ≡ choosingAmong (fontsOf s) r
+  unfolding choosingAmong
+  chooses t best b a f =
+      rw t (f ∙ ap scoreAnswer (b ∙ ap (pass r noScore) (fonts-begun s p h)) ∙ once r (fontsOf s) (rising-keyed 0 (fontsOf s) (fonts-rise s)))
+
+-- the answers on a buffer, by where the run begins
 module _ (s : List ℕ) (r : Request) (v : Begin) (h : Begun s v) where
   pub no-store : v ≡ NotStore → not-store ≡ choosing s r
   unfolding choosing
@@ -50,11 +64,6 @@ module _ (s : List ℕ) (r : Request) (v : Begin) (h : Begun s v) where
     pub begun : Begun s (At p)
     begun = rw e at h
 
-    pub out-of-range : inRange r ≡ false → OutOfRange ≡ choosing s r
+    pub on-store : (a : Chosen) → a ≡ choosingAmong (fontsOf s) r → a ≡ choosing s r
     unfolding choosing
-    out-of-range t = rw (begun .0, t)
-
-    pub chooses : inRange r ≡ true → (best : Score) → best ≡ pass r none (fontsAt s p) → (a : Chosen) → a ≡ answerOf best → a ≡ choosing s r
-    unfolding choosing
-    chooses t best b a f =
-        rw (begun .0, t) (f ∙ ap answerOf (b ∙ ap (pass r none) (begun .2)) ∙ once r (fontsOf s) (rising-keyed 0 (fontsOf s) (begun .3)))
+    on-store a f = rw (begun .0) f

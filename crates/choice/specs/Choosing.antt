@@ -1,17 +1,22 @@
--- What choosing answers on a buffer.
+-- What choosing answers: on a buffer, and among fonts.
 use Prim.Native.Nat.{ℕ}
 use mathlib.Core.List.{List}
 use mathlib.Core.Bool.{cond}
-use Rattle.store.specs.Fonts.{isStore, fontsOf}
-use Rattle.choice.specs.Range.{inRange}
-use Rattle.choice.specs.Steps.{choose}
+use Rattle.store.specs.Records.{isStore}
+use Rattle.store.specs.Fonts.{Font, fontsOf}
+use Rattle.choice.specs.Request.{inRange}
+use Rattle.choice.specs.Steps.{choice}
 use Rattle.choice.specs.declared.Request.{Request}
 use Rattle.choice.specs.declared.Chosen.{Chosen}
 use Rattle.choice.specs.declared.Chosen.the-variants.{Number, NotStore, OutOfRange, NoFont}
 
--- "Choosing checks 1, 2, 11 and answers the font number.": the choice among the kept fonts
+-- "Choosing checks 1, 2, 11 and answers the font number.": 2, then 11 or the number, where the fonts are known,
+unfoldable pub choosingAmong : List Font → Request → Chosen
+choosingAmong l r = cond (inRange r) (choice r l) OutOfRange
+
+-- and before that 1
 unfoldable pub choosing : List ℕ → Request → Chosen
-choosing s r = cond (isStore s) (cond (inRange r) (choose r (fontsOf s)) OutOfRange) NotStore
+choosing s r = cond (isStore s) (choosingAmong (fontsOf s) r) NotStore
 
 -- document 01's number of an answer, 0 for done
 abbrev pub refusalOf : Chosen → ℕ

@@ -1,6 +1,6 @@
 pub mod Lists
+pub mod Request
 pub mod Fields
-pub mod Range
 pub mod Steps
 pub mod Choosing
 pub mod Right

@@ -11,9 +11,9 @@ module _ {A : Type 0} where
   In x (y ∷ l) = (x ≡ y) ⊎ In x l
 
   -- those that pass the test p
-  unfoldable pub keep : (A → Bool) → List A → List A
-  keep p [] = []
-  keep p (x ∷ l) = cond (p x) (x ∷ keep p l) (keep p l)
+  unfoldable pub having : (A → Bool) → List A → List A
+  having p [] = []
+  having p (x ∷ l) = cond (p x) (x ∷ having p l) (having p l)
 
   -- every one passes the test p
   unfoldable pub every : (A → Bool) → List A → Bool
@@ -27,12 +27,12 @@ module _ {A : Type 0} where
 
   -- those that pass the test, if any does; else all
   unfoldable pub prefer : (A → Bool) → List A → List A
-  prefer p l = orElse (keep p l) l
+  prefer p l = orElse (having p l) l
 
   -- those with the least s, and those with the greatest, where `le` says of two numbers that the first is at most the second
   module _ {K : Type 0} (le : K → K → Bool) (s : A → K) where
     unfoldable pub least : List A → List A
-    least l = keep (λ x. every (λ y. le (s x) (s y)) l) l
+    least l = having (λ x. every (λ y. le (s x) (s y)) l) l
 
     unfoldable pub greatest : List A → List A
-    greatest l = keep (λ x. every (λ y. le (s y) (s x)) l) l
+    greatest l = having (λ x. every (λ y. le (s y) (s x)) l) l

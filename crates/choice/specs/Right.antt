@@ -6,7 +6,7 @@ use mathlib.Core.List.{List}
 use mathlib.Core.Bool.{false}
 use Rattle.store.specs.Fonts.{Font}
 use Rattle.choice.specs.Lists.{In}
-use Rattle.choice.specs.Steps.{takesPart, Beats, choose}
+use Rattle.choice.specs.Steps.{takesPart, Beats, choice}
 use Rattle.choice.specs.declared.Request.{Request}
 use Rattle.choice.specs.declared.Chosen.{Chosen}
 use Rattle.choice.specs.declared.Chosen.the-variants.{Number, NoFont}
@@ -15,8 +15,13 @@ use Rattle.choice.specs.declared.Chosen.the-variants.{Number, NoFont}
 abbrev pub Keyed : List Font → Type 0
 Keyed l = (x y : Font) → In x l → In y l → x .number ≡ y .number → x ≡ y
 
+-- another font
 abbrev pub Other : Font → Font → Type 0
-Other x y = x .number ≡ y .number → ⊥
+Other x y = x ≡ y → ⊥
+
+-- none of the fonts has the number n
+abbrev pub Unused : ℕ → List Font → Type 0
+Unused n l = (x : Font) → In x l → x .number ≡ n → ⊥
 
 -- no other of the fonts l beats b
 abbrev pub Unbeaten : Request → List Font → Font → Type 0
@@ -46,15 +51,15 @@ With f l k = (x : Font) → In x k ↔ ((x ≡ f) ⊎ In x l)
 
 -- what holds of the choice among the fonts l, and among those of a list k that differs in one font
 pub record Lawful (r : Request) (l : List Font) : Type 0 where
-  pub right : Right r l (choose r l)
+  pub right : Right r l (choice r l)
   -- the order of the fonts says nothing
-  pub reordered : (k : List Font) → Reordered l k → choose r k ≡ choose r l
+  pub reordered : (k : List Font) → Reordered l k → choice r k ≡ choice r l
   -- a font that was not chosen goes: the choice stands
-  pub removed : (n : ℕ) (k : List Font) → Without n l k → (choose r l ≡ Number n → ⊥) → choose r k ≡ choose r l
+  pub removed : (n : ℕ) (k : List Font) → Without n l k → (choice r l ≡ Number n → ⊥) → choice r k ≡ choice r l
   -- a font comes under an unused number: the choice stands or is the new font
   pub added :
-      (f : Font) (k : List Font) → With f l k → ((x : Font) → In x l → Other x f)
-      → (choose r k ≡ choose r l) ⊎ (choose r k ≡ Number (f .number))
+      (f : Font) (k : List Font) → With f l k → Unused (f .number) l
+      → (choice r k ≡ choice r l) ⊎ (choice r k ≡ Number (f .number))
 
 -- the claim
 abbrev pub Claim : Type 0

@@ -1,16 +1,17 @@
--- How the code finds the choice, for its private functions alone: no public promise rests on this file. A font has a number for each step,
--- the least for those that the step leaves; the numbers of steps 1 to 3 and of steps 4 to 8 are joined, each as the digits of one number,
--- so that the earlier step decides. That the font with the least numbers is the one that the steps leave is proved.
+-- For the code alone: how it finds the choice; no public promise rests on this file. A font has a number for each step, the least for those
+-- that the step leaves; the numbers of the steps up to pitch and of the steps from height on are joined, each as the digits of one number, so
+-- that the earlier step decides. That the font with the least numbers is the one that the steps leave is proved.
 use Prim.Native.Nat.{ℕ, _+_, _-_, _*_, _%_}
 use mathlib.Core.List.{List, [], _∷_}
 use mathlib.Core.Bool.{Bool, cond, _&&_, _||_}
 use lib.Dec.{ltb, eqb}
 use lib.IntN.{pos}
 use lib.Signed.{leZ}
+use Rattle.blocks.specs.Header.{strokeWeight}
 use Rattle.store.specs.Fonts.{Font}
-use Rattle.choice.specs.Fields.{byte, pitch}
-use Rattle.choice.specs.Range.{asked}
-use Rattle.choice.specs.Steps.{isNarrow, hasSet, hasSpacing, heightOff, hasStyle, exact, isThicker, isThinner, hasTypeface, hasOrientation, takesPart}
+use Rattle.choice.specs.Request.{askedWeight}
+use Rattle.choice.specs.Fields.{headerOf, isFixed, comparedPitch}
+use Rattle.choice.specs.Steps.{hasSet, hasSpacing, qualifies, heightOff, hasStyle, exact, isThicker, isThinner, hasTypeface, hasOrientation, takesPart}
 use Rattle.choice.specs.declared.Request.{Request}
 use Rattle.choice.specs.declared.Score.{Score}
 use Rattle.choice.specs.declared.Chosen.{Chosen}
@@ -20,64 +21,86 @@ use Rattle.choice.specs.declared.Chosen.the-variants.{Number, NoFont}
 abbrev pub miss : Bool → ℕ
 miss b = cond b 0 1
 
--- the greatest pitch that there can be, and a base above every number of step 3
-abbrev pub mostPitch : ℕ
-mostPitch = 65535
+-- the greatest number that can be compared for pitch or height, and a base above every number of the pitch
+abbrev pub mostCompared : ℕ
+mostCompared = 65535
 
 abbrev pub pitchBase : ℕ
-pitchBase = 2 * (mostPitch + 1)
+pitchBase = 2 * (mostCompared + 1)
 
--- step 3, from the font's spacing byte, the R asked for and the font's pitch
-abbrev pub pitchNumber : ℕ → ℕ → ℕ → ℕ
-pitchNumber b r p = cond (eqb b 0) (cond (isNarrow r p) (mostPitch - p) (mostPitch + 1 + p)) 0
+-- the pitch, by the answers to: fixed, qualifies
+abbrev pub pitchNumber : Bool → Bool → ℕ → ℕ
+pitchNumber fixed fits p = cond fixed (cond fits (mostCompared - p) (mostCompared + 1 + p)) 0
+
+-- above every number of the height
+abbrev pub heightBound : ℕ
+heightBound = 4294967296
 
 -- a weight byte as a number that rises with the weight: -128 is 0
 abbrev pub raised : ℕ → ℕ
 raised w = (w + 128) % 256
 
 abbrev pub thickness : Font → ℕ
-thickness f = raised (byte (f .kept) 24)
+thickness f = raised (strokeWeight (headerOf f))
 
--- a base above every number of step 6
+-- a base above every number of the weight
 abbrev pub weightBase : ℕ
 weightBase = 1024
 
--- step 6, by the answers to: exact, a request of 0 or more, thicker, thinner
+-- the weight, by the answers to: exact, a request of 0 or more, thicker, thinner
 abbrev pub weightNumber : Bool → Bool → Bool → Bool → ℕ → ℕ
 weightNumber e up thicker thinner w =
     cond e 0 (1 + cond up (cond thicker w (256 + (255 - w))) (cond thinner (255 - w) (256 + w)))
 
 unfoldable pub pitchScore : Request → Font → ℕ
-pitchScore r f = pitchNumber (byte (f .kept) 13) (r .pitch) (pitch f)
+pitchScore r f = pitchNumber (isFixed f) (qualifies r f) (comparedPitch f)
 
 unfoldable pub weightScore : Request → Font → ℕ
-weightScore r f = weightNumber (exact r f) (leZ (pos 0) (asked r)) (isThicker r f) (isThinner r f) (thickness f)
+weightScore r f = weightNumber (exact r f) (leZ (pos 0) (askedWeight r)) (isThicker r f) (isThinner r f) (thickness f)
 
--- steps 1 to 3, and steps 4 to 8
+-- a number with one more digit, the last, of base k
+abbrev pub digit : ℕ → ℕ → ℕ → ℕ
+digit k high d = high * k + d
+
+-- the steps up to pitch, and those from height on
 unfoldable pub majorOf : Request → Font → ℕ
-majorOf r f = (miss (hasSet (r .«symbol_set») f) * 2 + miss (hasSpacing r f)) * pitchBase + pitchScore r f
+majorOf r f =
+    digit pitchBase
+    (digit 2
+    (miss (hasSet (r .«symbol_set») f))
+    (miss (hasSpacing r f)))
+    (pitchScore r f)
 
 unfoldable pub minorOf : Request → Font → ℕ
-minorOf r f = (((heightOff r f * 2 + miss (hasStyle r f)) * weightBase + weightScore r f) * 2 + miss (hasTypeface r f)) * 2 + miss (hasOrientation r f)
+minorOf r f =
+    digit 2
+    (digit 2
+    (digit weightBase
+    (digit 2
+    (heightOff r f)
+    (miss (hasStyle r f)))
+    (weightScore r f))
+    (miss (hasTypeface r f)))
+    (miss (hasOrientation r f))
 
 unfoldable pub scoreOf : Request → Font → Score
 scoreOf r f = record { major = majorOf r f; minor = minorOf r f; number = f .number }
 
 -- a comes before b
-abbrev pub before : Score → Score → Bool
-before a b =
+abbrev pub comesBefore : Score → Score → Bool
+comesBefore a b =
     ltb (a .major) (b .major)
     || (eqb (a .major) (b .major) && (ltb (a .minor) (b .minor) || (eqb (a .minor) (b .minor) && ltb (a .number) (b .number))))
 
 unfoldable pub better : Score → Score → Score
-better best s = cond (before s best) s best
+better best s = cond (comesBefore s best) s best
 
--- no font so far: the number of steps 1 to 3 is above that of every font
-abbrev pub noFont : ℕ
-noFont = 4 * pitchBase
+-- no font so far: a number of the steps up to pitch that is above that of every font
+abbrev pub noMajor : ℕ
+noMajor = 4 * pitchBase
 
-abbrev pub none : Score
-none = record { major = noFont; minor = 0; number = 0 }
+abbrev pub noScore : Score
+noScore = record { major = noMajor; minor = 0; number = 0 }
 
 -- the best so far after one more font, and after all fonts of a list
 unfoldable pub weighed : Request → Score → Font → Score
@@ -87,5 +110,5 @@ unfoldable pub pass : Request → Score → List Font → Score
 pass r best [] = best
 pass r best (f ∷ l) = pass r (weighed r best f) l
 
-abbrev pub answerOf : Score → Chosen
-answerOf s = cond (eqb (s .major) noFont) NoFont (Number (s .number))
+abbrev pub scoreAnswer : Score → Chosen
+scoreAnswer s = cond (eqb (s .major) noMajor) NoFont (Number (s .number))

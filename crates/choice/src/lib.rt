@@ -1,33 +1,84 @@
 // The choice of a font.
-use store::kept_fonts::Begin;
 use store::kept_fonts::Next;
-ghost use Prim.Native.Nat.{ℕ, _*_, _<_, _≤_};
+use store::records::Begin;
+ghost use Prim.Native.Nat.{ℕ, _+_, _*_, _%_, _^_, _<_, _≤_};
 ghost use mathlib.Core.Path.{_≡_};
 ghost use mathlib.Core.Bool.{true};
 ghost use lib.Dec.{eqb, leb, ltb};
 ghost use lib.ListN.{length};
-ghost use Rattle.store.specs.Fonts.{Place, fontsAt};
-ghost use Rattle.choice.specs.Fields.{keptLength, byte as byteOf, word as wordOf};
-ghost use Rattle.choice.specs.Range.{inRange};
-ghost use Rattle.choice.specs.Steps.{heightDistance};
-ghost use Rattle.choice.specs.Choosing.{choosing};
-ghost use Rattle.choice.specs.Scores.{miss as missOf, mostPitch, pitchBase, pitchNumber, weightBase, weightNumber, majorOf, minorOf, better as betterOf, none, weighed, pass, answerOf};
+ghost use Rattle.blocks.specs.Field.{byte, word, join as joinOf};
+ghost use Rattle.blocks.specs.Header.{headerBytes, style, typeface};
+ghost use Rattle.store.specs.Records.{Place, Begun};
+ghost use Rattle.store.specs.Fonts.{fontsAt, fontsOf};
+ghost use Rattle.store.specs.declared.records.Begin.the-variants.{At};
+ghost use Rattle.choice.specs.Request.{requestOf, inRange};
+ghost use Rattle.choice.specs.Fields.{asBytes, comparedPitch, comparedHeight};
+ghost use Rattle.choice.specs.Steps.{pitchTestLimit, heightDistance, takesPart};
+ghost use Rattle.choice.specs.Choosing.{choosingAmong, choosing};
+ghost use Rattle.choice.specs.Scores.{miss as missOf, mostCompared, pitchBase, pitchNumber, heightBound, weightBase, weightNumber, weightScore, majorOf, minorOf, better as betterOf, noScore, weighed, pass, scoreAnswer};
 
 const ROMAN_8: u32 = 277;
 
-// How many bytes of a font are kept.
+// The highest that each number of a request may be, and the lowest weight, -7, in two's complement.
+const HIGHEST_SET: u32 = 2047;
+
+const HIGHEST_SPACING: u32 = 1;
+
+const HIGHEST_R: u32 = 57600;
+
+const HIGHEST_H: u32 = 99975;
+
+const HIGHEST_STYLE: u32 = 1023;
+
+const HIGHEST_WEIGHT: u32 = 7;
+
+const LOWEST_WEIGHT: u32 = 4294967289;
+
+const HIGHEST_TYPEFACE: u32 = 65535;
+
+const HIGHEST_ORIENTATION: u32 = 1;
+
+// A font qualifies by its pitch up to this product.
+const PITCH_TEST_LIMIT: u64 = 120000;
+
+// A unit of kept height in hundredths of a point, and the distance that still counts as 0.
+const QUARTER_DOT: u64 = 6;
+
+const QUARTER_POINT: u64 = 25;
+
+// How many bytes of a font are kept, and where the fields stand in them.
 const KEPT: usize = 64;
 
-// The greatest pitch that there can be, and a base above every number of step 3.
-const MOST_PITCH: u32 = 65535;
+const STYLE_HIGH: usize = 4;
 
-const PITCH_BASE: u32 = 2 * (MOST_PITCH + 1);
+const ORIENTATION: usize = 12;
 
-// A base above every number of step 6.
+const SPACING: usize = 13;
+
+const SYMBOL_SET: usize = 14;
+
+const PITCH: usize = 16;
+
+const HEIGHT: usize = 18;
+
+const STYLE_LOW: usize = 23;
+
+const STROKE_WEIGHT: usize = 24;
+
+const TYPEFACE_LOW: usize = 25;
+
+const TYPEFACE_HIGH: usize = 26;
+
+// The greatest number that can be compared for pitch or height, and a base above every number of the pitch.
+const MOST_COMPARED: u64 = 65535;
+
+const PITCH_BASE: u64 = 2 * (MOST_COMPARED + 1);
+
+// A base above every number of the weight.
 const WEIGHT_BASE: u64 = 1024;
 
-// The number of steps 1 to 3 that stands for no font, above that of every font.
-const NO_FONT: u32 = 4 * PITCH_BASE;
+// The number of the steps up to pitch that stands for no font, above that of every font.
+const NO_MAJOR: u64 = 4 * PITCH_BASE;
 
 // What is asked for. The weight is signed, as 32 bits in two's complement.
 pub struct Request {
@@ -49,63 +100,127 @@ pub enum Chosen {
     NoFont,
 }
 
-// A font's numbers for the steps, of which the least is chosen: steps 1 to 3, steps 4 to 8, step 9.
+// A font's numbers for the steps, of which the least is chosen: those up to pitch, those from height on, the font number.
 struct Score {
-    major: u32,
+    major: u64,
     minor: u64,
     number: u32,
 }
 
+// A request of its numbers, in document 01's order.
+pub fn request_of(
+    symbol_set: u32,
+    spacing: u32,
+    pitch: u32,
+    height: u32,
+    style: u32,
+    weight: u32,
+    typeface: u32,
+    orientation: u32,
+) -> Request
+    ensures { λ r. ⌜ r ≡ requestOf «symbol_set» spacing pitch height style weight typeface orientation ⌝ }
+{
+    Request {
+        symbol_set,
+        spacing,
+        pitch,
+        height,
+        style,
+        weight,
+        typeface,
+        orientation,
+    }
+}
+
 // A kept byte.
-fn byte(f: &[u8], i: usize) -> u32
+fn kept_byte(f: &[u8], i: usize) -> u32
     requires { ⌜ i < length (now f) ⌝ }
-    ensures { λ r. ⌜ (r ≡ byteOf (now (f .entry)) i) × (r < 256) ⌝ }
+    ensures { λ r. ⌜ (r ≡ byte (asBytes (now (f .entry))) i) × (r < 256) ⌝ }
 {
     f[i] as u32
 }
 
-// Two kept bytes, high and low.
-fn word(f: &[u8], hi: usize, lo: usize) -> u32
-    requires { ⌜ (hi < length (now f)) × (lo < length (now f)) ⌝ }
-    ensures { λ r. ⌜ (r ≡ wordOf (now (f .entry)) hi lo) × (r < 65536) ⌝ }
+// Two bytes, high and low.
+fn join(high: u32, low: u32) -> u32
+    requires { ⌜ (high < 256) × (low < 256) ⌝ }
+    ensures { λ r. ⌜ (r ≡ joinOf high low) × (r ≤ 65535) ⌝ }
 {
-    byte(f, hi) * 256 + byte(f, lo)
+    high * 256 + low
+}
+
+// A kept field of two bytes.
+fn kept_word(f: &[u8], at: usize) -> u32
+    requires { ⌜ at + 1 < length (now f) ⌝ }
+    ensures { λ r. ⌜ (r ≡ word (asBytes (now (f .entry))) at) × (r ≤ 65535) ⌝ }
+{
+    join(kept_byte(f, at), kept_byte(f, at + 1))
+}
+
+fn style_of(f: &[u8]) -> u32
+    requires { ⌜ length (now f) ≡ headerBytes ⌝ }
+    ensures { λ r. ⌜ r ≡ style (asBytes (now (f .entry))) ⌝ }
+{
+    join(kept_byte(f, STYLE_HIGH), kept_byte(f, STYLE_LOW))
+}
+
+fn typeface_of(f: &[u8]) -> u32
+    requires { ⌜ length (now f) ≡ headerBytes ⌝ }
+    ensures { λ r. ⌜ r ≡ typeface (asBytes (now (f .entry))) ⌝ }
+{
+    join(kept_byte(f, TYPEFACE_HIGH), kept_byte(f, TYPEFACE_LOW))
+}
+
+// The number that is compared for pitch.
+fn compared_pitch(f: &[u8]) -> u64
+    requires { ⌜ length (now f) ≡ headerBytes ⌝ }
+    ensures { λ p. ⌜ ((n : ℕ) → p ≡ comparedPitch (record { number = n; kept = now (f .entry) })) × (p ≤ mostCompared) ⌝ }
+{
+    kept_word(f, PITCH) as u64
+}
+
+// The number that is compared for height.
+fn compared_height(f: &[u8]) -> u64
+    requires { ⌜ length (now f) ≡ headerBytes ⌝ }
+    ensures { λ h. ⌜ ((n : ℕ) → h ≡ comparedHeight (record { number = n; kept = now (f .entry) })) × (h ≤ mostCompared) ⌝ }
+{
+    kept_word(f, HEIGHT) as u64
 }
 
 // 0 for a match.
-fn miss(hit: bool) -> u32
+fn miss(hit: bool) -> u64
     ensures { λ r. ⌜ (r ≡ missOf hit) × (r < 2) ⌝ }
 {
     if hit { 0 } else { 1 }
 }
 
-// Step 3, from the font's spacing, the R asked for and the font's pitch.
-fn pitch_number(b: u32, r: u32, p: u32) -> u32
-    requires { ⌜ (r * p < 4294967296) × (p ≤ mostPitch) ⌝ }
-    ensures { λ n. ⌜ (n ≡ pitchNumber b r p) × (n < pitchBase) ⌝ }
+// The number of the pitch, from whether the font is fixed, the R asked for and the font's pitch.
+fn pitch_number(fixed: bool, r: u32, p: u64) -> u64
+    requires { ⌜ p ≤ mostCompared ⌝ }
+    ensures { λ n. ⌜ (n ≡ pitchNumber fixed (leb (r * p) pitchTestLimit) p) × (n < pitchBase) ⌝ }
 {
-    if b == 0 {
-        if r * p <= 120000 {
-            MOST_PITCH - p
+    if fixed {
+        if r as u64 * p <= PITCH_TEST_LIMIT {
+            MOST_COMPARED - p
         } else {
-            MOST_PITCH + 1 + p
+            MOST_COMPARED + 1 + p
         }
     } else {
         0
     }
 }
 
-// Step 4, from the height asked for and the font's.
-fn height_number(a: u32, h: u32) -> u32
-    requires { ⌜ h < 65536 ⌝ }
-    ensures { λ r. ⌜ r ≡ heightDistance a h ⌝ }
+// The number of the height, from the height asked for and the font's.
+fn height_number(asked: u32, h: u64) -> u64
+    requires { ⌜ h ≤ mostCompared ⌝ }
+    ensures { λ r. ⌜ (r ≡ heightDistance asked h) × (r < heightBound) ⌝ }
 {
-    let g = 6 * h;
+    let a = asked as u64;
+    let g = QUARTER_DOT * h;
     let d = if g <= a { a - g } else { g - a };
-    if d <= 25 { 0 } else { d }
+    if d <= QUARTER_POINT { 0 } else { d }
 }
 
-// Step 6, from the weight asked for and the font's, each with 128 added.
+// The number of the weight, from the weight asked for and the font's, each with 128 added.
 fn weight_number(a: u32, w: u32) -> u32
     requires { ⌜ w < 256 ⌝ }
     ensures { λ r. ⌜ (r ≡ weightNumber (eqb a w) (leb 128 a) (ltb a w) (ltb w a) w) × (r < weightBase) ⌝ }
@@ -120,29 +235,46 @@ fn weight_number(a: u32, w: u32) -> u32
     }
 }
 
-// Steps 1 to 3, for a font that takes part.
-fn major_of(f: &[u8], r: Request) -> u32
-    requires { ⌜ (length (now f) ≡ keptLength) × (inRange r ≡ true) ⌝ }
+// The weight asked for with 128 added, a number that rises with the weight.
+fn raised_request(weight: u32) -> u32
+    ensures { λ a. ⌜ (a ≡ (weight + 128) % 2 ^ 32) × (weight < 2 ^ 32) ⌝ }
+{
+    std::num::wrapping_add_u32(weight, 128)
+}
+
+// The number of the weight of a font.
+fn weight_of(f: &[u8], r: Request) -> u64
+    requires { ⌜ (length (now f) ≡ headerBytes) × (inRange r ≡ true) ⌝ }
+    ensures { λ w. ⌜ ((n : ℕ) → w ≡ weightScore r (record { number = n; kept = now (f .entry) })) × (w < weightBase) ⌝ }
+{
+    weight_number(
+        raised_request(r.weight),
+        (kept_byte(f, STROKE_WEIGHT) + 128) % 256,
+    ) as u64
+}
+
+// The steps up to pitch, for a font that takes part.
+fn major_of(f: &[u8], r: Request) -> u64
+    requires { ⌜ length (now f) ≡ headerBytes ⌝ }
     ensures { λ m. ⌜ ((n : ℕ) → m ≡ majorOf r (record { number = n; kept = now (f .entry) })) ⌝ }
 {
-    let set = miss(word(f, 14, 15) == r.symbol_set);
-    let b = byte(f, 13);
-    let spacing = miss((b == 0) == (r.spacing == 0));
-    let pitch = pitch_number(b, r.pitch, word(f, 16, 17));
+    let set = miss(kept_word(f, SYMBOL_SET) == r.symbol_set);
+    let fixed = kept_byte(f, SPACING) == 0;
+    let spacing = miss(fixed == (r.spacing == 0));
+    let pitch = pitch_number(fixed, r.pitch, compared_pitch(f));
     (set * 2 + spacing) * PITCH_BASE + pitch
 }
 
-// Steps 4 to 8.
+// The steps from height on, up to orientation.
 fn minor_of(f: &[u8], r: Request) -> u64
-    requires { ⌜ (length (now f) ≡ keptLength) × (inRange r ≡ true) ⌝ }
+    requires { ⌜ (length (now f) ≡ headerBytes) × (inRange r ≡ true) ⌝ }
     ensures { λ m. ⌜ ((n : ℕ) → m ≡ minorOf r (record { number = n; kept = now (f .entry) })) ⌝ }
 {
-    let height = height_number(r.height, word(f, 18, 19)) as u64;
-    let style = miss(word(f, 4, 23) == r.style) as u64;
-    let asked = std::num::wrapping_add_u32(r.weight, 128);
-    let weight = weight_number(asked, (byte(f, 24) + 128) % 256) as u64;
-    let typeface = miss(word(f, 26, 25) == r.typeface) as u64;
-    let orientation = miss(byte(f, 12) == r.orientation) as u64;
+    let height = height_number(r.height, compared_height(f));
+    let style = miss(style_of(f) == r.style);
+    let weight = weight_of(f, r);
+    let typeface = miss(typeface_of(f) == r.typeface);
+    let orientation = miss(kept_byte(f, ORIENTATION) == r.orientation);
     (((height * 2 + style) * WEIGHT_BASE + weight) * 2 + typeface) * 2 + orientation
 }
 
@@ -156,14 +288,21 @@ fn better(best: Score, s: Score) -> Score
     if first { s } else { best }
 }
 
+// Whether a font takes part.
+fn takes_part(f: &[u8], r: Request) -> bool
+    requires { ⌜ length (now f) ≡ headerBytes ⌝ }
+    ensures { λ b. ⌜ ((n : ℕ) → b ≡ takesPart r (record { number = n; kept = now (f .entry) })) ⌝ }
+{
+    let set = kept_word(f, SYMBOL_SET);
+    (set == r.symbol_set) | (set == ROMAN_8)
+}
+
 // The best so far after one more font, whose kept bytes f are.
 fn weigh(best: Score, f: &[u8], number: u32, r: Request) -> Score
-    requires { ⌜ (length (now f) ≡ keptLength) × (inRange r ≡ true) ⌝ }
+    requires { ⌜ (length (now f) ≡ headerBytes) × (inRange r ≡ true) ⌝ }
     ensures { λ s. ⌜ s ≡ weighed r best (record { number = number; kept = now (f .entry) }) ⌝ }
 {
-    let set = word(f, 14, 15);
-    let part = (set == r.symbol_set) | (set == ROMAN_8);
-    if part {
+    if takes_part(f, r) {
         let major = major_of(f, r);
         if best.major < major {
             return best;
@@ -185,10 +324,10 @@ fn weigh(best: Score, f: &[u8], number: u32, r: Request) -> Score
 // The best of the fonts from a place of the store on, in one pass.
 fn scan(s: &[u8], from: usize, r: Request) -> Score
     requires { ⌜ Place (now s) from × (inRange r ≡ true) ⌝ }
-    ensures { λ b. ⌜ b ≡ pass r none (fontsAt (now (s .entry)) from) ⌝ }
+    ensures { λ b. ⌜ b ≡ pass r noScore (fontsAt (now (s .entry)) from) ⌝ }
 {
     let mut best = Score {
-        major: NO_FONT,
+        major: NO_MAJOR,
         minor: 0,
         number: 0,
     };
@@ -207,26 +346,37 @@ fn scan(s: &[u8], from: usize, r: Request) -> Score
 fn in_range(r: Request) -> bool
     ensures { λ b. ⌜ b ≡ inRange r ⌝ }
 {
-    // -7 up to 7, in two's complement
-    let weight = (r.weight <= 7) | (4294967289 <= r.weight);
-    (r.symbol_set <= 2047)
-        & (r.spacing <= 1)
-        & (r.pitch <= 57600)
-        & (r.height <= 99975)
-        & (r.style <= 1023)
+    let weight = (r.weight <= HIGHEST_WEIGHT) | (LOWEST_WEIGHT <= r.weight);
+    (r.symbol_set <= HIGHEST_SET)
+        & (r.spacing <= HIGHEST_SPACING)
+        & (r.pitch <= HIGHEST_R)
+        & (r.height <= HIGHEST_H)
+        & (r.style <= HIGHEST_STYLE)
         & weight
-        & (r.typeface <= 65535)
-        & (r.orientation <= 1)
+        & (r.typeface <= HIGHEST_TYPEFACE)
+        & (r.orientation <= HIGHEST_ORIENTATION)
 }
 
 // The answer, from the best of all fonts.
 fn answer(best: Score) -> Chosen
-    ensures { λ a. ⌜ a ≡ answerOf best ⌝ }
+    ensures { λ a. ⌜ a ≡ scoreAnswer best ⌝ }
 {
-    if best.major == NO_FONT {
+    if best.major == NO_MAJOR {
         Chosen::NoFont
     } else {
         Chosen::Number(best.number)
+    }
+}
+
+// The choice on a buffer that is known to be a store, whose fonts begin at a place: for many requests it is checked once.
+pub fn choose_among(s: &[u8], from: usize, r: Request) -> Chosen
+    requires { ⌜ Begun (now s) (At from) ⌝ }
+    ensures { λ a. ⌜ a ≡ choosingAmong (fontsOf (now (s .entry))) r ⌝ }
+{
+    if in_range(r) {
+        answer(scan(s, from, r))
+    } else {
+        Chosen::OutOfRange
     }
 }
 
@@ -234,12 +384,8 @@ fn answer(best: Score) -> Chosen
 pub fn choose(s: &[u8], r: Request) -> Chosen
     ensures { λ a. ⌜ a ≡ choosing (now (s .entry)) r ⌝ }
 {
-    let Begin::At(from) = store::kept_fonts::fonts_begin(s) else {
+    let Begin::At(from) = store::records::begin_records(s) else {
         return Chosen::NotStore;
     };
-    if in_range(r) {
-        answer(scan(s, from, r))
-    } else {
-        Chosen::OutOfRange
-    }
+    choose_among(s, from, r)
 }

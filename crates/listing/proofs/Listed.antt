@@ -10,17 +10,20 @@ use lib.ListN.{length, drop, replicate, length-drop}
 use Rattle.store.specs.Model.{Rec, Store, font, character, split, sizeOf, total, decode}
 use Rattle.store.specs.Answer.{toldOf}
 use Rattle.store.specs.Calls.{tellingFont}
-use Rattle.store.specs.Fonts.{fontsIn, fontsAt, fontsOf, fontsBy, isStore, isSome, Place, Onward, Begun}
+use Rattle.store.specs.Records.{isStore, isSome, recordsIn, recordsAt, recordsBy, Place, Begun}
+use Rattle.store.specs.Fonts.{fontsIn, fontsAt, fontsOf, Onward}
 use Rattle.store.specs.declared.telling.Told.{Told}
-use Rattle.store.specs.declared.kept_fonts.Begin.{Begin}
-use Rattle.store.specs.declared.kept_fonts.Begin.the-variants.{At, NotStore}
+use Rattle.store.specs.declared.records.Begin.{Begin}
+use Rattle.store.specs.declared.records.Begin.the-variants.{At, NotStore}
 use Rattle.store.specs.declared.kept_fonts.Next.{Next}
 use Rattle.store.specs.declared.kept_fonts.Next.the-variants.{Font as found, End}
-use Rattle.store.proofs.Records.{head-inv}
-use Rattle.store.proofs.KeptFonts.{Standing, at-end, at-record, stands-at, headed-size}
+use Rattle.store.proofs.RecordBytes.{head-inv}
+use Rattle.store.proofs.RecordRuns.{Standing, at-end, at-record, stands-at, headed-size}
+use Rattle.store.proofs.KeptFonts.{fonts-begun}
 use Rattle.listing.specs.Wrote.{Wrote}
 use Rattle.listing.specs.Column.{column, signedColumn}
-use Rattle.listing.specs.Line.{byte, word, measures, looks, line, fontLine, lines}
+use Rattle.blocks.specs.Field.{byte}
+use Rattle.listing.specs.Line.{wordFrom, measures, looks, line, fontLine, lines}
 use Rattle.listing.proofs.Writes.{wrote-none, wrote-then}
 
 -- ── a signed number
@@ -34,18 +37,18 @@ signed-minus b x h = rw (le-ltb b 128 h)
 
 -- ── a line, column by column
 module _ (k s o₁ o₂ o₃ o₄ : List ℕ) (at e₁ e₂ e₃ e₄ : ℕ) where
-  pub wrote-measures : (a b c d : ℕ) → a ≡ word k 14 15 → b ≡ byte k 13 → c ≡ word k 16 17 → d ≡ word k 18 19
+  pub wrote-measures : (a b c d : ℕ) → a ≡ wordFrom k 14 15 → b ≡ byte k 13 → c ≡ wordFrom k 16 17 → d ≡ wordFrom k 18 19
       → Wrote s at (column a 32) e₁ o₁ → Wrote o₁ e₁ (column b 32) e₂ o₂ → Wrote o₂ e₂ (column c 32) e₃ o₃ → Wrote o₃ e₃ (column d 32) e₄ o₄
       → Wrote s at (measures k) e₄ o₄
-  unfolding measures word
+  unfolding measures wordFrom
   wrote-measures a b c d p q r t w₁ w₂ w₃ w₄ =
       rw (← p, ← q, ← r, ← t)
       (wrote-then _ _ _ _ _ _ _ _ w₁ (wrote-then _ _ _ _ _ _ _ _ w₂ (wrote-then _ _ _ _ _ _ _ _ w₃ w₄)))
 
-  pub wrote-looks : (a c : ℕ) → a ≡ word k 4 23 → c ≡ word k 26 25
+  pub wrote-looks : (a c : ℕ) → a ≡ wordFrom k 4 23 → c ≡ wordFrom k 26 25
       → Wrote s at (column a 32) e₁ o₁ → Wrote o₁ e₁ (signedColumn (byte k 24) 32) e₂ o₂ → Wrote o₂ e₂ (column c 32) e₃ o₃
       → Wrote s at (looks k) e₃ o₃
-  unfolding looks word
+  unfolding looks wordFrom
   wrote-looks a c p r w₁ w₂ w₃ = rw (← p, ← r) (wrote-then _ _ _ _ _ _ _ _ w₁ (wrote-then _ _ _ _ _ _ _ _ w₂ w₃))
 
   pub wrote-line : (n chars : ℕ) → Wrote s at (column n 32) e₁ o₁ → Wrote o₁ e₁ (measures k) e₂ o₂ → Wrote o₂ e₂ (looks k) e₃ o₃
@@ -81,7 +84,7 @@ fonts-total (font n h ∷ rs) = omega (arith, fonts-total rs)
 fonts-total (character n c h d ∷ rs) = omega (arith, fonts-total rs)
 
 pub fonts-fit : (s : List ℕ) (at : ℕ) → Place s at → 72 * length (fontsAt s at) ≤ length s
-unfolding fontsAt
+unfolding fontsAt recordsAt
 fonts-fit s at p = rw (p .is) (omega (arith, fonts-total (p .recs), run-fits (p .recs) (drop at s) (p .is), length-drop at s))
 
 -- ── line by line: those before place p stand in the output, which is o with them from `at` up to `to`
@@ -89,7 +92,7 @@ pub record Listed (s : List ℕ) (from : ℕ) (o : List ℕ) (at p : ℕ) (out :
   pub text : List ℕ
   pub wrote : Wrote o at text to out
   pub left : text ++ lines s (fontsAt s p) ≡ lines s (fontsAt s from)
-  pub room : to + 55 * length (fontsAt s p) ≤ at + length s
+  pub room : to + 65 * length (fontsAt s p) ≤ at + length s
 
 pub listed-none : (s : List ℕ) (from : ℕ) (o : List ℕ) (at : ℕ) → at + length s ≤ length o → Place s from → Listed s from o at from o at
 listed-none s from o at h p =
@@ -107,10 +110,10 @@ module _ (s : List ℕ) (from : ℕ) (o : List ℕ) (at p : ℕ) (out : List ℕ
     pub met : Onward s p (found n k next)
     met = rw e at h
 
-    pub room-here : to + 55 ≤ at + length s
+    pub room-here : to + 65 ≤ at + length s
     room-here = omega (arith, x .room, ap length (met .0))
 
-    pub listed-more : (end : ℕ) (last : List ℕ) → end ≤ to + 55 → Wrote out to (fontLine s n) end last → Listed s from o at next last end
+    pub listed-more : (end : ℕ) (last : List ℕ) → end ≤ to + 65 → Wrote out to (fontLine s n) end last → Listed s from o at next last end
     unfolding lines
     listed-more end last b w =
         let rest = lines s (fontsAt s next) in
@@ -123,11 +126,11 @@ module _ (s : List ℕ) (from : ℕ) (o : List ℕ) (at p : ℕ) (out : List ℕ
 
 -- ── from where the run begins
 pub no-lines : (s : List ℕ) → isStore s ≡ false → lines s (fontsOf s) ≡ []
-unfolding lines isStore fontsOf
+unfolding lines isStore fontsOf recordsIn fontsIn
 no-lines s e = go (decode s) e
   where
-    go : (o : Option Store) → isSome o ≡ false → lines s (fontsBy o) ≡ []
-    go none e = unfold lines in refl
+    go : (o : Option Store) → isSome o ≡ false → lines s (fontsIn (recordsBy o)) ≡ []
+    go none e = refl
     go (some st) e = let z : _≡_ {A = ℕ} 0 1 = cc in absurd (omega arith)
 
 module _ (s : List ℕ) (v : Begin) (h : Begun s v) where
@@ -142,4 +145,4 @@ module _ (s : List ℕ) (v : Begin) (h : Begun s v) where
     begins-at = begun .1
 
     pub wrote-begun : (o out : List ℕ) (at end : ℕ) → Wrote o at (lines s (fontsAt s p)) end out → Wrote o at (lines s (fontsOf s)) end out
-    wrote-begun o out at end w = rw (← (begun .2)) w
+    wrote-begun o out at end w = rw (← (fonts-begun s p begun)) w

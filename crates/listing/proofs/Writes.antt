@@ -1,5 +1,5 @@
 -- Laws of what was written. Assumes nothing.
-use Prim.Native.Nat.{ℕ, _+_, _<_, _≤_}
+use Prim.Native.Nat.{ℕ, _+_, _*_, _<_, _≤_}
 use mathlib.Core.Path.{_≡_, refl, sym, ap, _∙_}
 use mathlib.Core.List.{List, [], _∷_, _++_}
 use native.Mathlib.Omega.{arith}
@@ -7,8 +7,8 @@ use lib.ListN.{length, set, length-append}
 use lib.Seq.{length-take-le}
 use Rattle.io.specs.Counts.{Counts}
 use Rattle.stream.specs.Digits.{decimal}
-use Rattle.stream.specs.Put.{put}
-use Rattle.stream.proofs.Decimals.{decimal-length}
+use Rattle.store.specs.Change.{withBytes}
+use Rattle.stream.proofs.Decimals.{tens, decimal-short}
 use Rattle.stream.proofs.Putting.{length-put, put-none, put-byte, put-joined}
 use Rattle.listing.specs.Wrote.{Wrote}
 use Rattle.listing.specs.Column.{column}
@@ -17,7 +17,7 @@ pub wrote-none : (s : List ℕ) (at : ℕ) → at ≤ length s → Wrote s at []
 wrote-none s at h = record { place = omega arith; within = h; bytes = sym (put-none s at) }
 
 -- as the stream's writers say it
-pub wrote-put : (s b out : List ℕ) (at end : ℕ) → at + length b ≤ length s → end ≡ at + length b → out ≡ put s at b → Wrote s at b end out
+pub wrote-put : (s b out : List ℕ) (at end : ℕ) → at + length b ≤ length s → end ≡ at + length b → out ≡ withBytes s at b → Wrote s at b end out
 wrote-put s b out at end h e p = record { place = e; within = omega arith; bytes = p }
 
 pub wrote-byte : (s : List ℕ) (at x : ℕ) → at < length s → Wrote s at (x ∷ []) (at + 1) (set s at x)
@@ -45,11 +45,19 @@ wrote-then s a b out last at from end w v =
     }
 
 -- ── columns
-pub wrote-column : (s out : List ℕ) (at n x end : ℕ) → at + 6 ≤ length s → end ≡ at + length (decimal n) → out ≡ put s at (decimal n)
+pub column-length : (n x : ℕ) → length (column n x) ≡ length (decimal n) + 1
+unfolding column
+column-length n x = length-append (decimal n) (x ∷ [])
+
+-- k + 1 digits, and the byte behind them
+pub column-short : (k n x : ℕ) → n < tens k * 10 → length (column n x) ≤ k + 2
+column-short k n x h = omega (arith, column-length n x, decimal-short k n h)
+
+pub wrote-column : (s out : List ℕ) (at n x end : ℕ) → at + length (column n x) ≤ length s → end ≡ at + length (decimal n) → out ≡ withBytes s at (decimal n)
     → Wrote s at (column n x) (end + 1) (set out end x)
 unfolding column
 wrote-column s out at n x end h e p =
-    let d = decimal-length n in
+    let d = column-length n x in
     let w = wrote-put s (decimal n) out at end (omega (arith, d)) e p in
     let l : length out ≡ length s = ap length p ∙ length-put s (decimal n) at (omega (arith, d)) in
     wrote-then s (decimal n) (x ∷ []) out (set out end x) at end (end + 1) w (wrote-byte out end x (omega (arith, d)))

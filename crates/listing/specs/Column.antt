@@ -1,5 +1,4 @@
--- A number in a line, with the byte behind it. Every number of the listing is below 100,000, as `decimal` wants: a field has two bytes, and the
--- counts and places are those of at most 32,768 bytes.
+-- A number in a line, with the byte behind it.
 use Prim.Native.Nat.{ℕ, _-_}
 use mathlib.Core.List.{List, [], _∷_, _++_}
 use mathlib.Core.Bool.{cond}

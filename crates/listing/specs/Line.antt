@@ -1,7 +1,8 @@
 -- Document 01, "The stream", the listing program: the lines of fonts. "Fields are the kept ones, chars the number of characters."
-use Prim.Native.Nat.{ℕ, _+_, _*_}
+use Prim.Native.Nat.{ℕ}
 use mathlib.Core.List.{List, [], _∷_, _++_}
-use lib.ListN.{getD, replicate}
+use lib.ListN.{replicate}
+use Rattle.blocks.specs.Field.{byte, join}
 use Rattle.blocks.specs.Header.{symbolSet, spacing, pitch, height, style, strokeWeight, typeface}
 use Rattle.store.specs.Answer.{Telling}
 use Rattle.store.specs.Calls.{tellingFont}
@@ -15,12 +16,9 @@ space = 32
 abbrev pub newline : ℕ
 newline = 10
 
-abbrev pub byte : List ℕ → ℕ → ℕ
-byte k i = getD k i 0
-
--- two bytes, high and low
-unfoldable pub word : List ℕ → ℕ → ℕ → ℕ
-word k hi lo = byte k hi * 256 + byte k lo
+-- the bytes at two places, high and low
+unfoldable pub wordFrom : List ℕ → ℕ → ℕ → ℕ
+wordFrom k hi lo = join (byte k hi) (byte k lo)
 
 -- set, spacing, pitch and height of a font, by its kept bytes
 unfoldable pub measures : List ℕ → List ℕ
@@ -34,12 +32,12 @@ looks k = column (style k) space ++ (signedColumn (strokeWeight k) space ++ colu
 unfoldable pub line : ℕ → List ℕ → ℕ → List ℕ
 line n k chars = column n space ++ (measures k ++ (looks k ++ column chars newline))
 
-abbrev pub lineOf : ℕ → Telling → List ℕ
-lineOf n t = line n (t .out) (t .count)
+abbrev pub toldLine : ℕ → Telling → List ℕ
+toldLine n t = line n (t .out) (t .count)
 
 -- font n of the store s, as it is told
 unfoldable pub fontLine : List ℕ → ℕ → List ℕ
-fontLine s n = lineOf n (tellingFont n s (replicate 64 0))
+fontLine s n = toldLine n (tellingFont n s (replicate 64 0))
 
 -- a line per font
 unfoldable pub lines : List ℕ → List Font → List ℕ

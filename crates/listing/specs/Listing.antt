@@ -32,9 +32,9 @@ unfoldable pub freshStore : List ℕ
 freshStore = makingFresh (replicate 16384 0) .bytes
 
 -- what a reading left and answered
-unfoldable pub listed : Reading → List ℕ
-listed r = heading ++ (lines (r .bytes) (fontsOf (r .bytes)) ++ summary (r .answer))
+unfoldable pub listingText : Reading → List ℕ
+listingText r = heading ++ (lines (r .bytes) (fontsOf (r .bytes)) ++ summary (r .answer))
 
 -- what is written for this input
 unfoldable pub listing : List ℕ → List ℕ
-listing input = cond (leb (length input) 32768) (listed (reading input freshStore)) tooLong
+listing input = cond (leb (length input) 32768) (listingText (reading input freshStore)) tooLong

@@ -23,8 +23,8 @@ stoppedWord = 32 ∷ 115 ∷ 116 ∷ 111 ∷ 112 ∷ 112 ∷ 101 ∷ 100 ∷ 32 
 unfoldable pub counts : ℕ → ℕ → List ℕ
 counts done refused = doneWord ++ (column done space ++ (refusedWord ++ decimal refused))
 
-unfoldable pub place : ℕ → List ℕ
-place p = stoppedWord ++ column p newline
+unfoldable pub stopped : ℕ → List ℕ
+stopped p = stoppedWord ++ column p newline
 
 unfoldable pub summary : StreamRead → List ℕ
-summary r = counts (r .done) (r .refused) ++ cond (eqb (r .refusal) 13) (place (r .place)) (newline ∷ [])
+summary r = counts (r .done) (r .refused) ++ cond (eqb (r .refusal) 13) (stopped (r .place)) (newline ∷ [])

@@ -6,13 +6,21 @@ ghost use Rattle.listing.specs.Column.{column, signedColumn};
 use stream::digits::write_digits;
 
 pub fn write_column(out: &mut [u8], at: usize, n: usize, behind: u8) -> usize
-    requires { ⌜ at + 6 ≤ length (now out) ⌝ }
+    requires { ⌜ at + length (column n behind) ≤ length (now out) ⌝ }
     ensures { λ r. ⌜ Wrote (now (out .entry)) at (column n behind) r (now (out .exit)) ⌝ }
-    ensures { λ r. ⌜ r ≤ at + 6 ⌝ }
 {
     let end = write_digits(out, at, n);
     out[end] = behind;
     end + 1
+}
+
+// A number of two bytes: five digits at most.
+pub fn write_short(out: &mut [u8], at: usize, n: usize, behind: u8) -> usize
+    requires { ⌜ (n < 65536) × (at + 6 ≤ length (now out)) ⌝ }
+    ensures { λ r. ⌜ Wrote (now (out .entry)) at (column n behind) r (now (out .exit)) ⌝ }
+    ensures { λ r. ⌜ r ≤ at + 6 ⌝ }
+{
+    write_column(out, at, n, behind)
 }
 
 // A byte in two's complement, with its sign if it is negative.
@@ -22,8 +30,8 @@ pub fn write_signed(out: &mut [u8], at: usize, b: u8, behind: u8) -> usize
     ensures { λ r. ⌜ r ≤ at + 7 ⌝ }
 {
     if b < 128 {
-        return write_column(out, at, b as usize, behind);
+        return write_short(out, at, b as usize, behind);
     }
     out[at] = b'-';
-    write_column(out, at + 1, 256 - b as usize, behind)
+    write_short(out, at + 1, 256 - b as usize, behind)
 }

@@ -1,13 +1,15 @@
 // The lines of a store's fonts, by rising number.
 ghost use Prim.Native.Nat.{_+_, _≤_};
 ghost use lib.ListN.{length};
-ghost use Rattle.store.specs.Fonts.{Place, fontsAt, fontsOf};
+ghost use Rattle.store.specs.Records.{Place};
+ghost use Rattle.store.specs.Fonts.{fontsAt, fontsOf};
 ghost use Rattle.listing.specs.Wrote.{Wrote};
 ghost use Rattle.listing.specs.Line.{lines};
 use crate::line::write_font;
 use store::kept_fonts;
-use store::kept_fonts::Begin;
 use store::kept_fonts::Next;
+use store::records;
+use store::records::Begin;
 
 // Those from a place of the store on. A line is shorter than the record of its font, so that the store's length is room enough.
 fn write_from(out: &mut [u8], at: usize, s: &[u8], from: usize) -> usize
@@ -36,7 +38,7 @@ pub fn write_lines(out: &mut [u8], at: usize, s: &[u8]) -> usize
     ensures { λ r. ⌜ Wrote (now (out .entry)) at (lines (now (s .entry)) (fontsOf (now (s .entry)))) r (now (out .exit)) ⌝ }
     ensures { λ r. ⌜ r ≤ at + length (now (s .entry)) ⌝ }
 {
-    let Begin::At(from) = kept_fonts::fonts_begin(s) else {
+    let Begin::At(from) = records::begin_records(s) else {
         return at;
     };
     write_from(out, at, s, from)

@@ -2,16 +2,16 @@
 ghost use Prim.Native.Nat.{_+_, _≤_};
 ghost use lib.ListN.{length};
 ghost use Rattle.listing.specs.Wrote.{Wrote};
-ghost use Rattle.listing.specs.Summary.{counts, place, summary};
+ghost use Rattle.listing.specs.Summary.{counts, stopped, summary};
 use crate::column::write_column;
 use stream::digits::write_digits;
 use stream::reading::StreamRead;
 use stream::writing::write_bytes;
 
 fn write_counts(out: &mut [u8], at: usize, done: usize, refused: usize) -> usize
-    requires { ⌜ at + 24 ≤ length (now out) ⌝ }
+    requires { ⌜ at + 54 ≤ length (now out) ⌝ }
     ensures { λ r. ⌜ Wrote (now (out .entry)) at (counts done refused) r (now (out .exit)) ⌝ }
-    ensures { λ r. ⌜ r ≤ at + 24 ⌝ }
+    ensures { λ r. ⌜ r ≤ at + 54 ⌝ }
 {
     let first = write_bytes(out, at, b"done ");
     let word = write_column(out, first, done, b' ');
@@ -20,15 +20,15 @@ fn write_counts(out: &mut [u8], at: usize, done: usize, refused: usize) -> usize
 }
 
 fn write_place(out: &mut [u8], at: usize, p: usize) -> usize
-    requires { ⌜ at + 15 ≤ length (now out) ⌝ }
-    ensures { λ r. ⌜ Wrote (now (out .entry)) at (place p) r (now (out .exit)) ⌝ }
+    requires { ⌜ at + 30 ≤ length (now out) ⌝ }
+    ensures { λ r. ⌜ Wrote (now (out .entry)) at (stopped p) r (now (out .exit)) ⌝ }
 {
     let from = write_bytes(out, at, b" stopped ");
     write_column(out, from, p, b'\n')
 }
 
 pub fn write_summary(out: &mut [u8], at: usize, read: StreamRead) -> usize
-    requires { ⌜ at + 39 ≤ length (now out) ⌝ }
+    requires { ⌜ at + 84 ≤ length (now out) ⌝ }
     ensures { λ r. ⌜ Wrote (now (out .entry)) at (summary read) r (now (out .exit)) ⌝ }
 {
     let end = write_counts(out, at, read.done as usize, read.refused as usize);

@@ -8,31 +8,32 @@ use mathlib.Core.Option.{Option, none, some}
 use lib.Dec.{leb, ltb}
 use lib.ListN.{length, drop}
 use Rattle.blocks.specs.Check.{Check, verdict}
-use Rattle.blocks.specs.Header.{orientation, headerChecks, readHeader, keptHeader}
-use Rattle.blocks.specs.Character.{class, width, height, rowSize, pictureSize, characterLength, kindOf, firstChecks, readFirst, keptFirst}
-use Rattle.blocks.specs.Picture.{judge, keptData}
+use Rattle.blocks.specs.Header.{headerBytes, orientation, headerChecks, readHeader, keptHeader}
+use Rattle.blocks.specs.Character.{descriptorBytes, continuationBytes, dataLimit, width, height, rowSize, pictureSize, characterLength, kindOf, firstChecks, readFirst, keptFirst}
 use Rattle.blocks.specs.declared.Verdict.the-variants.{Refused}
 use Rattle.blocks.specs.declared.character.Kind.{Kind}
 use Rattle.blocks.specs.declared.character.Kind.the-variants.{First, Continuation, Unknown}
 use Rattle.blocks.specs.declared.picture.Judged.{Judged}
 use Rattle.blocks.specs.declared.picture.Judged.the-variants.{Complete, Incomplete, PastWidth}
-use Rattle.store.specs.Layout.{keyOf}
+use Rattle.store.specs.Layout.{leastStore, mostStore, lastFont, keyOf}
 use Rattle.store.specs.Num.{_&_}
-use Rattle.store.specs.Model.{Rec, Store, encode, decode}
+use Rattle.store.specs.Model.{Rec, Store, decode}
 use Rattle.store.specs.Order.{find}
 use Rattle.store.specs.Answer.{onStore, checked, taking, finding, numbered, onFont, onCharacter, After, refuse, done, Telling, untold}
-use Rattle.store.specs.Fonts.{isStore}
-use Rattle.store.specs.Calls.{used, makingFresh, putFont, removeFont, removingFont, puttingFont, downloadingFont, removingCharacter, keptOf, dataOf, tellingFont, tellingCharacter}
-use Rattle.store.specs.Download.{names, putCharacter, placing, ifWithin, receiving, receivingFirst, receivingMore, byKind, puttingBlock, downloadingCharacter}
+use Rattle.store.specs.Records.{isStore}
+use Rattle.store.specs.Calls.{used, makingFresh, putFont, removingFont, downloadingFont, removingCharacter, keptOf, dataOf, tellingFont, tellingCharacter}
+use Rattle.store.specs.Download.{putCharacter, withoutFont, byKind, names, withinWidth, judgedOf, keptOfData, downloadingCharacter}
 use Rattle.store.specs.Drawing.{drawingRow, rowOf, drawingPicture, pictureOf}
 use Rattle.choice.specs.Choosing.{choosing}
 use Rattle.choice.specs.declared.Request.{Request}
 use Rattle.choice.specs.declared.Chosen.{Chosen}
 use Rattle.choice.specs.declared.Chosen.the-variants.{Number, NotStore, OutOfRange, NoFont}
-use Rattle.stream.specs.Reading.{outset, Reading, answerOf, spelledFrom, readFrom, reading}
+use Rattle.stream.specs.Reading.{Reading, endAnswer, readingOf, reading}
+use Rattle.stream.specs.declared.reading.Ending.{Ending}
+use Rattle.stream.specs.declared.reading.Ending.the-variants.{AtEnd, BrokenAt}
 use Rattle.stream.specs.Written.{WriteOut, unwritten, written, writingFont}
-use Rattle.marlinfold.specs.Calls.{Call, make-fresh, download-font, download-character, remove-font, remove-character, choose-font, tell-font, tell-character, draw-row, draw-picture, write-font, read-stream, outputOf, Outcome, changed, named, told, drawn, wrote, read, outcome}
-use Rattle.marlinfold.specs.Demands.{listed, isIn, others, unchanged, Refusal, as-listed, no-room, broken, Demand1}
+use Rattle.marlinfold.specs.Calls.{Call, make-fresh, download-font, download-character, remove-font, remove-character, choose-font, tell-font, tell-character, draw-row, draw-picture, write-font, read-stream, outputOf, Outcome, ofChange, ofChoice, ofTelling, ofDrawing, ofWriting, ofReading, outcome}
+use Rattle.marlinfold.specs.Demands.{listed, isIn, others, unchanged, carriedOut, Refusal, as-listed, no-room, broken, Demand1}
 
 -- the claim of an outcome
 abbrev Told : Call → List ℕ → Outcome → Type 0
@@ -85,7 +86,7 @@ module _ {c : Call} {s : List ℕ} {A : Type 0} (w : Way c s A) where
   -- a call on a kept font, or on a kept character
   by-font : (n : ℕ) (f : Store → Rec → A) → May 1 × May 2 × May 6 → ((st : Store) (r : Rec) → Is (f st r)) → Is (onFont (w .refuse) n s f)
   unfolding onFont
-  by-font n f m g = by-store (decode s) _ (m .0) (λ st e. by-check (leb n 32767) 2 _ (m .1) (by-find (find (keyOf n 0) (st .recs)) 6 (f st) (m .2) (g st)))
+  by-font n f m g = by-store (decode s) _ (m .0) (λ st e. by-check (leb n lastFont) 2 _ (m .1) (by-find (find (keyOf n 0) (st .recs)) 6 (f st) (m .2) (g st)))
 
   by-character : (n k : ℕ) (f : Store → Rec → A) → May 1 × May 2 × May 6 × May 7 → ((st : Store) (r : Rec) → Is (f st r)) → Is (onCharacter (w .refuse) n k s f)
   unfolding onCharacter
@@ -97,133 +98,125 @@ abbrev Claim : Call → List ℕ → Type 0
 Claim c s = Told c s (outcome c s)
 
 makes-fresh : (s : List ℕ) → Claim make-fresh s
-unfolding outcome listed outputOf others makingFresh
+unfolding listed outputOf others makingFresh
 makes-fresh s =
-    let w : Way make-fresh s After = record { of = changed; refuse = refuse s; same = λ k. refl } in
-    by-check w (leb 12 (length s) & leb (length s) 65536) 1 _ refl (inl refl)
+    let w : Way make-fresh s After = record { of = ofChange; refuse = refuse s; same = λ k. refl } in
+    by-check w (leb leastStore (length s) & leb (length s) mostStore) 1 _ refl (inl refl)
 
 downloads-font : (n : ℕ) (b s : List ℕ) → Claim (download-font n b) s
-unfolding outcome listed outputOf others downloadingFont puttingFont readHeader
+unfolding listed outputOf others downloadingFont readHeader
 downloads-font n b s =
-    let w : Way (download-font n b) s After = record { of = changed; refuse = refuse s; same = λ k. refl } in
-    by-store w (decode s) _ refl (λ st e. by-check w (leb n 32767) 2 _ refl (by-verdict w (headerChecks b) _ (refl, (refl, (refl, tt)))
-    (by-store w (decode s) _ refl (λ st e. by-check w (leb (used (putFont n (keptHeader b) st)) (st .size)) 10 _ refl (inl refl)))))
+    let w : Way (download-font n b) s After = record { of = ofChange; refuse = refuse s; same = λ k. refl } in
+    by-store w (decode s) _ refl (λ st e. by-check w (leb n lastFont) 2 _ refl (by-verdict w (headerChecks b) _ (refl, (refl, (refl, tt)))
+    (by-check w (leb (used (putFont n (keptHeader b) st)) (st .size)) 10 _ refl (inl refl))))
 
 removes-font : (n : ℕ) (s : List ℕ) → Claim (remove-font n) s
-unfolding outcome listed outputOf others removingFont
+unfolding listed outputOf others removingFont
 removes-font n s =
-    let w : Way (remove-font n) s After = record { of = changed; refuse = refuse s; same = λ k. refl } in
+    let w : Way (remove-font n) s After = record { of = ofChange; refuse = refuse s; same = λ k. refl } in
     by-font w n _ (refl, refl, refl) (λ st r. inl refl)
 
 removes-character : (n c : ℕ) (s : List ℕ) → Claim (remove-character n c) s
-unfolding outcome listed outputOf others removingCharacter
+unfolding listed outputOf others removingCharacter
 removes-character n c s =
-    let w : Way (remove-character n c) s After = record { of = changed; refuse = refuse s; same = λ k. refl } in
+    let w : Way (remove-character n c) s After = record { of = ofChange; refuse = refuse s; same = λ k. refl } in
     by-character w n c _ (refl, refl, refl, refl) (λ st r. inl refl)
 
 -- choosing has its refusals as the cases of its answer
 chooses : (r : Request) (s : List ℕ) → Claim (choose-font r) s
-unfolding outcome listed outputOf others
+unfolding listed outputOf others
 chooses r s = by-case (choosing s r)
   where
-    by-case : (a : Chosen) → Told (choose-font r) s (named s a)
+    by-case : (a : Chosen) → Told (choose-font r) s (ofChoice s a)
     by-case (Number n) = inl refl
     by-case NotStore = inr (as-listed (choose-font r) 1 refl)
     by-case OutOfRange = inr (as-listed (choose-font r) 2 refl)
     by-case NoFont = inr (as-listed (choose-font r) 11 refl)
 
 tells-font : (n : ℕ) (out s : List ℕ) → Claim (tell-font n out) s
-unfolding outcome listed outputOf others tellingFont
+unfolding listed outputOf others tellingFont
 tells-font n out s =
-    let w : Way (tell-font n out) s Telling = record { of = told s; refuse = untold out; same = λ k. refl } in
-    by-font w n _ (refl, refl, refl) (λ st r. by-check w (leb 64 (length out)) 12 _ refl (inl refl))
+    let w : Way (tell-font n out) s Telling = record { of = ofTelling s; refuse = untold out; same = λ k. refl } in
+    by-font w n _ (refl, refl, refl) (λ st r. by-check w (leb headerBytes (length out)) 12 _ refl (inl refl))
 
 tells-character : (n c : ℕ) (out s : List ℕ) → Claim (tell-character n c out) s
-unfolding outcome listed outputOf others tellingCharacter
+unfolding listed outputOf others tellingCharacter
 tells-character n c out s =
-    let w : Way (tell-character n c out) s Telling = record { of = told s; refuse = untold out; same = λ k. refl } in
-    by-character w n c _ (refl, refl, refl, refl) (λ st r. by-check w (leb 16 (length out)) 12 _ refl (inl refl))
+    let w : Way (tell-character n c out) s Telling = record { of = ofTelling s; refuse = untold out; same = λ k. refl } in
+    by-character w n c _ (refl, refl, refl, refl) (λ st r. by-check w (leb descriptorBytes (length out)) 12 _ refl (inl refl))
 
 draws-row : (n c row : ℕ) (out s : List ℕ) → Claim (draw-row n c row out) s
-unfolding outcome listed outputOf others drawingRow rowOf
+unfolding listed outputOf others drawingRow rowOf
 draws-row n c row out s =
-    let w : Way (draw-row n c row out) s After = record { of = drawn s; refuse = refuse out; same = λ k. refl } in
+    let w : Way (draw-row n c row out) s After = record { of = ofDrawing s; refuse = refuse out; same = λ k. refl } in
     by-character w n c _ (refl, refl, refl, refl) (λ st r.
     by-check w (ltb row (height (keptOf r))) 2 _ refl (by-check w (leb (rowSize (width (keptOf r))) (length out)) 12 _ refl (inl refl)))
 
 draws-picture : (n c : ℕ) (out s : List ℕ) → Claim (draw-picture n c out) s
-unfolding outcome listed outputOf others drawingPicture pictureOf
+unfolding listed outputOf others drawingPicture pictureOf
 draws-picture n c out s =
-    let w : Way (draw-picture n c out) s After = record { of = drawn s; refuse = refuse out; same = λ k. refl } in
+    let w : Way (draw-picture n c out) s After = record { of = ofDrawing s; refuse = refuse out; same = λ k. refl } in
     by-character w n c _ (refl, refl, refl, refl) (λ st r. by-check w (leb (pictureSize (width (keptOf r)) (height (keptOf r))) (length out)) 12 _ refl (inl refl))
 
 writes-font : (n : ℕ) (out s : List ℕ) → Claim (write-font n out) s
-unfolding outcome listed outputOf others writingFont
+unfolding listed outputOf others writingFont
 writes-font n out s =
-    let w : Way (write-font n out) s WriteOut = record { of = wrote s; refuse = unwritten out; same = λ k. refl } in
+    let w : Way (write-font n out) s WriteOut = record { of = ofWriting s; refuse = unwritten out; same = λ k. refl } in
     by-font w n _ (refl, refl, refl) (λ st r. by-check w (leb (length (written n (st .recs))) (length out)) 12 _ refl (inl refl))
 
 -- ── a character block
 module _ (n c : ℕ) (b s : List ℕ) where
   sent : Way (download-character n c b) s After
   unfolding outputOf others
-  sent = record { of = changed; refuse = refuse s; same = λ k. refl }
+  sent = record { of = ofChange; refuse = refuse s; same = λ k. refl }
 
   module _ (st : Store) (e : decode s ≡ some st) where
-    placed : (h d : List ℕ) → Is sent (placing n c h d st)
-    unfolding placing sent
-    placed h d = go (leb (used (putCharacter n c h d st)) (st .size))
-      where
-        go : (t : Bool) → Is sent (cond t (done (putCharacter n c h d st)) (record { answer = 10; bytes = encode (removeFont n st) }))
-        go true = inl refl
-        go false = inr (no-room n c b st e)
-
-    received : (h d : List ℕ) → Is sent (receiving n c h d s st)
-    unfolding receiving listed sent
-    received h d =
-        let kept : List ℕ = keptData (class h) (width h) (height h) d in
-        go (judge (class h) (width h) (height h) d) _ (by-check sent (leb (length kept) 32768) 9 _ refl (placed h kept))
-      where
-        go : (j : Judged) (a : After) → Is sent a → Is sent (ifWithin j (refuse s 8) a)
-        go (Complete m) a p = p
-        go Incomplete a p = p
-        go (PastWidth row f x) a p = refused sent 8 refl
-
-    first : (g : List ℕ) → Is sent (receivingFirst n c g b s st)
-    unfolding receivingFirst readFirst listed sent
-    first g = by-verdict sent (firstChecks b (orientation g)) _ (refl, (refl, (refl, (refl, tt)))) (received (keptFirst b) (drop 16 b))
-
-    more : Is sent (receivingMore n c b s st)
-    unfolding receivingMore listed sent
-    more = by-check sent (names n c (st .mark)) 7 _ refl
-        (by-find sent (find (keyOf n (c + 1)) (st .recs)) 7 _ refl (λ r. received (keptOf r) (dataOf r ++ drop 2 b)))
-
-    by-kind : (x : Kind) (a d : After) → Is sent a → Is sent d → Is sent (byKind x a d (refuse s 4))
+    -- 8, 9 and 10
+    received : (h d : List ℕ)
+        → Is sent (taking (refuse s) (withinWidth (judgedOf h d)) (checked (refuse s) (leb (length (keptOfData h d)) dataLimit) 9
+        (checked (withoutFont n st) (leb (used (putCharacter n c h (keptOfData h d) st)) (st .size)) 10 (done (putCharacter n c h (keptOfData h d) st)))))
     unfolding listed sent
-    by-kind First a d p q = p
-    by-kind Continuation a d p q = q
-    by-kind Unknown a d p q = refused sent 4 refl
+    received h d =
+        within (judgedOf h d) _ (by-check sent (leb (length (keptOfData h d)) dataLimit) 9 _ refl (placed (leb (used (putCharacter n c h (keptOfData h d) st)) (st .size)) (putCharacter n c h (keptOfData h d) st)))
+      where
+        placed : (t : Bool) (u : Store) → Is sent (checked (withoutFont n st) t 10 (done u))
+        placed true u = inl refl
+        placed false u = inr (no-room n c b st e)
+
+        within : (j : Judged) (a : After) → Is sent a → Is sent (taking (refuse s) (withinWidth j) a)
+        within (Complete m) a p = p
+        within Incomplete a p = p
+        within (PastWidth row f x) a p = refused sent 8 refl
+
+    by-kind : (k : Kind) (first more : (List ℕ → List ℕ → After) → After) (both : List ℕ → List ℕ → After) → Is sent (first both) → Is sent (more both)
+        → Is sent (byKind (refuse s) k first more both)
+    unfolding listed sent
+    by-kind First first more both p q = p
+    by-kind Continuation first more both p q = q
+    by-kind Unknown first more both p q = refused sent 4 refl
 
   downloads-character : Claim (download-character n c b) s
-  unfolding outcome listed sent downloadingCharacter puttingBlock
+  unfolding listed sent downloadingCharacter readFirst
   downloads-character =
-      by-store sent (decode s) _ refl (λ st e. by-check sent (numbered n c) 2 _ refl
-      (by-store sent (decode s) _ refl (λ st e. by-check sent (characterLength b) 3 _ refl
-      (by-find sent (find (keyOf n 0) (st .recs)) 6 _ refl (λ r. by-kind st e (kindOf b) _ _ (first st e (keptOf r)) (more st e))))))
+      by-store sent (decode s) _ refl (λ st e. by-check sent (numbered n c) 2 _ refl (by-check sent (characterLength b) 3 _ refl
+      (by-find sent (find (keyOf n 0) (st .recs)) 6 _ refl (λ r. by-kind st e (kindOf b) _ _ _
+      (by-verdict sent (firstChecks b (orientation (keptOf r))) _ (refl, (refl, (refl, (refl, tt)))) (received st e (keptFirst b) (drop descriptorBytes b)))
+      (by-check sent (names n c (st .mark)) 7 _ refl
+      (by-find sent (find (keyOf n (c + 1)) (st .recs)) 7 _ refl (λ r. received st e (keptOf r) (dataOf r ++ drop continuationBytes b))))))))
 
 -- ── a stream
 reads : (b s : List ℕ) → Claim (read-stream b) s
-unfolding outcome listed outputOf others reading readFrom answerOf isStore
+unfolding listed outputOf others reading isStore endAnswer
 reads b s =
-    let w : Way (read-stream b) s Reading = record { of = read; refuse = λ k. record { answer = record { refusal = k; done = 0; refused = 0; place = 0 }; bytes = s }; same = λ k. refl } in
-    by-store w (decode s) _ refl (λ st e. ends (spelledFrom b 0 .broken) refl (is st e))
+    let w : Way (read-stream b) s Reading = record { of = ofReading; refuse = λ k. record { answer = record { refusal = k; done = 0; refused = 0; place = 0 }; bytes = s }; same = λ k. refl } in
+    by-store w (decode s) _ refl (λ st e. ends (carriedOut b s .ending) refl (is st e))
   where
     is : (st : Store) → decode s ≡ some st → isStore s ≡ true
     is st e = rw e
 
-    ends : (o : Option ℕ) → spelledFrom b 0 .broken ≡ o → isStore s ≡ true → Told (read-stream b) s (read (readFrom b 0 (record { progress = outset; bytes = s })))
-    ends none q i = rw q (inl refl)
-    ends (some at) q i = rw q (inr (broken b at i q))
+    ends : (o : Ending) → carriedOut b s .ending ≡ o → isStore s ≡ true → Told (read-stream b) s (ofReading (readingOf (carriedOut b s)))
+    ends AtEnd q i = rw q (inl refl)
+    ends (BrokenAt at) q i = rw q (inr (broken b at i q))
 
 -- ── the claim
 pub demand1 : Demand1

@@ -13,21 +13,22 @@ use Rattle.store.specs.Layout.{keyOf}
 use Rattle.store.specs.Num.{_&_}
 use Rattle.store.specs.Model.{Rec, Store, Under, number, place, key, under, alone, sorted, encode, split, markIn, validOr, decode}
 use Rattle.store.specs.Order.{keep, find}
-use Rattle.store.specs.Answer.{onStore, checked, finding, onFont, onCharacter, refuse, untold}
+use Rattle.store.specs.Answer.{onStore, checked, finding, onFont, onCharacter, After, refuse, Telling, untold}
+use Rattle.store.specs.Records.{recordsOf}
 use Rattle.store.specs.Calls.{fresh, onto, makingFresh, charactersOf, tellingFont, tellingCharacter}
 use Rattle.store.specs.Drawing.{drawingRow, drawingPicture}
 use Rattle.store.proofs.Numbers.{both}
-use Rattle.store.proofs.Records.{guard-is}
+use Rattle.store.proofs.RecordBytes.{guard-is}
 use Rattle.store.proofs.Codec.{storeOf, sorted-inv}
 use Rattle.store.proofs.Order.{place-small}
 use Rattle.store.proofs.Lookup.{find-other}
 use Rattle.store.proofs.Holds.{valid-decode}
 use Rattle.stream.specs.Reading.{Reading, reading}
-use Rattle.stream.specs.Written.{WriteOut, unwritten, recordsOf, written, writingFont}
+use Rattle.stream.specs.Written.{WriteOut, unwritten, written, writingFont}
 use Rattle.stream.specs.RoundTrip.{onlyFont, restored}
-use Rattle.stream.proofs.FontRun.{of-in, of-out}
+use Rattle.store.proofs.FontRecords.{of-in, of-out}
 use Rattle.stream.proofs.RoundTrip.{round-trip}
-use Rattle.marlinfold.specs.Calls.{make-fresh, leaves, outcome}
+use Rattle.marlinfold.specs.Calls.{make-fresh, Answer, leaves}
 use Rattle.marlinfold.specs.Demands.{streamOf, Again, RoundTrip}
 
 -- ── the font's records alone answer as all do
@@ -96,7 +97,7 @@ record Wrote (n : ℕ) (out s : List ℕ) : Type 0 where
   there : find (keyOf n 0) (store .recs) ≡ some head
   stream : streamOf n out s ≡ written n (store .recs)
 
-none-wrote : (n : ℕ) (out s : List ℕ) → decode s ≡ none → writingFont n out s .refusal ≡ 1
+none-wrote : (n : ℕ) (out s : List ℕ) → decode s ≡ none → writingFont n s out .refusal ≡ 1
 unfolding writingFont onFont onStore
 none-wrote n out s e = rw e
 
@@ -104,19 +105,19 @@ module _ (n : ℕ) (out s : List ℕ) (st : Store) (e : decode s ≡ some st) wh
   abbrev rest : Rec → WriteOut
   rest r = checked (unwritten out) (leb (length (written n (st .recs))) (length out)) 12 (record { refusal = 0; count = length (written n (st .recs)); out = onto (written n (st .recs)) out })
 
-  write-is : writingFont n out s ≡ checked (unwritten out) (leb n 32767) 2 (finding (unwritten out) (find (keyOf n 0) (st .recs)) 6 rest)
+  write-is : writingFont n s out ≡ checked (unwritten out) (leb n 32767) 2 (finding (unwritten out) (find (keyOf n 0) (st .recs)) 6 rest)
   unfolding writingFont onFont onStore
   write-is = rw e
 
-  some-wrote : writingFont n out s .refusal ≡ 0 → Wrote n out s
+  some-wrote : writingFont n s out .refusal ≡ 0 → Wrote n out s
   some-wrote z = go (leb n 32767) refl (find (keyOf n 0) (st .recs)) refl (leb (length (written n (st .recs))) (length out)) refl
     where
       go : (a : Bool) → leb n 32767 ≡ a → (o : Option Rec) → find (keyOf n 0) (st .recs) ≡ o → (b : Bool) → leb (length (written n (st .recs))) (length out) ≡ b → Wrote n out s
-      go false p o q b r = let y : writingFont n out s .refusal ≡ 2 = ap (λ (w : WriteOut). w .refusal) write-is ∙ rw p in absurd (omega (arith, y, z))
-      go true p none q b r = unfold finding in let y : writingFont n out s .refusal ≡ 6 = ap (λ (w : WriteOut). w .refusal) write-is ∙ rw (p, q) in absurd (omega (arith, y, z))
-      go true p (some h) q false r = unfold finding in let y : writingFont n out s .refusal ≡ 12 = ap (λ (w : WriteOut). w .refusal) write-is ∙ rw (p, q, r) in absurd (omega (arith, y, z))
+      go false p o q b r = let y : writingFont n s out .refusal ≡ 2 = ap (λ (w : WriteOut). w .refusal) write-is ∙ rw p in absurd (omega (arith, y, z))
+      go true p none q b r = unfold finding in let y : writingFont n s out .refusal ≡ 6 = ap (λ (w : WriteOut). w .refusal) write-is ∙ rw (p, q) in absurd (omega (arith, y, z))
+      go true p (some h) q false r = unfold finding in let y : writingFont n s out .refusal ≡ 12 = ap (λ (w : WriteOut). w .refusal) write-is ∙ rw (p, q, r) in absurd (omega (arith, y, z))
       go true p (some h) q true r = unfold finding in
-          let w : writingFont n out s ≡ record { refusal = 0; count = length (written n (st .recs)); out = onto (written n (st .recs)) out } = write-is ∙ rw (p, q, r) in
+          let w : writingFont n s out ≡ record { refusal = 0; count = length (written n (st .recs)); out = onto (written n (st .recs)) out } = write-is ∙ rw (p, q, r) in
           record {
             store = st;
             from = e;
@@ -125,7 +126,7 @@ module _ (n : ℕ) (out s : List ℕ) (st : Store) (e : decode s ≡ some st) wh
             stream = ap (λ (x : WriteOut). take (x .count) (x .out)) w ∙ take-append-seam (written n (st .recs)) (drop (length (written n (st .recs))) out);
           }
 
-wrote : (n : ℕ) (out s : List ℕ) → writingFont n out s .refusal ≡ 0 → Wrote n out s
+wrote : (n : ℕ) (out s : List ℕ) → writingFont n s out .refusal ≡ 0 → Wrote n out s
 wrote n out s z = go (decode s) refl
   where
     go : (o : Option Store) → decode s ≡ o → Wrote n out s
@@ -142,25 +143,35 @@ sized s st e = go (split (drop 12 s)) (guard-is _ _ st e)
     go (some rs) q = let i : storeOf s rs ≡ st = cc (guard-is _ _ st q) in ap (λ (x : Store). x .size) (sym i)
 
 made : (t : List ℕ) → 12 ≤ length t → length t ≤ 65536 → leaves make-fresh t ≡ encode (fresh (length t))
-unfolding outcome makingFresh
+unfolding makingFresh
 made t a b =
     let q : leb 12 (length t) & leb (length t) 65536 ≡ true = both (leb 12 (length t)) (leb (length t) 65536) (le-leb 12 (length t) a) (le-leb (length t) 65536 b) in
     rw (q, leaves)
 
 -- ── the claim
+-- what a caller is told
+abbrev toldAs : Telling → Answer
+toldAs a = record { refusal = a .refusal; numbers = a .count ∷ []; out = a .out }
+
+abbrev drawnAs : After → Answer
+drawnAs a = record { refusal = a .answer; numbers = []; out = a .bytes }
+
+abbrev writtenAs : WriteOut → Answer
+writtenAs a = record { refusal = a .refusal; numbers = a .count ∷ []; out = a .out }
+
 again : (n : ℕ) (s u : List ℕ) (st : Store) → decode s ≡ some st → decode u ≡ some (onlyFont n st) → Again n s u
 unfolding tellingFont tellingCharacter drawingRow drawingPicture writingFont written
 again n s u st e e′ =
     let o = valid-decode s st e .order in
     record {
-      was = st;
-      from = e;
-      now = e′;
-      font-told = λ out. on-font (untold out) n s u st e e′ o _ (λ r. rw (characters-of (st .recs) n));
-      character-told = λ c out. on-character (untold out) n s u st e e′ o c _;
-      row-drawn = λ c row out. on-character (refuse out) n s u st e e′ o c _;
-      picture-drawn = λ c out. on-character (refuse out) n s u st e e′ o c _;
-      font-written = λ out. on-font (unwritten out) n s u st e e′ o _ (λ r. rw (of-twice (st .recs) n));
+      store = st;
+      before = e;
+      afterwards = e′;
+      font-told = λ out. ap toldAs (on-font (untold out) n s u st e e′ o _ (λ r. rw (characters-of (st .recs) n)));
+      character-told = λ c out. ap toldAs (on-character (untold out) n s u st e e′ o c _);
+      row-drawn = λ c row out. ap drawnAs (on-character (refuse out) n s u st e e′ o c _);
+      picture-drawn = λ c out. ap drawnAs (on-character (refuse out) n s u st e e′ o c _);
+      font-written = λ out. ap writtenAs (on-font (unwritten out) n s u st e e′ o _ (λ r. rw (of-twice (st .recs) n)));
     }
 
 pub demand2 : RoundTrip

@@ -9,40 +9,77 @@ use lib.ListN.{length}
 use lib.Dec.{eqb, leb, ltb}
 use borrow.Author.Tests.{ltb-true, ltb-false, lt-ltb, eqb-true, eqb-false, eq-eqb}
 use Rattle.blocks.specs.Header.{keptHeader}
-use Rattle.store.specs.Answer.{onStore, checked, refuse, done}
+use Rattle.store.specs.Answer.{checked, refuse, done}
 use Rattle.store.specs.Num.{_&_}
-use Rattle.store.specs.Fonts.{Font, isStore, fontsOf, fontsBelow, fontsAbove, fontsWith, fontsAfter}
+use Rattle.store.specs.Records.{isStore}
+use Rattle.store.specs.Fonts.{Font, fontsOf, fontsBelow, fontsAbove, fontsWith, fontsAfter}
 use Rattle.store.specs.Calls.{fresh, makingFresh, downloadingFont, removingFont}
 use Rattle.store.specs.Download.{downloadingCharacter}
-use Rattle.store.proofs.Locates.{is-store}
-use Rattle.store.proofs.KeptFonts.{begun}
+use Rattle.store.proofs.KeptFonts.{fonts-rise}
 use Rattle.store.proofs.Again.{fresh-leaves, font-leaves, character-leaves, removed-leaves, cut-leaves}
-use Rattle.choice.specs.Lists.{In, keep}
-use Rattle.choice.specs.Range.{inRange}
-use Rattle.choice.specs.Steps.{choose}
-use Rattle.choice.specs.Choosing.{choosing}
-use Rattle.choice.specs.Right.{Keyed, Without, With}
+use Rattle.choice.specs.Lists.{In, having}
+use Rattle.choice.specs.Request.{inRange}
+use Rattle.choice.specs.Steps.{choice}
+use Rattle.choice.specs.Choosing.{choosingAmong, choosing}
+use Rattle.choice.specs.Right.{Keyed, Without, With, Lawful}
 use Rattle.choice.specs.declared.Request.{Request}
 use Rattle.choice.specs.declared.Chosen.the-variants.{Number}
-use Rattle.choice.proofs.Least.{in-keep, keep-out}
+use Rattle.choice.proofs.Least.{in-having, having-out}
 use Rattle.choice.proofs.Choice.{rising-keyed}
 use Rattle.choice.proofs.Right.{claim}
-use Rattle.stream.specs.Reading.{Course, outset, part, obey, obeyAll, spelledFrom, readFrom, reading}
-use Rattle.stream.specs.declared.command.Command.{Command}
-use Rattle.stream.specs.declared.command.Command.the-variants.{SetFont, SetCode, FontBlock, CharacterBlock, Broken, End}
-use Rattle.marlinfold.specs.Calls.{Call, make-fresh, download-font, download-character, remove-font, remove-character, choose-font, tell-font, tell-character, draw-row, draw-picture, write-font, read-stream, outcome, leaves, ran}
-use Rattle.marlinfold.specs.Book.{Deed, noted, notedAll, deedOf, streamDeeds, deeds, bookOf}
-use Rattle.marlinfold.specs.Demands.{Removes, by-removal, by-no-room, Chooses, Demand3}
+use Rattle.stream.specs.Reading.{Download, font-block, character-block, making}
+use Rattle.stream.specs.Downloads.{spelledDownloads, madeAll}
+use Rattle.stream.proofs.Readings.{downloads-made}
+use Rattle.marlinfold.specs.Calls.{Call, make-fresh, download-font, download-character, remove-font, remove-character, choose-font, tell-font, tell-character, draw-row, draw-picture, write-font, read-stream, ofChoice, outcome, leaves, ran}
+use Rattle.marlinfold.specs.Book.{noted, bookOf, callOf, callsOf, spelledCalls, single, singly, answersTo, bookAfter, StreamSingly}
+use Rattle.marlinfold.specs.Demands.{Removes, by-removal, by-no-room, Answers, Chooses, Demand3}
+
+-- ── a list of calls
+ran-append : (a b : List Call) (s : List ℕ) → ran (a ++ b) s ≡ ran b (ran a s)
+unfolding ran
+ran-append [] b s = refl
+ran-append (c ∷ a) b s = ran-append a b (leaves c s)
+
+book-append : (a b : List Call) (s : List ℕ) (book : List Font) → bookOf (a ++ b) (answersTo (a ++ b) s) book ≡ bookOf b (answersTo b (ran a s)) (bookOf a (answersTo a s) book)
+unfolding ran answersTo bookOf
+book-append [] b s book = refl
+book-append (c ∷ a) b s book = book-append a b (leaves c s) (noted c (outcome c s .refusal) book)
+
+made-calls : (ds : List Download) (s : List ℕ) → ran (callsOf ds) s ≡ madeAll ds s
+unfolding ran callsOf callOf madeAll making
+made-calls [] s = refl
+made-calls (font-block n b ∷ ds) s = made-calls ds (downloadingFont n b s .bytes)
+made-calls (character-block n c b ∷ ds) s = made-calls ds (downloadingCharacter n c b s .bytes)
+
+-- reading a stream leaves what making its calls one by one leaves
+pub stream-singly : StreamSingly
+unfolding spelledCalls
+stream-singly b s = downloads-made b s ∙ sym (made-calls (spelledDownloads b) s)
+
+single-ran : (c : Call) (s : List ℕ) → ran (single c) s ≡ leaves c s
+unfolding ran single
+single-ran make-fresh s = refl
+single-ran (download-font n b) s = refl
+single-ran (download-character n c b) s = refl
+single-ran (remove-font n) s = refl
+single-ran (remove-character n c) s = refl
+single-ran (choose-font r) s = refl
+single-ran (tell-font n out) s = refl
+single-ran (tell-character n c out) s = refl
+single-ran (draw-row n c row out) s = refl
+single-ran (draw-picture n c out) s = refl
+single-ran (write-font n out) s = refl
+single-ran (read-stream b) s = sym (stream-singly b s)
+
+singly-ran : (cs : List Call) (s : List ℕ) → ran (singly cs) s ≡ ran cs s
+unfolding ran singly
+singly-ran [] s = refl
+singly-ran (c ∷ cs) s = ran-append (single c) (singly cs) s ∙ singly-ran cs (ran (single c) s) ∙ ap (ran cs) (single-ran c s)
 
 -- ── a call keeps the book
 -- a store whose fonts are the book
 abbrev Kept : List ℕ → List Font → Type 0
 Kept s book = (isStore s ≡ true) × (fontsOf s ≡ book)
-
-noted-append : (a b : List Deed) (book : List Font) → notedAll (a ++ b) book ≡ notedAll b (notedAll a book)
-unfolding notedAll
-noted-append [] b book = refl
-noted-append (d ∷ a) b book = noted-append a b (noted d book)
 
 fresh-stays : (s : List ℕ) → eqb (makingFresh s .answer) 0 ≡ false → makingFresh s .bytes ≡ s
 unfolding makingFresh
@@ -59,60 +96,51 @@ fresh-kept s is = go (eqb (makingFresh s .answer) 0) refl
     go true q = fresh-leaves s (eqb-true _ _ q)
     go false q = rw (fresh-stays s q) (is, refl)
 
--- one command of a stream
-obeyed : (b : List ℕ) (c : Command) (x : Course) → isStore (x .bytes) ≡ true → Kept (obey b c x .bytes) (notedAll (deedOf b c x) (fontsOf (x .bytes)))
-unfolding obey deedOf notedAll noted
-obeyed b (SetFont n next) x is = (is, refl)
-obeyed b (SetCode n next) x is = (is, refl)
-obeyed b (FontBlock from to) x is = font-leaves (x .progress .font) (part b from to) (x .bytes) is
-obeyed b (CharacterBlock from to) x is = character-leaves (x .progress .font) (x .progress .code) (part b from to) (x .bytes) is
-obeyed b Broken x is = (is, refl)
-obeyed b End x is = (is, refl)
+-- the downloads of a stream
+downloads-kept : (ds : List Download) (s : List ℕ) (book : List Font) → Kept s book → Kept (ran (callsOf ds) s) (bookOf (callsOf ds) (answersTo (callsOf ds) s) book)
+unfolding ran callsOf callOf answersTo bookOf noted
+downloads-kept [] s book k = k
+downloads-kept (font-block n b ∷ ds) s book k =
+    let h = font-leaves n b s (k .0) in
+    downloads-kept ds (downloadingFont n b s .bytes) _ (h .0, h .1 ∙ ap (noted (download-font n b) (downloadingFont n b s .answer)) (k .1))
+downloads-kept (character-block n c b ∷ ds) s book k =
+    let h = character-leaves n c b s (k .0) in
+    downloads-kept ds (downloadingCharacter n c b s .bytes) _ (h .0, h .1 ∙ ap (noted (download-character n c b) (downloadingCharacter n c b s .answer)) (k .1))
 
-obeyed-all : (b : List ℕ) (cs : List Command) (x : Course) → isStore (x .bytes) ≡ true → Kept (obeyAll b cs x .bytes) (notedAll (streamDeeds b cs x) (fontsOf (x .bytes)))
-unfolding obeyAll streamDeeds
-obeyed-all b [] x is = (is, unfold notedAll in refl)
-obeyed-all b (c ∷ cs) x is =
-    let h = obeyed b c x is in
-    let i = obeyed-all b cs (obey b c x) (h .0) in
-    (i .0, i .1 ∙ ap (notedAll (streamDeeds b cs (obey b c x))) (h .1) ∙ sym (noted-append (deedOf b c x) (streamDeeds b cs (obey b c x)) (fontsOf (x .bytes))))
+call-kept : (c : Call) (s : List ℕ) (book : List Font) → Kept s book → Kept (ran (single c) s) (bookOf (single c) (answersTo (single c) s) book)
+unfolding ran single answersTo bookOf noted spelledCalls
+call-kept make-fresh s book k = let h = fresh-kept s (k .0) in (h .0, h .1 ∙ ap (noted make-fresh (makingFresh s .answer)) (k .1))
+call-kept (download-font n b) s book k = let h = font-leaves n b s (k .0) in (h .0, h .1 ∙ ap (noted (download-font n b) (downloadingFont n b s .answer)) (k .1))
+call-kept (download-character n c b) s book k =
+    let h = character-leaves n c b s (k .0) in
+    (h .0, h .1 ∙ ap (noted (download-character n c b) (downloadingCharacter n c b s .answer)) (k .1))
+call-kept (remove-font n) s book k = let h = removed-leaves n s (k .0) in (h .0, h .1 ∙ ap (noted (remove-font n) (removingFont n s .answer)) (k .1))
+call-kept (remove-character n c) s book k = let h = cut-leaves n c s (k .0) in (h .0, h .1 ∙ k .1)
+call-kept (choose-font r) s book k = k
+call-kept (tell-font n out) s book k = k
+call-kept (tell-character n c out) s book k = k
+call-kept (draw-row n c row out) s book k = k
+call-kept (draw-picture n c out) s book k = k
+call-kept (write-font n out) s book k = k
+call-kept (read-stream b) s book k = downloads-kept (spelledDownloads b) s book k
 
-read-bytes : (b s : List ℕ) → isStore s ≡ true → reading b s .bytes ≡ obeyAll b (spelledFrom b 0 .commands) (record { progress = outset; bytes = s }) .bytes
-unfolding reading readFrom onStore
-read-bytes b s is = rw (is-store s is .1)
-
-call-kept : (c : Call) (s : List ℕ) → isStore s ≡ true → Kept (leaves c s) (notedAll (deeds c s) (fontsOf s))
-unfolding outcome deeds notedAll noted
-call-kept make-fresh s is = fresh-kept s is
-call-kept (download-font n b) s is = font-leaves n b s is
-call-kept (download-character n c b) s is = character-leaves n c b s is
-call-kept (remove-font n) s is = removed-leaves n s is
-call-kept (remove-character n c) s is = cut-leaves n c s is
-call-kept (choose-font r) s is = (is, refl)
-call-kept (tell-font n out) s is = (is, refl)
-call-kept (tell-character n c out) s is = (is, refl)
-call-kept (draw-row n c row out) s is = (is, refl)
-call-kept (draw-picture n c out) s is = (is, refl)
-call-kept (write-font n out) s is = (is, refl)
-call-kept (read-stream b) s is = rw (read-bytes b s is) (obeyed-all b (spelledFrom b 0 .commands) (record { progress = outset; bytes = s }) is)
-
-ran-kept : (cs : List Call) (s : List ℕ) (book : List Font) → Kept s book → Kept (ran cs s) (bookOf cs s book)
-unfolding ran bookOf
-ran-kept [] s book k = k
-ran-kept (c ∷ cs) s book k =
-    let h = call-kept c s (k .0) in
-    ran-kept cs (leaves c s) (notedAll (deeds c s) book) (h .0, h .1 ∙ ap (notedAll (deeds c s)) (k .1))
+calls-kept : (cs : List Call) (s : List ℕ) (book : List Font) → Kept s book → Kept (ran (singly cs) s) (bookOf (singly cs) (answersTo (singly cs) s) book)
+unfolding ran singly answersTo bookOf
+calls-kept [] s book k = k
+calls-kept (c ∷ cs) s book k =
+    let h = calls-kept cs (ran (single c) s) (bookOf (single c) (answersTo (single c) s) book) (call-kept c s book k) in
+    rw (ran-append (single c) (singly cs) s, book-append (single c) (singly cs) s book) h
 
 -- ── fonts that come or go
-below-keep : (n : ℕ) (l : List Font) → fontsBelow n l ≡ keep (λ f. ltb (f .number) n) l
-unfolding fontsBelow keep
-below-keep n [] = refl
-below-keep n (f ∷ l) = ap (λ (a : List Font). cond (ltb (f .number) n) (f ∷ a) a) (below-keep n l)
+below-having : (n : ℕ) (l : List Font) → fontsBelow n l ≡ having (λ f. ltb (f .number) n) l
+unfolding fontsBelow having
+below-having n [] = refl
+below-having n (f ∷ l) = ap (λ (a : List Font). cond (ltb (f .number) n) (f ∷ a) a) (below-having n l)
 
-above-keep : (n : ℕ) (l : List Font) → fontsAbove n l ≡ keep (λ f. ltb n (f .number)) l
-unfolding fontsAbove keep
-above-keep n [] = refl
-above-keep n (f ∷ l) = ap (λ (a : List Font). cond (ltb n (f .number)) (f ∷ a) a) (above-keep n l)
+above-having : (n : ℕ) (l : List Font) → fontsAbove n l ≡ having (λ f. ltb n (f .number)) l
+unfolding fontsAbove having
+above-having n [] = refl
+above-having n (f ∷ l) = ap (λ (a : List Font). cond (ltb n (f .number)) (f ∷ a) a) (above-having n l)
 
 in-left : (x : Font) (a b : List Font) → In x a → In x (a ++ b)
 in-left x [] b m = absurd m
@@ -130,16 +158,16 @@ in-either x (y ∷ a) b (inr m) = ⊎-elim (λ p. inl (inr p)) (λ p. inr p) (in
 
 module _ (n : ℕ) (l : List Font) (x : Font) where
   below-out : In x (fontsBelow n l) → In x l × (x .number < n)
-  below-out m = let h = keep-out (λ (f : Font). ltb (f .number) n) l x (rw (below-keep n l) at m) in (h .0, ltb-true _ _ (h .1))
+  below-out m = let h = having-out (λ (f : Font). ltb (f .number) n) l x (rw (below-having n l) at m) in (h .0, ltb-true _ _ (h .1))
 
   above-out : In x (fontsAbove n l) → In x l × (n < x .number)
-  above-out m = let h = keep-out (λ (f : Font). ltb n (f .number)) l x (rw (above-keep n l) at m) in (h .0, ltb-true _ _ (h .1))
+  above-out m = let h = having-out (λ (f : Font). ltb n (f .number)) l x (rw (above-having n l) at m) in (h .0, ltb-true _ _ (h .1))
 
   side-in : (new : List Font) → In x l → (x .number ≡ n → ⊥) → In x (fontsWith n new l)
   unfolding fontsWith
   side-in new m o =
-      ⊎-elim (λ (q : x .number < n). in-left x (fontsBelow n l) (new ++ fontsAbove n l) (rw (below-keep n l) (in-keep (λ (f : Font). ltb (f .number) n) l x m (lt-ltb _ _ q))))
-      (λ (q : n < x .number). in-right x (fontsBelow n l) (new ++ fontsAbove n l) (in-right x new (fontsAbove n l) (rw (above-keep n l) (in-keep (λ (f : Font). ltb n (f .number)) l x m (lt-ltb _ _ q)))))
+      ⊎-elim (λ (q : x .number < n). in-left x (fontsBelow n l) (new ++ fontsAbove n l) (rw (below-having n l) (in-having (λ (f : Font). ltb (f .number) n) l x m (lt-ltb _ _ q))))
+      (λ (q : n < x .number). in-right x (fontsBelow n l) (new ++ fontsAbove n l) (in-right x new (fontsAbove n l) (rw (above-having n l) (in-having (λ (f : Font). ltb n (f .number)) l x m (lt-ltb _ _ q)))))
       (apart (x .number) n o)
     where
       apart : (a b : ℕ) → (a ≡ b → ⊥) → (a < b) ⊎ (b < a)
@@ -177,43 +205,45 @@ entered f l o x = (
 
 -- ── the claim
 module _ (r : Request) (i : inRange r ≡ true) where
-  chooses-by : (s : List ℕ) (book : List Font) → Kept s book → choosing s r ≡ choose r book
-  unfolding choosing
+  chooses-by : (s : List ℕ) (book : List Font) → Kept s book → Answers r s (choice r book)
+  unfolding choosing choosingAmong
   chooses-by s book k = rw (k .0, i, k .1)
 
   keyed : (s : List ℕ) (book : List Font) → Kept s book → Keyed book
-  keyed s book k = let w = is-store s (k .0) in rising-keyed 0 book (rw (k .1) at (begun s (w .0) (w .1) .3))
-
-  -- a font gave way
-  struck : (n : ℕ) (s t : List ℕ) (book : List Font) → Kept s book → Kept t (fontsWith n [] book) → (choosing s r ≡ Number n → ⊥) → choosing t r ≡ choosing s r
-  struck n s t book k q o =
-      let c = claim r book (keyed s book k) in
-      chooses-by t (fontsWith n [] book) q ∙ c .removed n (fontsWith n [] book) (without n book) (λ e. o (chooses-by s book k ∙ e)) ∙ sym (chooses-by s book k)
+  keyed s book k = rising-keyed 0 book (rw (k .1) at (fonts-rise s))
 
   after-is : (k n : ℕ) (new : List Font) (a : ℕ) (book : List Font) → a ≡ k → fontsAfter k n new a book ≡ fontsWith n new book
   after-is k n new a book e = rw (eq-eqb a k e)
 
   chooses : (s : List ℕ) (book : List Font) → Kept s book → Chooses r s book
-  chooses s book k = record { right = rw (chooses-by s book k) (claim r book (keyed s book k) .right); removed = gone; accepted = came }
+  chooses s book k = record { numbers = keyed s book k; choice = choice r book; chosen = chooses-by s book k; right = c .right; removed = gone; accepted = came }
     where
-      gone : (n : ℕ) (c : Call) → Removes s n c → (choosing s r ≡ Number n → ⊥) → choosing (leaves c s) r ≡ choosing s r
-      gone n c (by-removal e) o = unfold outcome in
+      c : Lawful r book
+      c = claim r book (keyed s book k)
+
+      -- a font gave way
+      struck : (n : ℕ) (t : List ℕ) → Kept t (fontsWith n [] book) → (choice r book ≡ Number n → ⊥) → Answers r t (choice r book)
+      struck n t q o = chooses-by t (fontsWith n [] book) q ∙ ap (ofChoice t) (c .removed n (fontsWith n [] book) (without n book) o)
+
+      gone : (n : ℕ) (d : Call) → Removes s n d → (choice r book ≡ Number n → ⊥) → Answers r (leaves d s) (choice r book)
+      gone n d (by-removal e) o =
           let h = removed-leaves n s (k .0) in
-          struck n s (removingFont n s .bytes) book k (h .0, h .1 ∙ after-is 0 n [] (removingFont n s .answer) (fontsOf s) e ∙ ap (fontsWith n []) (k .1)) o
-      gone n c (by-no-room m b e) o = unfold outcome in
+          struck n (removingFont n s .bytes) (h .0, h .1 ∙ after-is 0 n [] (removingFont n s .answer) (fontsOf s) e ∙ ap (fontsWith n []) (k .1)) o
+      gone n d (by-no-room m b e) o =
           let h = character-leaves n m b s (k .0) in
-          struck n s (downloadingCharacter n m b s .bytes) book k (h .0, h .1 ∙ after-is 10 n [] (downloadingCharacter n m b s .answer) (fontsOf s) e ∙ ap (fontsWith n []) (k .1)) o
+          struck n (downloadingCharacter n m b s .bytes) (h .0, h .1 ∙ after-is 10 n [] (downloadingCharacter n m b s .answer) (fontsOf s) e ∙ ap (fontsWith n []) (k .1)) o
 
       came : (n : ℕ) (b : List ℕ) → downloadingFont n b s .answer ≡ 0 → ((x : Font) → In x book → x .number ≡ n → ⊥)
-          → (choosing (leaves (download-font n b) s) r ≡ choosing s r) ⊎ (choosing (leaves (download-font n b) s) r ≡ Number n)
-      came n b e o = unfold outcome in
+          → Answers r (downloadingFont n b s .bytes) (choice r book) ⊎ Answers r (downloadingFont n b s .bytes) (Number n)
+      came n b e o =
           let f : Font = record { number = n; kept = keptHeader b } in
           let h = font-leaves n b s (k .0) in
-          let t : Kept (downloadingFont n b s .bytes) (fontsWith n (f ∷ []) book) = (h .0, h .1 ∙ after-is 0 n (f ∷ []) (downloadingFont n b s .answer) (fontsOf s) e ∙ ap (fontsWith n (f ∷ [])) (k .1)) in
-          let c = claim r book (keyed s book k) in
-          ⊎-elim (λ q. inl (chooses-by (downloadingFont n b s .bytes) (fontsWith n (f ∷ []) book) t ∙ q ∙ sym (chooses-by s book k)))
-          (λ q. inr (chooses-by (downloadingFont n b s .bytes) (fontsWith n (f ∷ []) book) t ∙ q))
-          (c .added f (fontsWith n (f ∷ []) book) (entered f book o) o)
+          let t = downloadingFont n b s .bytes in
+          let q = chooses-by t (fontsWith n (f ∷ []) book) (h .0, h .1 ∙ after-is 0 n (f ∷ []) (downloadingFont n b s .answer) (fontsOf s) e ∙ ap (fontsWith n (f ∷ [])) (k .1)) in
+          ⊎-elim (λ p. inl (q ∙ ap (ofChoice t) p)) (λ p. inr (q ∙ ap (ofChoice t) p)) (c .added f (fontsWith n (f ∷ []) book) (entered f book o) o)
 
 pub demand3 : Demand3
-demand3 s e calls r i = chooses r i (ran calls (makingFresh s .bytes)) (bookOf calls (makingFresh s .bytes) []) (ran-kept calls (makingFresh s .bytes) [] (fresh-leaves s e))
+demand3 s e calls r i =
+    let t = makingFresh s .bytes in
+    let k = calls-kept calls t [] (fresh-leaves s e) in
+    chooses r i (ran calls t) (bookAfter calls t) (rw (singly-ran calls t) at k)

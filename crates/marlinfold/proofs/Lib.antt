@@ -1,5 +1,7 @@
+pub mod Outcomes
 pub mod Demand1
 pub mod Demand2
 pub mod Demand3
 pub mod Trials
-pub mod Fields
+pub mod Computing
+pub mod Occurrences

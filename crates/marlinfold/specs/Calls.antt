@@ -1,4 +1,4 @@
--- Document 01, "The calls, and what they answer": the twelve calls as values, and the outcome of each by the definitions that its contract cites.
+-- Document 01, "The calls, and what they answer": the twelve calls as values, and the outcome of each, which is its exported contract.
 use Prim.Native.Nat.{ℕ}
 use mathlib.Core.List.{List, [], _∷_}
 use Rattle.store.specs.Answer.{After, Telling}
@@ -51,48 +51,61 @@ pub record Outcome : Type 0 where
   pub store : List ℕ
   pub out : List ℕ
 
+-- what the code answered and left
+abbrev pub answered : ℕ → List ℕ → List ℕ → List ℕ → Outcome
+answered k ns s out = record { refusal = k; numbers = ns; store = s; out = out }
+
 -- a call that changes the store
-abbrev pub changed : After → Outcome
-changed a = record { refusal = a .answer; numbers = []; store = a .bytes; out = [] }
+abbrev pub ofChange : After → Outcome
+ofChange a = answered (a .answer) [] (a .bytes) []
 
 -- a call that is lent the store s to read alone: choosing answers the font number,
-abbrev pub named : List ℕ → Chosen → Outcome
-named s a = record { refusal = refusalOf a; numbers = fontOf a ∷ []; store = s; out = [] }
+abbrev pub ofChoice : List ℕ → Chosen → Outcome
+ofChoice s a = answered (refusalOf a) (fontOf a ∷ []) s []
 
 -- telling the number of characters or of data bytes,
-abbrev pub told : List ℕ → Telling → Outcome
-told s a = record { refusal = a .refusal; numbers = a .count ∷ []; store = s; out = a .out }
+abbrev pub ofTelling : List ℕ → Telling → Outcome
+ofTelling s a = answered (a .refusal) (a .count ∷ []) s (a .out)
 
 -- drawing no number,
-abbrev pub drawn : List ℕ → After → Outcome
-drawn s a = record { refusal = a .answer; numbers = []; store = s; out = a .bytes }
+abbrev pub ofDrawing : List ℕ → After → Outcome
+ofDrawing s a = answered (a .answer) [] s (a .bytes)
 
 -- writing its length
-abbrev pub wrote : List ℕ → WriteOut → Outcome
-wrote s a = record { refusal = a .refusal; numbers = a .count ∷ []; store = s; out = a .out }
+abbrev pub ofWriting : List ℕ → WriteOut → Outcome
+ofWriting s a = answered (a .refusal) (a .count ∷ []) s (a .out)
 
 -- a stream: commands done, commands refused, the place of a 13
-abbrev pub read : Reading → Outcome
-read a = record { refusal = a .answer .refusal; numbers = a .answer .done ∷ a .answer .refused ∷ a .answer .place ∷ []; store = a .bytes; out = [] }
+abbrev pub ofReading : Reading → Outcome
+ofReading a = answered (a .answer .refusal) (a .answer .done ∷ a .answer .refused ∷ a .answer .place ∷ []) (a .bytes) []
 
 -- a call on the buffer s
-unfoldable pub outcome : Call → List ℕ → Outcome
-outcome make-fresh s = changed (makingFresh s)
-outcome (download-font n b) s = changed (downloadingFont n b s)
-outcome (download-character n c b) s = changed (downloadingCharacter n c b s)
-outcome (remove-font n) s = changed (removingFont n s)
-outcome (remove-character n c) s = changed (removingCharacter n c s)
-outcome (choose-font r) s = named s (choosing s r)
-outcome (tell-font n out) s = told s (tellingFont n s out)
-outcome (tell-character n c out) s = told s (tellingCharacter n c s out)
-outcome (draw-row n c row out) s = drawn s (drawingRow n c row s out)
-outcome (draw-picture n c out) s = drawn s (drawingPicture n c s out)
-outcome (write-font n out) s = wrote s (writingFont n out s)
-outcome (read-stream b) s = read (reading b s)
+abbrev pub outcome : Call → List ℕ → Outcome
+outcome make-fresh s = ofChange (makingFresh s)
+outcome (download-font n b) s = ofChange (downloadingFont n b s)
+outcome (download-character n c b) s = ofChange (downloadingCharacter n c b s)
+outcome (remove-font n) s = ofChange (removingFont n s)
+outcome (remove-character n c) s = ofChange (removingCharacter n c s)
+outcome (choose-font r) s = ofChoice s (choosing s r)
+outcome (tell-font n out) s = ofTelling s (tellingFont n s out)
+outcome (tell-character n c out) s = ofTelling s (tellingCharacter n c s out)
+outcome (draw-row n c row out) s = ofDrawing s (drawingRow n c row s out)
+outcome (draw-picture n c out) s = ofDrawing s (drawingPicture n c s out)
+outcome (write-font n out) s = ofWriting s (writingFont n s out)
+outcome (read-stream b) s = ofReading (reading b s)
 
 -- what a call leaves of the store
 abbrev pub leaves : Call → List ℕ → List ℕ
 leaves c s = outcome c s .store
+
+-- what it answers: all but the store
+pub record Answer : Type 0 where
+  pub refusal : ℕ
+  pub numbers : List ℕ
+  pub out : List ℕ
+
+abbrev pub answer : Call → List ℕ → Answer
+answer c s = record { refusal = outcome c s .refusal; numbers = outcome c s .numbers; out = outcome c s .out }
 
 -- the store after a list of calls: "Each call gets the whole of it, as the last one left it"
 unfoldable pub ran : List Call → List ℕ → List ℕ

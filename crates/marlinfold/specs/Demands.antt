@@ -1,4 +1,5 @@
--- The demands, each one claim. Document 01 in the other hand: its table of refusals for demand 1, its "Demand 3" for the third.
+-- The demands, each one claim about the outcomes of calls. Document 01 in the other hand: its table of refusals for demand 1, its "Demand 3" for
+-- the third.
 use Prim.Native.Nat.{ℕ}
 use mathlib.Core.Path.{_≡_}
 use mathlib.Core.Logic.{_⊎_}
@@ -6,23 +7,21 @@ use mathlib.Core.List.{List, [], _∷_}
 use mathlib.Core.Bool.{Bool, true, false, _||_}
 use mathlib.Core.Option.{some}
 use lib.Dec.{eqb}
-use lib.ListN.{length, take, replicate}
+use lib.ListN.{length, take, getD, replicate}
 use Rattle.store.specs.Model.{Store, encode, decode}
-use Rattle.store.specs.Fonts.{Font, isStore}
-use Rattle.store.specs.Calls.{makingFresh, downloadingFont, removingFont, removeFont, tellingFont, tellingCharacter}
-use Rattle.store.specs.Download.{downloadingCharacter}
-use Rattle.store.specs.Drawing.{drawingRow, drawingPicture}
-use Rattle.choice.specs.Lists.{In}
-use Rattle.choice.specs.Range.{inRange}
-use Rattle.choice.specs.Choosing.{choosing}
-use Rattle.choice.specs.Right.{Right}
+use Rattle.store.specs.Records.{isStore}
+use Rattle.store.specs.Fonts.{Font}
+use Rattle.store.specs.Calls.{removeFont}
+use Rattle.choice.specs.Request.{inRange}
+use Rattle.choice.specs.Right.{Keyed, Unused, Right}
 use Rattle.choice.specs.declared.Request.{Request}
+use Rattle.choice.specs.declared.Chosen.{Chosen}
 use Rattle.choice.specs.declared.Chosen.the-variants.{Number}
-use Rattle.stream.specs.Reading.{Course, outset, obeyAll, spelledFrom, Reading, reading}
-use Rattle.stream.specs.Written.{writingFont}
+use Rattle.stream.specs.Reading.{Progress, Ended, firstTarget, noneCounted, readFrom}
+use Rattle.stream.specs.declared.reading.Ending.the-variants.{BrokenAt}
 use Rattle.stream.specs.RoundTrip.{onlyFont}
-use Rattle.marlinfold.specs.Calls.{Call, make-fresh, download-font, download-character, remove-font, remove-character, choose-font, tell-font, tell-character, draw-row, draw-picture, write-font, read-stream, outputOf, Outcome, outcome, leaves, ran}
-use Rattle.marlinfold.specs.Book.{bookOf}
+use Rattle.marlinfold.specs.Calls.{Call, make-fresh, download-font, download-character, remove-font, remove-character, choose-font, tell-font, tell-character, draw-row, draw-picture, write-font, read-stream, outputOf, Outcome, answered, ofChoice, outcome, answer, leaves, ran}
+use Rattle.marlinfold.specs.Book.{bookAfter}
 
 -- ── demand 1: a call is done, or it refuses as the table says
 
@@ -71,29 +70,27 @@ others (read-stream b) = 3
 
 -- "unchanged", and "A refusal answers 0 for every other number"
 abbrev pub unchanged : Call → ℕ → List ℕ → Outcome
-unchanged c k s = record { refusal = k; numbers = replicate (others c) 0; store = s; out = outputOf c }
+unchanged c k s = answered k (replicate (others c) 0) s (outputOf c)
 
 -- the whole commands of a stream before any 13, carried out on the buffer s
-abbrev pub carriedOut : List ℕ → List ℕ → Course
-carriedOut b s = obeyAll b (spelledFrom b 0 .commands) (record { progress = outset; bytes = s })
+abbrev pub carriedOut : List ℕ → List ℕ → Ended
+carriedOut b s = readFrom b 0 firstTarget (record { counts = noneCounted; bytes = s })
 
--- the outcomes of a call on the buffer s that are refusals
+abbrev pub stoppedAt : ℕ → Progress → Outcome
+stoppedAt at x = answered 13 (x .counts .done ∷ x .counts .refused ∷ at ∷ []) (x .bytes) []
+
+-- The outcomes of a call on the buffer s that are refusals. Whether and with what number a call refuses is its line of `outcome`, where the exact
+-- condition of each refusal stands; that each listed number occurs is the claim `ListedOccur`.
 pub data Refusal (s : List ℕ) : Call → Outcome → Type 0 where
   as-listed : (c : Call) (k : ℕ) → isIn k (listed c) ≡ true → Refusal s c (unchanged c k s)
   -- 10, "character block: its font and all its characters removed"
   no-room :
       (n c : ℕ) (b : List ℕ) (st : Store) → decode s ≡ some st
-      → Refusal s (download-character n c b) (record { refusal = 10; numbers = []; store = encode (removeFont n st); out = [] })
+      → Refusal s (download-character n c b) (answered 10 [] (encode (removeFont n st)) [])
   -- 13, "commands before it stay done"; it "gives its place and the counts so far"
   broken :
-      (b : List ℕ) (at : ℕ) → isStore s ≡ true → spelledFrom b 0 .broken ≡ some at
-      → Refusal s (read-stream b)
-      (record {
-        refusal = 13;
-        numbers = carriedOut b s .progress .done ∷ carriedOut b s .progress .refused ∷ at ∷ [];
-        store = carriedOut b s .bytes;
-        out = [];
-      })
+      (b : List ℕ) (at : ℕ) → isStore s ≡ true → carriedOut b s .ending ≡ BrokenAt at
+      → Refusal s (read-stream b) (stoppedAt at (carriedOut b s .progress))
 
 -- demand 1: for every call with any numbers and any buffers
 abbrev pub Demand1 : Type 0
@@ -101,49 +98,58 @@ Demand1 = (c : Call) (s : List ℕ) → (outcome c s .refusal ≡ 0) ⊎ Refusal
 
 -- ── demand 2, its second half: a font written out and read into a fresh store of the same length is there again with all its characters.
 -- (Its first half is the exported contracts.)
--- the bytes that writing font n of s gives, in an output that it fits
+-- the bytes that writing font n of s gives, in an output that it fits: as many as the number that it answers
 abbrev pub streamOf : ℕ → List ℕ → List ℕ → List ℕ
-streamOf n out s = take (writingFont n out s .count) (writingFont n out s .out)
+streamOf n out s = take (getD (outcome (write-font n out) s .numbers) 0 0) (outcome (write-font n out) s .out)
 
 -- what holds of font n of a store s, and of the bytes u after reading
 pub record Again (n : ℕ) (s u : List ℕ) : Type 0 where
   -- the records afterwards are the font's own, all of them, and no other; the open mark names the last character, if that is incomplete
-  pub was : Store
-  pub from : decode s ≡ some was
-  pub now : decode u ≡ some (onlyFont n was)
+  pub store : Store
+  pub before : decode s ≡ some store
+  pub afterwards : decode u ≡ some (onlyFont n store)
   -- so that telling, drawing and writing the font answer as before
-  pub font-told : (out : List ℕ) → tellingFont n u out ≡ tellingFont n s out
-  pub character-told : (c : ℕ) (out : List ℕ) → tellingCharacter n c u out ≡ tellingCharacter n c s out
-  pub row-drawn : (c row : ℕ) (out : List ℕ) → drawingRow n c row u out ≡ drawingRow n c row s out
-  pub picture-drawn : (c : ℕ) (out : List ℕ) → drawingPicture n c u out ≡ drawingPicture n c s out
-  pub font-written : (out : List ℕ) → writingFont n out u ≡ writingFont n out s
+  pub font-told : (out : List ℕ) → answer (tell-font n out) u ≡ answer (tell-font n out) s
+  pub character-told : (c : ℕ) (out : List ℕ) → answer (tell-character n c out) u ≡ answer (tell-character n c out) s
+  pub row-drawn : (c row : ℕ) (out : List ℕ) → answer (draw-row n c row out) u ≡ answer (draw-row n c row out) s
+  pub picture-drawn : (c : ℕ) (out : List ℕ) → answer (draw-picture n c out) u ≡ answer (draw-picture n c out) s
+  pub font-written : (out : List ℕ) → answer (write-font n out) u ≡ answer (write-font n out) s
 
 -- for every buffer s and output, where writing is done, and every buffer t of the same length: reading refuses no command and stops nowhere
 abbrev pub RoundTrip : Type 0
 RoundTrip =
-    (n : ℕ) (out s t : List ℕ) → writingFont n out s .refusal ≡ 0 → length t ≡ length s
-    → let r : Reading = reading (streamOf n out s) (leaves make-fresh t) in
-    (r .answer .refusal ≡ 0) × (r .answer .refused ≡ 0) × Again n s (r .bytes)
+    (n : ℕ) (out s t : List ℕ) → outcome (write-font n out) s .refusal ≡ 0 → length t ≡ length s
+    → let o : Outcome = outcome (read-stream (streamOf n out s)) (leaves make-fresh t) in
+    (o .refusal ≡ 0) × (getD (o .numbers) 1 0 ≡ 0) × Again n s (o .store)
 
 -- ── demand 3: the choice is right with respect to the book
 -- "one more call that removes": a font removal answered 0, or a character block answered 10
 pub data Removes (s : List ℕ) (n : ℕ) : Call → Type 0 where
-  by-removal : removingFont n s .answer ≡ 0 → Removes s n (remove-font n)
-  by-no-room : (c : ℕ) (b : List ℕ) → downloadingCharacter n c b s .answer ≡ 10 → Removes s n (download-character n c b)
+  by-removal : outcome (remove-font n) s .refusal ≡ 0 → Removes s n (remove-font n)
+  by-no-room : (c : ℕ) (b : List ℕ) → outcome (download-character n c b) s .refusal ≡ 10 → Removes s n (download-character n c b)
+
+-- choosing on s answers a: it names a font, or refuses
+abbrev pub Answers : Request → List ℕ → Chosen → Type 0
+Answers r s a = outcome (choose-font r) s ≡ ofChoice s a
 
 -- what holds of a store and a book, for a request
 pub record Chooses (r : Request) (s : List ℕ) (book : List Font) : Type 0 where
+  -- no two of the book's fonts have one number
+  pub numbers : Keyed book
+  -- "The choice is what choosing answers on the store as last left"
+  pub choice : Chosen
+  pub chosen : Answers r s choice
   -- one of the book's, beats every other, the only one that no other beats; refused with 11 exactly if none takes part
-  pub right : Right r book (choosing s r)
-  -- one more call that removes a font that was not chosen leaves the choice standing
-  pub removed : (n : ℕ) (c : Call) → Removes s n c → (choosing s r ≡ Number n → ⊥) → choosing (leaves c s) r ≡ choosing s r
+  pub right : Right r book choice
+  -- one more call that removes a font that was not chosen leaves the choice standing: "it stands if it gives the same font, or 11 again"
+  pub removed : (n : ℕ) (c : Call) → Removes s n c → (choice ≡ Number n → ⊥) → Answers r (leaves c s) choice
   -- one that accepts a font under an unused number leaves it standing or makes the new font the choice
   pub accepted :
-      (n : ℕ) (b : List ℕ) → downloadingFont n b s .answer ≡ 0 → ((x : Font) → In x book → x .number ≡ n → ⊥)
-      → (choosing (leaves (download-font n b) s) r ≡ choosing s r) ⊎ (choosing (leaves (download-font n b) s) r ≡ Number n)
+      (n : ℕ) (b : List ℕ) → outcome (download-font n b) s .refusal ≡ 0 → Unused n book
+      → Answers r (leaves (download-font n b) s) choice ⊎ Answers r (leaves (download-font n b) s) (Number n)
 
 -- demand 3: for every buffer that making fresh accepts, every list of calls on it from then on, and every request within range
 abbrev pub Demand3 : Type 0
 Demand3 =
-    (s : List ℕ) → makingFresh s .answer ≡ 0 → (calls : List Call) (r : Request) → inRange r ≡ true
-    → Chooses r (ran calls (makingFresh s .bytes)) (bookOf calls (makingFresh s .bytes) [])
+    (s : List ℕ) → outcome make-fresh s .refusal ≡ 0 → (calls : List Call) (r : Request) → inRange r ≡ true
+    → Chooses r (ran calls (leaves make-fresh s)) (bookAfter calls (leaves make-fresh s))

@@ -2,4 +2,4 @@ pub mod Calls
 pub mod Book
 pub mod Demands
 pub mod Trials
-pub mod Fields
+pub mod Occurrences

@@ -3,7 +3,12 @@ use Prim.Native.Nat.{ℕ, _/_, _%_}
 use mathlib.Core.Path.{_≡_}
 use mathlib.Core.List.{List, [], _∷_}
 use lib.ListN.{replicate}
-use Rattle.marlinfold.specs.Calls.{Call, make-fresh, download-font, download-character, choose-font, draw-row, draw-picture, Outcome, outcome, ran}
+use Rattle.blocks.specs.Picture.{judge}
+use Rattle.blocks.specs.Rows.{picture}
+use Rattle.blocks.specs.declared.picture.Judged.{Judged}
+use Rattle.blocks.specs.declared.picture.Judged.the-variants.{Complete, PastWidth}
+use Rattle.choice.specs.Request.{requestOf}
+use Rattle.marlinfold.specs.Calls.{Call, make-fresh, download-font, choose-font, Answer, answer, ran}
 
 -- ── the fonts
 -- a font block by orientation, spacing, set, pitch, height, weight byte and typeface; style 0
@@ -34,73 +39,62 @@ unfoldable pub all : List Call
 all = A ∷ B ∷ C ∷ D ∷ []
 
 -- "Base request: 277, fixed, R 1000, H 1200, style 0, weight 0, face 3, portrait": with another set, R, weight (32 bits) and page
-unfoldable pub asking : ℕ → ℕ → ℕ → ℕ → Call
-asking set R w page =
-    choose-font (record { «symbol_set» = set; spacing = 0; pitch = R; height = 1200; style = 0; weight = w; typeface = 3; orientation = page })
+unfoldable pub asks : ℕ → ℕ → ℕ → ℕ → Call
+asks set R w page =
+    choose-font (requestOf set 0 R 1200 0 w 3 page)
 
--- ── the characters: a first block of class 2 for font 5, w dots wide and h rows high
-unfoldable pub sending : ℕ → ℕ → List ℕ → Call
-sending w h d =
-    download-character 5 65 (4 ∷ 0 ∷ 14 ∷ 2 ∷ 0 ∷ 0 ∷ 0 ∷ 0 ∷ 0 ∷ 0 ∷ w / 256 ∷ w % 256 ∷ h / 256 ∷ h % 256 ∷ 0 ∷ 0 ∷ d)
+-- ── the trials
+pub data Trial : Type 0 where
+  -- the font that choosing names, or its refusal, after some calls on a fresh store
+  chooses : (before : List Call) (call : Call) (given : Answer) → Trial
+  -- what the rules of rows make of class 2 data, w dots wide and h rows high: how it is judged, and its picture
+  draws : (w h : ℕ) (d : List ℕ) (judged : Judged) (rows : List ℕ) → Trial
 
--- ── the trials: after some calls on a fresh store, what one more call answers
--- refusal, other numbers, output
-pub record Answer : Type 0 where
-  pub refusal : ℕ
-  pub numbers : List ℕ
-  pub out : List ℕ
+-- the answer that names a font, and the answer 11
+unfoldable pub namesFont : ℕ → Answer
+namesFont n = record { refusal = 0; numbers = n ∷ []; out = [] }
 
-pub record Trial : Type 0 where
-  pub before : List Call
-  pub call : Call
-  pub answer : Answer
+unfoldable pub noneToChoose : Answer
+noneToChoose = record { refusal = 11; numbers = 0 ∷ []; out = [] }
 
-unfoldable pub trial : List Call → Call → ℕ → List ℕ → List ℕ → Trial
-trial cs c k ns out = record { before = cs; call = c; answer = record { refusal = k; numbers = ns; out = out } }
-
--- a buffer of 400 bytes, made fresh, after these calls
-unfoldable pub storeOf : List Call → List ℕ
-storeOf cs = ran (make-fresh ∷ cs) (replicate 400 255)
-
-abbrev pub answerOf : Outcome → Answer
-answerOf o = record { refusal = o .refusal; numbers = o .numbers; out = o .out }
+-- a buffer of so many bytes, made fresh, after these calls
+unfoldable pub storeAfter : ℕ → List Call → List ℕ
+storeAfter size cs = ran (make-fresh ∷ cs) (replicate size 255)
 
 abbrev pub Holds : Trial → Type 0
-Holds t = answerOf (outcome (t .call) (storeOf (t .before))) ≡ t .answer
+Holds (chooses cs c a) = answer c (storeAfter 400 cs) ≡ a
+Holds (draws w h d j rows) = (judge 2 w h d ≡ j) × (picture 2 w d h ≡ rows)
 
 unfoldable pub table : List Trial
 table =
     -- P1 weight 3: font 2.
-    trial all (asking 277 1000 3 0) 0 (2 ∷ []) []
+    chooses all (asks 277 1000 3 0) (namesFont 2)
     -- P2 weight 0: 5; landscape page: 9.
-    ∷ trial all (asking 277 1000 0 0) 0 (5 ∷ []) []
-    ∷ trial all (asking 277 1000 0 1) 0 (9 ∷ []) []
+    ∷ chooses all (asks 277 1000 0 0) (namesFont 5)
+    ∷ chooses all (asks 277 1000 0 1) (namesFont 9)
     -- P3 weight 1: 2.
-    ∷ trial all (asking 277 1000 1 0) 0 (2 ∷ []) []
+    ∷ chooses all (asks 277 1000 1 0) (namesFont 2)
     -- P4 weight -1: 5.
-    ∷ trial all (asking 277 1000 4294967295 0) 0 (5 ∷ []) []
+    ∷ chooses all (asks 277 1000 4294967295 0) (namesFont 5)
     -- P5 set 85: 5.
-    ∷ trial all (asking 85 1000 0 0) 0 (5 ∷ []) []
+    ∷ chooses all (asks 85 1000 0 0) (namesFont 5)
     -- P6 set 341: 7.
-    ∷ trial all (asking 341 1000 0 0) 0 (7 ∷ []) []
+    ∷ chooses all (asks 341 1000 0 0) (namesFont 7)
     -- P7 only D kept, set 85: 11.
-    ∷ trial (D ∷ []) (asking 85 1000 0 0) 11 (0 ∷ []) []
+    ∷ chooses (D ∷ []) (asks 85 1000 0 0) noneToChoose
     -- P8 pitches 120 and 72: R 1200 and R 1700 both give 72.
-    ∷ trial (A ∷ like 6 72 200 ∷ []) (asking 277 1200 0 0) 0 (6 ∷ []) []
-    ∷ trial (A ∷ like 6 72 200 ∷ []) (asking 277 1700 0 0) 0 (6 ∷ []) []
+    ∷ chooses (A ∷ like 6 72 200 ∷ []) (asks 277 1200 0 0) (namesFont 6)
+    ∷ chooses (A ∷ like 6 72 200 ∷ []) (asks 277 1700 0 0) (namesFont 6)
     -- P9 kept height 204 is level with 200 for H 1200; 205 isn't: the lower number decides, on either side, exactly where they are level
-    ∷ trial (A ∷ like 3 120 204 ∷ []) (asking 277 1000 0 0) 0 (3 ∷ []) []
-    ∷ trial (A ∷ like 6 120 204 ∷ []) (asking 277 1000 0 0) 0 (5 ∷ []) []
-    ∷ trial (A ∷ like 3 120 205 ∷ []) (asking 277 1000 0 0) 0 (5 ∷ []) []
+    ∷ chooses (A ∷ like 3 120 204 ∷ []) (asks 277 1000 0 0) (namesFont 3)
+    ∷ chooses (A ∷ like 6 120 204 ∷ []) (asks 277 1000 0 0) (namesFont 5)
+    ∷ chooses (A ∷ like 3 120 205 ∷ []) (asks 277 1000 0 0) (namesFont 5)
     -- P10 width 10, height 3, data 1 2 3 5 0 0 10: rows 56 0, 56 0, 255 192.
-    ∷ trial (A ∷ sending 10 3 (1 ∷ 2 ∷ 3 ∷ 5 ∷ 0 ∷ 0 ∷ 10 ∷ []) ∷ []) (draw-row 5 65 0 (9 ∷ 9 ∷ [])) 0 [] (56 ∷ 0 ∷ [])
-    ∷ trial (A ∷ sending 10 3 (1 ∷ 2 ∷ 3 ∷ 5 ∷ 0 ∷ 0 ∷ 10 ∷ []) ∷ []) (draw-row 5 65 1 (9 ∷ 9 ∷ [])) 0 [] (56 ∷ 0 ∷ [])
-    ∷ trial (A ∷ sending 10 3 (1 ∷ 2 ∷ 3 ∷ 5 ∷ 0 ∷ 0 ∷ 10 ∷ []) ∷ []) (draw-row 5 65 2 (9 ∷ 9 ∷ [])) 0 [] (255 ∷ 192 ∷ [])
-    -- P11 width 300, height 1, data 0 255 0 45: a white row, complete: no continuation is taken
-    ∷ trial (A ∷ sending 300 1 (0 ∷ 255 ∷ 0 ∷ 45 ∷ []) ∷ []) (draw-picture 5 65 (replicate 38 9)) 0 [] (replicate 38 0)
-    ∷ trial (A ∷ sending 300 1 (0 ∷ 255 ∷ 0 ∷ 45 ∷ []) ∷ []) (download-character 5 65 (4 ∷ 1 ∷ [])) 7 [] []
-    -- P12 width 10, data 0 4 7: 8.
-    ∷ trial (A ∷ []) (sending 10 1 (0 ∷ 4 ∷ 7 ∷ [])) 8 [] []
+    ∷ draws 10 3 (1 ∷ 2 ∷ 3 ∷ 5 ∷ 0 ∷ 0 ∷ 10 ∷ []) (Complete 7) (56 ∷ 0 ∷ 56 ∷ 0 ∷ 255 ∷ 192 ∷ [])
+    -- P11 width 300, height 1, data 0 255 0 45: a white row, complete.
+    ∷ draws 300 1 (0 ∷ 255 ∷ 0 ∷ 45 ∷ []) (Complete 4) (replicate 38 0)
+    -- P12 width 10, data 0 4 7: 8. (In row 0, 4 dots filled, a run of 7; it names no height: 1.)
+    ∷ draws 10 1 (0 ∷ 4 ∷ 7 ∷ []) (PastWidth 0 4 7) (0 ∷ 0 ∷ [])
     ∷ []
 
 abbrev pub AllHold : List Trial → Type 0

@@ -1,12 +1,9 @@
-// The calls that C makes. Each is one call of a crate below, by whose definitions it is stated. A slice is a pointer and a length in C.
+// The calls that C makes. Each is one call of a crate below, and its contract is its line of `outcome`. A slice is a pointer and a length in C.
 ghost use mathlib.Core.Path.{_≡_};
-ghost use Rattle.store.specs.Answer.{toldOf};
-ghost use Rattle.store.specs.Calls.{makingFresh, downloadingFont, removingFont, removingCharacter, tellingFont, tellingCharacter};
-ghost use Rattle.store.specs.Download.{downloadingCharacter};
-ghost use Rattle.store.specs.Drawing.{drawingRow, drawingPicture};
-ghost use Rattle.choice.specs.Choosing.{choosing, refusalOf, fontOf};
-ghost use Rattle.stream.specs.Written.{writtenOf, writingFont};
-ghost use Rattle.stream.specs.Reading.{reading};
+ghost use mathlib.Core.List.{_∷_, []};
+ghost use Rattle.choice.specs.Request.{requestOf};
+ghost use Rattle.choice.specs.Choosing.{refusalOf, fontOf};
+ghost use Rattle.marlinfold.specs.Calls.{make-fresh, download-font, download-character, remove-font, remove-character, choose-font, tell-font, tell-character, draw-row, draw-picture, write-font, read-stream, answered, outcome};
 use choice::Chosen;
 use choice::Request;
 use store::characters;
@@ -28,40 +25,35 @@ pub struct FontChosen {
 
 #[no_mangle]
 pub extern "C" fn mf_make_fresh(store: &mut [u8]) -> u32
-    ensures { λ r. ⌜ r ≡ makingFresh (now (store .entry)) .answer ⌝ }
-    ensures { λ _. ⌜ now (store .exit) ≡ makingFresh (now (store .entry)) .bytes ⌝ }
+    ensures { λ r. ⌜ answered r [] (now (store .exit)) [] ≡ outcome make-fresh (now (store .entry)) ⌝ }
 {
     fonts::make_fresh(store)
 }
 
 #[no_mangle]
 pub extern "C" fn mf_download_font(store: &mut [u8], block: &[u8], font: u32) -> u32
-    ensures { λ r. ⌜ r ≡ downloadingFont font (now (block .entry)) (now (store .entry)) .answer ⌝ }
-    ensures { λ _. ⌜ now (store .exit) ≡ downloadingFont font (now (block .entry)) (now (store .entry)) .bytes ⌝ }
+    ensures { λ r. ⌜ answered r [] (now (store .exit)) [] ≡ outcome (download-font font (now (block .entry))) (now (store .entry)) ⌝ }
 {
     fonts::download_font(store, block, font)
 }
 
 #[no_mangle]
 pub extern "C" fn mf_download_character(store: &mut [u8], block: &[u8], font: u32, code: u32) -> u32
-    ensures { λ r. ⌜ r ≡ downloadingCharacter font code (now (block .entry)) (now (store .entry)) .answer ⌝ }
-    ensures { λ _. ⌜ now (store .exit) ≡ downloadingCharacter font code (now (block .entry)) (now (store .entry)) .bytes ⌝ }
+    ensures { λ r. ⌜ answered r [] (now (store .exit)) [] ≡ outcome (download-character font code (now (block .entry))) (now (store .entry)) ⌝ }
 {
     download::download_character(store, block, font, code)
 }
 
 #[no_mangle]
 pub extern "C" fn mf_remove_font(store: &mut [u8], font: u32) -> u32
-    ensures { λ r. ⌜ r ≡ removingFont font (now (store .entry)) .answer ⌝ }
-    ensures { λ _. ⌜ now (store .exit) ≡ removingFont font (now (store .entry)) .bytes ⌝ }
+    ensures { λ r. ⌜ answered r [] (now (store .exit)) [] ≡ outcome (remove-font font) (now (store .entry)) ⌝ }
 {
     fonts::remove_font(store, font)
 }
 
 #[no_mangle]
 pub extern "C" fn mf_remove_character(store: &mut [u8], font: u32, code: u32) -> u32
-    ensures { λ r. ⌜ r ≡ removingCharacter font code (now (store .entry)) .answer ⌝ }
-    ensures { λ _. ⌜ now (store .exit) ≡ removingCharacter font code (now (store .entry)) .bytes ⌝ }
+    ensures { λ r. ⌜ answered r [] (now (store .exit)) [] ≡ outcome (remove-character font code) (now (store .entry)) ⌝ }
 {
     characters::remove_character(store, font, code)
 }
@@ -101,8 +93,7 @@ pub extern "C" fn mf_choose(
     typeface: u32,
     orientation: u32,
 ) -> FontChosen
-    ensures { λ r. ⌜ r .refusal ≡ refusalOf (choosing (now (store .entry)) (record { «symbol_set» = «symbol_set»; spacing = spacing; pitch = pitch; height = height; style = style; weight = weight; typeface = typeface; orientation = orientation })) ⌝ }
-    ensures { λ r. ⌜ r .font ≡ fontOf (choosing (now (store .entry)) (record { «symbol_set» = «symbol_set»; spacing = spacing; pitch = pitch; height = height; style = style; weight = weight; typeface = typeface; orientation = orientation })) ⌝ }
+    ensures { λ r. ⌜ answered (r .refusal) (r .font ∷ []) (now (store .entry)) [] ≡ outcome (choose-font (requestOf «symbol_set» spacing pitch height style weight typeface orientation)) (now (store .entry)) ⌝ }
 {
     let r = Request {
         symbol_set: symbol_set,
@@ -119,45 +110,42 @@ pub extern "C" fn mf_choose(
 
 #[no_mangle]
 pub extern "C" fn mf_tell_font(store: &[u8], out: &mut [u8], font: u32) -> Told
-    ensures { λ r. ⌜ toldOf r (now (out .exit)) ≡ tellingFont font (now (store .entry)) (now (out .entry)) ⌝ }
+    ensures { λ r. ⌜ answered (r .refusal) (r .count ∷ []) (now (store .entry)) (now (out .exit)) ≡ outcome (tell-font font (now (out .entry))) (now (store .entry)) ⌝ }
 {
     fonts::tell_font(store, out, font)
 }
 
 #[no_mangle]
 pub extern "C" fn mf_tell_character(store: &[u8], out: &mut [u8], font: u32, code: u32) -> Told
-    ensures { λ r. ⌜ toldOf r (now (out .exit)) ≡ tellingCharacter font code (now (store .entry)) (now (out .entry)) ⌝ }
+    ensures { λ r. ⌜ answered (r .refusal) (r .count ∷ []) (now (store .entry)) (now (out .exit)) ≡ outcome (tell-character font code (now (out .entry))) (now (store .entry)) ⌝ }
 {
     characters::tell_character(store, out, font, code)
 }
 
 #[no_mangle]
 pub extern "C" fn mf_draw_row(store: &[u8], out: &mut [u8], font: u32, code: u32, row: u32) -> u32
-    ensures { λ r. ⌜ r ≡ drawingRow font code row (now (store .entry)) (now (out .entry)) .answer ⌝ }
-    ensures { λ _. ⌜ now (out .exit) ≡ drawingRow font code row (now (store .entry)) (now (out .entry)) .bytes ⌝ }
+    ensures { λ r. ⌜ answered r [] (now (store .entry)) (now (out .exit)) ≡ outcome (draw-row font code row (now (out .entry))) (now (store .entry)) ⌝ }
 {
     drawing::draw_row(store, out, font, code, row)
 }
 
 #[no_mangle]
 pub extern "C" fn mf_draw_picture(store: &[u8], out: &mut [u8], font: u32, code: u32) -> u32
-    ensures { λ r. ⌜ r ≡ drawingPicture font code (now (store .entry)) (now (out .entry)) .answer ⌝ }
-    ensures { λ _. ⌜ now (out .exit) ≡ drawingPicture font code (now (store .entry)) (now (out .entry)) .bytes ⌝ }
+    ensures { λ r. ⌜ answered r [] (now (store .entry)) (now (out .exit)) ≡ outcome (draw-picture font code (now (out .entry))) (now (store .entry)) ⌝ }
 {
     drawing::draw_picture(store, out, font, code)
 }
 
 #[no_mangle]
 pub extern "C" fn mf_write_font(store: &[u8], out: &mut [u8], font: u32) -> Written
-    ensures { λ r. ⌜ writtenOf r (now (out .exit)) ≡ writingFont font (now (out .entry)) (now (store .entry)) ⌝ }
+    ensures { λ r. ⌜ answered (r .refusal) (r .length ∷ []) (now (store .entry)) (now (out .exit)) ≡ outcome (write-font font (now (out .entry))) (now (store .entry)) ⌝ }
 {
     write::write_font(store, out, font)
 }
 
 #[no_mangle]
 pub extern "C" fn mf_read_stream(store: &mut [u8], stream: &[u8]) -> StreamRead
-    ensures { λ r. ⌜ r ≡ reading (now (stream .entry)) (now (store .entry)) .answer ⌝ }
-    ensures { λ _. ⌜ now (store .exit) ≡ reading (now (stream .entry)) (now (store .entry)) .bytes ⌝ }
+    ensures { λ r. ⌜ answered (r .refusal) (r .done ∷ r .refused ∷ r .place ∷ []) (now (store .exit)) [] ≡ outcome (read-stream (now (stream .entry))) (now (store .entry)) ⌝ }
 {
     reading::read_stream(store, stream)
 }

@@ -10,7 +10,7 @@ use lib.Dec.{leb, eqb}
 use borrow.Author.Tests.{leb-true, le-leb, eq-eqb}
 use Rattle.blocks.specs.Check.{Check, verdict}
 use Rattle.blocks.specs.Header.{orientation, headerChecks, readHeader, keptHeader}
-use Rattle.blocks.specs.Character.{class, width, height, characterLength, kindOf, firstChecks, readFirst, keptFirst, isKeptFirst}
+use Rattle.blocks.specs.Character.{class, width, height, characterLength, kindOf, firstChecks, readFirst, keptFirst, isKeptFirst, dataLimit, descriptorBytes, continuationBytes}
 use Rattle.blocks.specs.Picture.{judge, keptData}
 use Rattle.blocks.specs.declared.Verdict.the-variants.{Taken, Refused}
 use Rattle.blocks.specs.declared.character.Kind.{Kind}
@@ -20,16 +20,18 @@ use Rattle.blocks.specs.declared.picture.Judged.the-variants.{Complete, Incompl
 use Rattle.blocks.proofs.KeptHeader.{kept-header, kept-length, header-long}
 use Rattle.blocks.proofs.KeptFirst.{kept-first}
 use Rattle.blocks.proofs.KeptData.{held-whole, held-unfinished}
-use Rattle.store.specs.Layout.{keyOf}
+use Rattle.store.specs.Layout.{keyOf, lastCode, lastFont, leastStore, markRecord, mostStore}
 use Rattle.store.specs.Num.{_&_}
 use Rattle.store.specs.Model.{Rec, font, character, Store, under, alone, sorted, markOk, heldUnder, isKept, run, encode, decode, total}
 use Rattle.store.specs.Order.{find}
-use Rattle.store.specs.Fonts.{Font, fontsIn, isStore, fontsOf, fontsWith, fontsAfter}
+use Rattle.store.specs.Records.{isStore, recordsIn}
+use Rattle.store.specs.Fonts.{Font, fontsIn, fontsOf, fontsWith, fontsAfter}
 use Rattle.store.specs.Answer.{onStore, checked, taking, finding, numbered, onFont, onCharacter, After, refuse, done}
-use Rattle.store.specs.Calls.{fresh, makingFresh, used, withFont, putFont, removingFont, removeCharacter, removingCharacter, removeFont, puttingFont, downloadingFont, withCharacter, keptOf, dataOf}
-use Rattle.store.specs.Download.{names, ifWithin, byKind, markFor, putCharacter, placing, receiving, receivingFirst, receivingMore, puttingBlock, downloadingCharacter}
+use Rattle.store.specs.Calls.{fresh, makingFresh, used, withFont, putFont, removingFont, removeCharacter, removingCharacter, removeFont, downloadingFont, withCharacter, keptOf, dataOf}
+use Rattle.store.specs.Download.{names, withinWidth, withoutFont, byKind, markFor, putCharacter, downloadingCharacter}
+use Rattle.store.specs.Putting.{puttingFont, placing, receiving, receivingFirst, receivingMore, receivingBlock, puttingBlock}
 use Rattle.store.proofs.Numbers.{both-l, both-r}
-use Rattle.store.proofs.Records.{shaped}
+use Rattle.store.proofs.RecordBytes.{shaped}
 use Rattle.store.proofs.Codec.{Valid, decode-encode}
 use Rattle.store.proofs.Holds.{valid-decode}
 use Rattle.store.proofs.Lookup.{found, font-at, char-at, kept-under}
@@ -46,11 +48,11 @@ encoded : (st : Store) → Valid st → isStore (encode st) ≡ true
 encoded st v = store-is (encode st) st (decode-encode st v)
 
 fonts-encoded : (st : Store) → Valid st → fontsOf (encode st) ≡ fontsIn (st .recs)
-unfolding fontsOf
+unfolding fontsOf recordsIn
 fonts-encoded st v = rw (decode-encode st v)
 
 fonts-of : (s : List ℕ) (st : Store) → decode s ≡ some st → fontsOf s ≡ fontsIn (st .recs)
-unfolding fontsOf
+unfolding fontsOf recordsIn
 fonts-of s st e = rw e
 
 -- a store, where font n gave way to new ones if the answer is k
@@ -80,10 +82,10 @@ module _ (s : List ℕ) (P : After → Type 0) where
   by-find none m f r g = r
   by-find (some x) m f r g = g x refl
 
-  by-kind : (x : Kind) (a b : After) → P (refuse s 4) → (x ≡ First → P a) → (x ≡ Continuation → P b) → P (byKind x a b (refuse s 4))
-  by-kind First a b r f g = f refl
-  by-kind Continuation a b r f g = g refl
-  by-kind Unknown a b r f g = r
+  by-kind : (x : Kind) (first more : (List ℕ → List ℕ → After) → After) (both : List ℕ → List ℕ → After) → P (refuse s 4) → (x ≡ First → P (first both)) → (x ≡ Continuation → P (more both)) → P (byKind (refuse s) x first more both)
+  by-kind First first more both r f g = f refl
+  by-kind Continuation first more both r f g = g refl
+  by-kind Unknown first more both r f g = r
 
 -- a refusal with another number than k leaves what was a store
 refusal : (k n : ℕ) (new : List Font) (s : List ℕ) → isStore s ≡ true → (m : ℕ) → eqb m k ≡ false → Left k n new s (refuse s m)
@@ -104,7 +106,7 @@ module _ (st : Store) (v : Valid st) where
       let fits : used (removeFont n st) ≤ st .size = omega (arith, total-replaced (keyOf n 0) (keyOf (n + 1) 0) [] (st .recs) (v .order) (omega arith), v .room, length-run 0 alone (st .recs) (v .order)) in
       valid-font n [] st v no-font refl fits
 
-  pub put-valid : (n : ℕ) (b : List ℕ) → n ≤ 32767 → readHeader b ≡ Taken → used (putFont n (keptHeader b) st) ≤ st .size → Valid (putFont n (keptHeader b) st)
+  pub put-valid : (n : ℕ) (b : List ℕ) → n ≤ lastFont → readHeader b ≡ Taken → used (putFont n (keptHeader b) st) ≤ st .size → Valid (putFont n (keptHeader b) st)
   put-valid n b l e fits = valid-font n (font n (keptHeader b) ∷ []) st v (new-font (keptHeader b) l (kept-header b e)) (font-run n (keptHeader b) (kept-length b (header-long b e)) l) fits
 
 -- the font that a block brings
@@ -115,13 +117,13 @@ fontBy n b = record { number = n; kept = keptHeader b } ∷ []
 module _ (n : ℕ) (b s : List ℕ) (is : isStore s ≡ true) (P : After → Type 0) (no : (m : ℕ) → eqb m 0 ≡ false → P (refuse s m))
     (put : (st : Store) → decode s ≡ some st → Valid st → Valid (putFont n (keptHeader b) st) → P (done (putFont n (keptHeader b) st))) where
   pub font-answers : P (downloadingFont n b s)
-  unfolding downloadingFont puttingFont onStore readHeader
+  unfolding downloadingFont onStore readHeader
   font-answers =
       let w = is-store s is in
       let st = w .0 in
       let v = valid-decode s st (w .1) in
       rw (w .1)
-      (by-check s P (leb n 32767) 2 _ (no 2 refl) (λ l. by-verdict s P (headerChecks b) _ (no 3 refl, (no 4 refl, (no 5 refl, tt))) (λ e.
+      (by-check s P (leb n lastFont) 2 _ (no 2 refl) (λ l. by-verdict s P (headerChecks b) _ (no 3 refl, (no 4 refl, (no 5 refl, tt))) (λ e.
       by-check s P (leb (used (putFont n (keptHeader b) st)) (st .size)) 10 _ (no 10 refl) (λ f. put st (w .1) v (put-valid st v n b (leb-true _ _ l) e (leb-true _ _ f))))))
 
 pub font-leaves : (n : ℕ) (b s : List ℕ) → isStore s ≡ true → Left 0 n (fontBy n b) s (downloadingFont n b s)
@@ -133,8 +135,8 @@ font-leaves n b s is = font-answers n b s is (Left 0 n (fontBy n b) s) (refusal 
 pub record Guest (n c : ℕ) (s h d : List ℕ) (st : Store) : Type 0 where
   pub is : decode s ≡ some st
   pub valid : Valid st
-  pub low : n ≤ 32767
-  pub code : c ≤ 255
+  pub low : n ≤ lastFont
+  pub code : c ≤ lastCode
   pub header : List ℕ
   pub there : find (keyOf n 0) (st .recs) ≡ some (font n header)
   pub ok : isKept (heldUnder (orientation header) h d) ≡ true
@@ -150,7 +152,7 @@ module _ (n c : ℕ) (s h d : List ℕ) (st : Store) (g : Guest n c s h d st) wh
   unfolding placing
   placed-answers P f x = go (leb (used (putCharacter n c h d st)) (st .size)) refl
     where
-      go : (t : Bool) → leb (used (putCharacter n c h d st)) (st .size) ≡ t → P (cond t (record { answer = 0; bytes = encode (putCharacter n c h d st) }) (record { answer = 10; bytes = encode (removeFont n st) }))
+      go : (t : Bool) → leb (used (putCharacter n c h d st)) (st .size) ≡ t → P (checked (withoutFont n st) t 10 (done (putCharacter n c h d st)))
       go true q = f (placed-valid (leb-true _ _ q))
       go false q = x (removed-valid st (g .valid) n)
 
@@ -158,7 +160,7 @@ module _ (n c : ℕ) (s h d : List ℕ) (st : Store) (g : Guest n c s h d st) wh
 module _ (n c : ℕ) (b s : List ℕ) (is : isStore s ≡ true) (P : After → Type 0) (no : (m : ℕ) → eqb m 0 ≡ false → eqb m 10 ≡ false → P (refuse s m))
     (put : (st : Store) (h d : List ℕ) → Guest n c s h d st → Valid (putCharacter n c h d st) → P (done (putCharacter n c h d st)))
     (gone : (st : Store) → decode s ≡ some st → Valid st → Valid (removeFont n st) → P (record { answer = 10; bytes = encode (removeFont n st) })) where
-  module _ (st : Store) (e : decode s ≡ some st) (v : Valid st) (low : n ≤ 32767) (code : c ≤ 255) (g : List ℕ) (there : find (keyOf n 0) (st .recs) ≡ some (font n g)) where
+  module _ (st : Store) (e : decode s ≡ some st) (v : Valid st) (low : n ≤ lastFont) (code : c ≤ lastCode) (g : List ℕ) (there : find (keyOf n 0) (st .recs) ≡ some (font n g)) where
     placed-by : (h d : List ℕ) → isKept (heldUnder (orientation g) h d) ≡ true → P (placing n c h d st)
     placed-by h d ok =
         let x : Guest n c s h d st = record { is = e; valid = v; low = low; code = code; header = g; there = there; ok = ok } in
@@ -171,24 +173,24 @@ module _ (n c : ℕ) (b s : List ℕ) (is : isStore s ≡ true) (P : After → T
         kept : List ℕ
         kept = keptData (class h) (width h) (height h) d
 
-        go : (j : Judged) → judge (class h) (width h) (height h) d ≡ j → P (ifWithin j (refuse s 8) (checked (refuse s) (leb (length kept) 32768) 9 (placing n c h kept st)))
-        go (Complete m) q = by-check s P (leb (length kept) 32768) 9 _ (no 9 refl refl) (λ l. placed-by h kept (rw (f, held-whole (class h) (width h) (height h) d m q (leb-true _ _ l))))
-        go Incomplete q = by-check s P (leb (length kept) 32768) 9 _ (no 9 refl refl) (λ l. placed-by h kept (rw (f, held-unfinished (class h) (width h) (height h) d q (leb-true _ _ l))))
+        go : (j : Judged) → judge (class h) (width h) (height h) d ≡ j → P (taking (refuse s) (withinWidth j) (checked (refuse s) (leb (length kept) dataLimit) 9 (placing n c h kept st)))
+        go (Complete m) q = by-check s P (leb (length kept) dataLimit) 9 _ (no 9 refl refl) (λ l. placed-by h kept (rw (f, held-whole (class h) (width h) (height h) d m q (leb-true _ _ l))))
+        go Incomplete q = by-check s P (leb (length kept) dataLimit) 9 _ (no 9 refl refl) (λ l. placed-by h kept (rw (f, held-unfinished (class h) (width h) (height h) d q (leb-true _ _ l))))
         go (PastWidth row g r) q = no 8 refl refl
 
     first-by : kindOf b ≡ First → P (receivingFirst n c g b s st)
     unfolding receivingFirst readFirst
-    first-by f = by-verdict s P (firstChecks b (orientation g)) _ (no 3 refl refl, (no 4 refl refl, (no 5 refl refl, (no 9 refl refl, tt)))) (λ e. received-by (keptFirst b) (drop 16 b) (kept-first b (orientation g) f e))
+    first-by f = by-verdict s P (firstChecks b (orientation g)) _ (no 3 refl refl, (no 4 refl refl, (no 5 refl refl, (no 9 refl refl, tt)))) (λ e. received-by (keptFirst b) (drop descriptorBytes b) (kept-first b (orientation g) f e))
 
     more-by : P (receivingMore n c b s st)
     unfolding receivingMore
     more-by = by-check s P (names n c (st .mark)) 7 _ (no 7 refl refl) (λ t. by-find s P (find (keyOf n (c + 1)) (st .recs)) 7 _ (no 7 refl refl) (λ r q.
         let f = found (keyOf n (c + 1)) 0 alone r (st .recs) (v .order) q in
         let y = char-at n c _ r code (f .ok) (f .is) in
-        subst (λ (x : Rec). P (receiving n c (keptOf x) (dataOf x ++ drop 2 b) s st)) (sym (y .2)) (received-by (y .0) (y .1 ++ drop 2 b) (kept-under n c g (y .0) (y .1) (st .recs) (v .order) code there (q ∙ ap some (y .2))))))
+        subst (λ (x : Rec). P (receiving n c (keptOf x) (dataOf x ++ drop continuationBytes b) s st)) (sym (y .2)) (received-by (y .0) (y .1 ++ drop continuationBytes b) (kept-under n c g (y .0) (y .1) (st .recs) (v .order) code there (q ∙ ap some (y .2))))))
 
   pub character-answers : P (downloadingCharacter n c b s)
-  unfolding downloadingCharacter puttingBlock onStore
+  unfolding downloadingCharacter receivingBlock receivingFirst receivingMore receiving placing onStore
   character-answers =
       let w = is-store s is in
       let st = w .0 in
@@ -198,13 +200,13 @@ module _ (n c : ℕ) (b s : List ℕ) (is : isStore s ≡ true) (P : After → T
       by-check s P (characterLength b) 3 _ (no 3 refl refl) (λ e.
       by-find s P (find (keyOf n 0) (st .recs)) 6 _ (no 6 refl refl) (λ r q. block st (w .1) v r (i .0) (i .1) q))))
     where
-      block : (st : Store) → decode s ≡ some st → Valid st → (r : Rec) → n ≤ 32767 → c ≤ 255 → find (keyOf n 0) (st .recs) ≡ some r → P (byKind (kindOf b) (receivingFirst n c (keptOf r) b s st) (receivingMore n c b s st) (refuse s 4))
+      block : (st : Store) → decode s ≡ some st → Valid st → (r : Rec) → n ≤ lastFont → c ≤ lastCode → find (keyOf n 0) (st .recs) ≡ some r → P (receivingBlock n c (keptOf r) b s st)
       block st d v r low code q =
           let f = found (keyOf n 0) 0 alone r (st .recs) (v .order) q in
           let y = font-at n _ r (f .ok) (f .is) in
           let t : find (keyOf n 0) (st .recs) ≡ some (font n (y .0)) = q ∙ ap some (y .1) in
-          subst (λ (x : Rec). P (byKind (kindOf b) (receivingFirst n c (keptOf x) b s st) (receivingMore n c b s st) (refuse s 4))) (sym (y .1))
-          (by-kind s P (kindOf b) _ _ (no 4 refl refl) (λ e. first-by st d v low code (y .0) t e) (λ e. more-by st d v low code (y .0) t))
+          subst (λ (x : Rec). P (receivingBlock n c (keptOf x) b s st)) (sym (y .1))
+          (by-kind s P (kindOf b) _ _ (λ h d. receiving n c h d s st) (no 4 refl refl) (λ e. first-by st d v low code (y .0) t e) (λ e. more-by st d v low code (y .0) t))
 
 pub character-leaves : (n c : ℕ) (b s : List ℕ) → isStore s ≡ true → Left 10 n [] s (downloadingCharacter n c b s)
 unfolding fontsIn
@@ -216,15 +218,15 @@ character-leaves n c b s is =
 -- ── making fresh, removing
 pub fresh-leaves : (s : List ℕ) → makingFresh s .answer ≡ 0 → (isStore (makingFresh s .bytes) ≡ true) × (fontsOf (makingFresh s .bytes) ≡ [])
 unfolding makingFresh
-fresh-leaves s e = go (leb 12 (length s) & leb (length s) 65536) refl e
+fresh-leaves s e = go (leb leastStore (length s) & leb (length s) mostStore) refl e
   where
-    valid : 12 ≤ length s → length s ≤ 65536 → Valid (fresh (length s))
+    valid : leastStore ≤ length s → length s ≤ mostStore → Valid (fresh (length s))
     valid a b = record { order = unfold sorted in refl; marked = unfold markOk _&_ in refl; small = b; room = unfold run in a }
 
-    go : (t : Bool) → (leb 12 (length s) & leb (length s) 65536) ≡ t → checked (refuse s) t 1 (done (fresh (length s))) .answer ≡ 0
+    go : (t : Bool) → (leb leastStore (length s) & leb (length s) mostStore) ≡ t → checked (refuse s) t 1 (done (fresh (length s))) .answer ≡ 0
         → (isStore (checked (refuse s) t 1 (done (fresh (length s))) .bytes) ≡ true) × (fontsOf (checked (refuse s) t 1 (done (fresh (length s))) .bytes) ≡ [])
     go true q z =
-        let v = valid (leb-true _ _ (both-l (leb 12 (length s)) (leb (length s) 65536) q)) (leb-true _ _ (both-r (leb 12 (length s)) (leb (length s) 65536) q)) in
+        let v = valid (leb-true _ _ (both-l (leb leastStore (length s)) (leb (length s) mostStore) q)) (leb-true _ _ (both-r (leb leastStore (length s)) (leb (length s) mostStore) q)) in
         (encoded (fresh (length s)) v, fonts-encoded (fresh (length s)) v ∙ (unfold fontsIn in refl))
     go false q z = absurd (omega (arith, z))
 
@@ -234,7 +236,7 @@ removed-leaves n s is =
     let w = is-store s is in
     let v = valid-decode s (w .0) (w .1) in
     rw (w .1)
-    (by-check s (Left 0 n [] s) (leb n 32767) 2 _ (refusal 0 n [] s is 2 refl) (λ l. by-find s (Left 0 n [] s) (find (keyOf n 0) (w .0 .recs)) 6 _ (refusal 0 n [] s is 6 refl) (λ r q. with-left n 0 [] s (w .0) (w .1) (removed-valid (w .0) v n))))
+    (by-check s (Left 0 n [] s) (leb n lastFont) 2 _ (refusal 0 n [] s is 2 refl) (λ l. by-find s (Left 0 n [] s) (find (keyOf n 0) (w .0 .recs)) 6 _ (refusal 0 n [] s is 6 refl) (λ r q. with-left n 0 [] s (w .0) (w .1) (removed-valid (w .0) v n))))
 
 -- a store with the fonts that it had
 abbrev Same : List ℕ → After → Type 0
@@ -249,24 +251,24 @@ cut-leaves n c s is =
     (by-check s (Same s) (numbered n c) 2 _ (is, refl) (λ l.
     by-find s (Same s) (find (keyOf n 0) (w .0 .recs)) 6 _ (is, refl) (λ r q. by-find s (Same s) (find (keyOf n (c + 1)) (w .0 .recs)) 7 _ (is, refl) (λ x y. cut (w .0) (w .1) v r (in-range n c l .1) q))))
   where
-    cut : (st : Store) → decode s ≡ some st → Valid st → (r : Rec) → c ≤ 255 → find (keyOf n 0) (st .recs) ≡ some r → Same s (done (removeCharacter n c st))
+    cut : (st : Store) → decode s ≡ some st → Valid st → (r : Rec) → c ≤ lastCode → find (keyOf n 0) (st .recs) ≡ some r → Same s (done (removeCharacter n c st))
     cut st d v r code q = unfold run total fontsIn in
         let f = found (keyOf n 0) 0 alone r (st .recs) (v .order) q in
         let y = font-at n _ r (f .ok) (f .is) in
-        let fits : 12 + total (withCharacter n c [] (st .recs)) ≤ st .size = omega (arith, total-replaced (keyOf n (c + 1)) (keyOf n (c + 1) + 1) [] (st .recs) (v .order) (omega arith), v .room, length-run 0 alone (st .recs) (v .order)) in
+        let fits : markRecord + total (withCharacter n c [] (st .recs)) ≤ st .size = omega (arith, total-replaced (keyOf n (c + 1)) (keyOf n (c + 1) + 1) [] (st .recs) (v .order) (omega arith), v .room, length-run 0 alone (st .recs) (v .order)) in
         let a = valid-cut n c (y .0) st v code (q ∙ ap some (y .1)) fits in
         (encoded (removeCharacter n c st) a, fonts-encoded (removeCharacter n c st) a ∙ fonts-char n c [] (st .recs) (v .order) code refl ∙ sym (fonts-of s st d))
 
 -- ── the calls on a known store, by the code's findings
-module _ (n : ℕ) (b s : List ℕ) (k : isStore s ≡ true) (l : n ≤ 32767) where
+module _ (n : ℕ) (b s : List ℕ) (k : isStore s ≡ true) (l : n ≤ lastFont) where
   pub known-refused : (m : ℕ) → readHeader b ≡ Refused m → downloadingFont n b s ≡ refuse s m
   unfolding downloadingFont onStore
-  known-refused m e = rw (is-store s k .1, le-leb n 32767 l, e)
+  known-refused m e = rw (is-store s k .1, le-leb n lastFont l, e)
 
   pub known-taken : readHeader b ≡ Taken → downloadingFont n b s ≡ puttingFont n b s
   unfolding downloadingFont puttingFont onStore
-  known-taken e = rw (is-store s k .1, le-leb n 32767 l, e)
+  known-taken e = rw (is-store s k .1, le-leb n lastFont l, e)
 
-  pub known-block : (c : ℕ) → c ≤ 255 → downloadingCharacter n c b s ≡ puttingBlock n c b s
-  unfolding downloadingCharacter onStore
-  known-block c m = rw (is-store s k .1, le-leb n 32767 l, le-leb c 255 m)
+  pub known-block : (c : ℕ) → c ≤ lastCode → downloadingCharacter n c b s ≡ puttingBlock n c b s
+  unfolding downloadingCharacter puttingBlock receivingBlock receiving placing onStore
+  known-block c m = rw (is-store s k .1, le-leb n lastFont l, le-leb c lastCode m)

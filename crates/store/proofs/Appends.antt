@@ -9,8 +9,8 @@ use lib.ListN.{length, length-append}
 use lib.Seq.{take-all}
 use lib.Dec.{eqb}
 use borrow.Author.Tests.{le-leb, eq-eqb}
-use Rattle.blocks.specs.Header.{orientation, isKeptHeader, keptHeader}
-use Rattle.blocks.specs.Character.{class, width, height, characterLength, kindOf}
+use Rattle.blocks.specs.Header.{orientation, isKeptHeader, keptHeader, blockLimit}
+use Rattle.blocks.specs.Character.{class, width, height, characterLength, kindOf, dataLimit, descriptorBytes}
 use Rattle.blocks.specs.Picture.{judge, keptData, held}
 use Rattle.blocks.specs.declared.picture.Judged.the-variants.{Complete, Incomplete}
 use Rattle.blocks.specs.declared.picture.Held.{Held}
@@ -18,14 +18,15 @@ use Rattle.blocks.specs.declared.picture.Held.the-variants.{Whole, Unfinished, 
 use Rattle.blocks.proofs.KeptHeader.{is-kept-header}
 use Rattle.blocks.proofs.KeptFirst.{is-kept-block, is-kept-length}
 use Rattle.blocks.proofs.KeptData.{whole-judged, unfinished-judged, kept-complete, kept-incomplete, incomplete-prefix, complete-prefix}
-use Rattle.store.specs.Layout.{keyOf}
+use Rattle.store.specs.Layout.{keyOf, characterRecord, lastCode, lastFont, markRecord, mostStore, fontRecord}
 use Rattle.store.specs.Num.{_&_}
 use Rattle.store.specs.Model.{Rec, font, character, Store, key, number, place, heldOf, heldUnder, isKept, isUnfinished, sorted, markOk, run, encode, total, sizeOf}
 use Rattle.store.specs.Order.{keep, below, from, replaced, find}
 use Rattle.store.specs.Answer.{onStore, finding, done}
-use Rattle.store.specs.Calls.{shut, fresh, used, closedFor, putFont, puttingFont, downloadingFont, withCharacter}
-use Rattle.store.specs.Download.{names, markFor, putCharacter, placing, receiving, receivingFirst, receivingMore, puttingBlock, downloadingCharacter}
-use Rattle.store.proofs.Records.{held-kept}
+use Rattle.store.specs.Calls.{shut, fresh, used, closedFor, putFont, downloadingFont, withCharacter}
+use Rattle.store.specs.Download.{names, markFor, putCharacter, downloadingCharacter}
+use Rattle.store.specs.Putting.{placing, receiving, receivingFirst, receivingMore}
+use Rattle.store.proofs.RecordBytes.{held-kept}
 use Rattle.store.proofs.Codec.{Valid, decode-encode}
 use Rattle.store.proofs.Totals.{total-append}
 use Rattle.store.proofs.Order.{below-in, below-out, from-out}
@@ -89,13 +90,13 @@ pub record Laid (n k : ℕ) (g : List ℕ) (st : Store) : Type 0 where
   pub low : Low k (st .recs)
 
 -- the header into a fresh store
-pub fresh-valid : (size : ℕ) → 12 ≤ size → size ≤ 65536 → Valid (fresh size)
+pub fresh-valid : (size : ℕ) → markRecord ≤ size → size ≤ mostStore → Valid (fresh size)
 fresh-valid size room small = record { order = unfold sorted in refl; marked = unfold markOk _&_ in refl; small = small; room = unfold run in omega arith }
 
 abbrev pub first-store : ℕ → List ℕ → ℕ → Store
 first-store n h size = record { size = size; mark = shut; recs = font n h ∷ [] }
 
-module _ (n : ℕ) (h : List ℕ) (size : ℕ) (low : n ≤ 32767) (ok : isKeptHeader h ≡ true) (room : 84 ≤ size) (small : size ≤ 65536) where
+module _ (n : ℕ) (h : List ℕ) (size : ℕ) (low : n ≤ lastFont) (ok : isKeptHeader h ≡ true) (room : markRecord + fontRecord ≤ size) (small : size ≤ mostStore) where
   fresh-is : Valid (fresh size)
   fresh-is = fresh-valid size (omega arith) small
 
@@ -108,8 +109,8 @@ module _ (n : ℕ) (h : List ℕ) (size : ℕ) (low : n ≤ 32767) (ok : isKeptH
   header-fits = omega arith
 
   header-sent : downloadingFont n h (encode (fresh size)) ≡ done (first-store n h size)
-  unfolding downloadingFont puttingFont onStore
-  header-sent = rw (decode-encode (fresh size) fresh-is, le-leb n 32767 low, is-kept-header h ok .0, le-leb (used (putFont n (keptHeader h) (fresh size))) size header-fits, put-is)
+  unfolding downloadingFont onStore
+  header-sent = rw (decode-encode (fresh size) fresh-is, le-leb n lastFont low, is-kept-header h ok .0, le-leb (used (putFont n (keptHeader h) (fresh size))) size header-fits, put-is)
 
   header-laid : Laid n (keyOf n 0 + 1) h (first-store n h size)
   unfolding number place
@@ -124,7 +125,7 @@ module _ (n : ℕ) (h : List ℕ) (size : ℕ) (low : n ≤ 32767) (ok : isKeptH
 
 -- ── a character behind them
 -- data that is held is kept as it is, and accepted where it fits
-module _ (n c : ℕ) (h d : List ℕ) (s : List ℕ) (st : Store) (small : length d ≤ 32768) (fits : used (putCharacter n c h d st) ≤ st .size) where
+module _ (n c : ℕ) (h d : List ℕ) (s : List ℕ) (st : Store) (small : length d ≤ dataLimit) (fits : used (putCharacter n c h d st) ≤ st .size) where
   place-it : placing n c h d st ≡ done (putCharacter n c h d st)
   unfolding placing
   place-it = rw (le-leb (used (putCharacter n c h d st)) (st .size) fits)
@@ -133,11 +134,11 @@ module _ (n c : ℕ) (h d : List ℕ) (s : List ℕ) (st : Store) (small : lengt
   unfolding receiving
   receive-whole e =
       let k : keptData (class h) (width h) (height h) d ≡ d = kept-complete (class h) (width h) (height h) d (length d) e ∙ take-all (length d) d (omega arith) in
-      rw (e, k, le-leb (length d) 32768 small) place-it
+      rw (e, k, le-leb (length d) dataLimit small) place-it
 
   receive-part : judge (class h) (width h) (height h) d ≡ Incomplete → receiving n c h d s st ≡ done (putCharacter n c h d st)
   unfolding receiving
-  receive-part e = rw (e, kept-incomplete (class h) (width h) (height h) d e, le-leb (length d) 32768 small) place-it
+  receive-part e = rw (e, kept-incomplete (class h) (width h) (height h) d e, le-leb (length d) dataLimit small) place-it
 
 received : (n c : ℕ) (h d s : List ℕ) (st : Store) → isKept (heldOf h d) ≡ true → used (putCharacter n c h d st) ≤ st .size → receiving n c h d s st ≡ done (putCharacter n c h d st)
 received n c h d s st ok fits = go (heldOf h d) refl ok
@@ -151,11 +152,11 @@ received n c h d s st ok fits = go (heldOf h d) refl ok
 abbrev pub lastStore : ℕ → ℕ → List ℕ → List ℕ → List Rec → Store → Store
 lastStore n c h d rs st = changed (markFor n c h d) (rs ++ (character n c h d ∷ [])) st
 
-module _ (n c : ℕ) (g h : List ℕ) (low : n ≤ 32767) (code : c ≤ 255) where
+module _ (n c : ℕ) (g h : List ℕ) (low : n ≤ lastFont) (code : c ≤ lastCode) where
   -- the store that a download leaves, where the character stands behind rs
   module _ (d : List ℕ) (rs : List Rec) (st : Store) (v : Valid st) (there : find (keyOf n 0) (st .recs) ≡ some (font n g)) (laid : Low (keyOf n (c + 1)) rs) (front : find (keyOf n 0) rs ≡ some (font n g))
       (is : withCharacter n c (character n c h d ∷ []) (st .recs) ≡ rs ++ (character n c h d ∷ [])) (ok : isKept (heldUnder (orientation g) h d) ≡ true)
-      (room : 12 + total rs + 26 + length d ≤ st .size) where
+      (room : markRecord + total rs + characterRecord + length d ≤ st .size) where
     put-last : putCharacter n c h d st ≡ lastStore n c h d rs st
     put-last = rw is
 
@@ -183,25 +184,25 @@ module _ (n c : ℕ) (g h : List ℕ) (low : n ≤ 32767) (code : c ≤ 255) whe
         let k = is-kept-block h (orientation g) (held-kept (orientation g) h d ok .0) d in
         rw (k .1, k .2, k .3) e
 
-    first-sent : (d : List ℕ) → isKept (heldUnder (orientation g) h d) ≡ true → 12 + total (st .recs) + 26 + length d ≤ st .size → 16 + length d ≤ 32767
+    first-sent : (d : List ℕ) → isKept (heldUnder (orientation g) h d) ≡ true → markRecord + total (st .recs) + characterRecord + length d ≤ st .size → descriptorBytes + length d ≤ blockLimit
         → downloadingCharacter n c (h ++ d) (encode st) ≡ done (lastStore n c h d (st .recs) st)
-    unfolding downloadingCharacter puttingBlock onStore finding characterLength
+    unfolding downloadingCharacter receivingFirst receiving placing onStore finding characterLength
     first-sent d ok room short =
         let f = held-kept (orientation g) h d ok .0 in
-        let l : length (h ++ d) ≡ 16 + length d = length-append h d ∙ ap (λ (x : ℕ). x + length d) (is-kept-length h (orientation g) f) in
+        let l : length (h ++ d) ≡ descriptorBytes + length d = length-append h d ∙ ap (λ (x : ℕ). x + length d) (is-kept-length h (orientation g) f) in
         let i = behind (keyOf n (c + 1)) (character n c h d ∷ []) (st .recs) (w .low) in
         rw (
           decode-encode st (w .valid),
-          le-leb n 32767 low,
-          le-leb c 255 code,
+          le-leb n lastFont low,
+          le-leb c lastCode code,
           l,
-          le-leb 2 (16 + length d) (omega arith),
-          le-leb (16 + length d) 32767 short,
+          le-leb 2 (descriptorBytes + length d) (omega arith),
+          le-leb (descriptorBytes + length d) blockLimit short,
           w .there,
           is-kept-block h (orientation g) f d .0,
         ) (first-received d (encode st) ok (last-received d (st .recs) st (w .valid) (w .there) (w .low) (w .there) i ok room (encode st)))
 
-    pub first-laid : (d : List ℕ) → isKept (heldUnder (orientation g) h d) ≡ true → 12 + total (st .recs) + 26 + length d ≤ st .size → 16 + length d ≤ 32767
+    pub first-laid : (d : List ℕ) → isKept (heldUnder (orientation g) h d) ≡ true → markRecord + total (st .recs) + characterRecord + length d ≤ st .size → descriptorBytes + length d ≤ blockLimit
         → (downloadingCharacter n c (h ++ d) (encode st) ≡ done (lastStore n c h d (st .recs) st)) × Laid n (keyOf n (c + 1) + 1) g (lastStore n c h d (st .recs) st)
     first-laid d ok room short =
         let i = behind (keyOf n (c + 1)) (character n c h d ∷ []) (st .recs) (w .low) in
@@ -209,7 +210,7 @@ module _ (n c : ℕ) (g h : List ℕ) (low : n ≤ 32767) (code : c ≤ 255) whe
 
     -- a continuation, which follows a first block with data a
     module _ (a b : List ℕ) (w′ : Laid n (keyOf n (c + 1) + 1) g (lastStore n c h a (st .recs) st)) (waits : isUnfinished (heldOf h a) ≡ true) (ok : isKept (heldUnder (orientation g) h (a ++ b)) ≡ true)
-        (room : 12 + total (st .recs) + 26 + length (a ++ b) ≤ st .size) (short : 2 + length b ≤ 32767) where
+        (room : markRecord + total (st .recs) + characterRecord + length (a ++ b) ≤ st .size) (short : 2 + length b ≤ blockLimit) where
       more-is : withCharacter n c (character n c h (a ++ b) ∷ []) (st .recs ++ (character n c h a ∷ [])) ≡ st .recs ++ (character n c h (a ++ b) ∷ [])
       more-is = instead (keyOf n (c + 1)) (character n c h a) (character n c h (a ++ b) ∷ []) (st .recs) (w .low) (unfold number place in refl)
 
@@ -227,15 +228,15 @@ module _ (n c : ℕ) (g h : List ℕ) (low : n ≤ 32767) (code : c ≤ 255) whe
 
       more-length : characterLength (4 ∷ 1 ∷ b) ≡ true
       unfolding characterLength
-      more-length = simp (le-leb 2 (length (4 ∷ 1 ∷ b)) (omega arith), le-leb (length (4 ∷ 1 ∷ b)) 32767 (omega (arith, short)))
+      more-length = simp (le-leb 2 (length (4 ∷ 1 ∷ b)) (omega arith), le-leb (length (4 ∷ 1 ∷ b)) blockLimit (omega (arith, short)))
 
       more-sent : downloadingCharacter n c (4 ∷ 1 ∷ b) (encode (lastStore n c h a (st .recs) st)) ≡ done (lastStore n c h (a ++ b) (st .recs) st)
-      unfolding downloadingCharacter puttingBlock onStore finding kindOf
+      unfolding downloadingCharacter receivingMore receiving placing onStore finding kindOf
       more-sent =
           rw (
             decode-encode (lastStore n c h a (st .recs) st) (w′ .valid),
-            le-leb n 32767 low,
-            le-leb c 255 code,
+            le-leb n lastFont low,
+            le-leb c lastCode code,
             more-length,
             w′ .there,
           ) (more-received (encode (lastStore n c h a (st .recs) st)))
@@ -248,8 +249,8 @@ pub part-waits : (h a b : List ℕ) → isKept (heldOf h (a ++ b)) ≡ true → 
 unfolding held
 part-waits h a b ok l = go (heldOf h (a ++ b)) refl ok
   where
-    waits : judge (class h) (width h) (height h) a ≡ Incomplete → length (a ++ b) ≤ 32768 → heldOf h a ≡ Unfinished
-    waits j s = unfold held in rw (le-leb (length a) 32768 (omega (arith, length-append a b)), j)
+    waits : judge (class h) (width h) (height h) a ≡ Incomplete → length (a ++ b) ≤ dataLimit → heldOf h a ≡ Unfinished
+    waits j s = unfold held in rw (le-leb (length a) dataLimit (omega (arith, length-append a b)), j)
 
     go : (x : Held) → heldOf h (a ++ b) ≡ x → isKept x ≡ true → heldOf h a ≡ Unfinished
     go Whole q e = let j = whole-judged (class h) (width h) (height h) (a ++ b) q in waits (complete-prefix (class h) (width h) (height h) a b (j .0) l) (j .1)

@@ -9,11 +9,11 @@ use lib.ListN.{length, drop, replicate, length-drop, length-append, length-repli
 use lib.Seq.{drop-at}
 use lib.Dec.{eqb, leb}
 use borrow.Author.Tests.{eqb-true, leb-true, le-leb}
-use Rattle.store.specs.Num.{_&_, num, le, field, allZero, Bytes}
+use Rattle.store.specs.Num.{_&_, num, le, field, allZero, Bytes, wordEnd}
 use Rattle.store.specs.Model.{Rec, font, character, Mark, Store, bytesOf, run, markBytes, encode, key, allowed, Under, alone, under, sorted, opened, markOk, guard, headRec, sizeOf, consTo, andThen, splitIn, split, markIn, begins, validOr, decode}
-use Rattle.store.specs.Layout.{keyOf}
+use Rattle.store.specs.Layout.{keyOf, kindAt, lastCode, lastFont, leastStore, markCodeAt, markFontAt, markKind, markOnAt, markRecord, mostStore}
 use Rattle.store.proofs.Numbers.{num-le, cut, zeros-are, zeros-all, both-l, both-r, both, bytes-drop}
-use Rattle.store.proofs.Records.{guard-test, guard-is, size-pos, Shaped, shaped, head-encode, head-nonzero, head-fits}
+use Rattle.store.proofs.RecordBytes.{guard-test, guard-is, size-pos, font-size, char-size, Shaped, shaped, head-encode, head-nonzero, head-fits}
 
 -- ── the fuel of split does not matter
 pub enough : (k m : ℕ) (s : List ℕ) → length s < k → length s < m → splitIn k s ≡ splitIn m s
@@ -34,9 +34,9 @@ split-eq (x ∷ s) =
 
 -- ── runs
 pub size-bytes : (r : Rec) → Shaped r → length (bytesOf r) ≡ sizeOf r
-unfolding bytesOf sizeOf le
-size-bytes (font n h) e = omega arith
-size-bytes (character n c h d) e = omega (arith, length-append h d)
+unfolding sizeOf
+size-bytes (font n h) e = omega (arith, length-append (bytesOf (font n h)) [], font-size n h [] (e .0))
+size-bytes (character n c h d) e = omega (arith, length-append (bytesOf (character n c h d)) [], char-size n c h d [] (e .0))
 
 -- ── sorted records, one by one
 pub record Sorted (k : ℕ) (u : Under) (r : Rec) (rs : List Rec) : Type 0 where
@@ -107,20 +107,20 @@ split-is (suc k) s rs B e = split-step k s rs B (λ s' t. split-is k s' t) e
 pub record Valid (st : Store) : Type 0 where
   pub order : sorted 0 alone (st .recs) ≡ true
   pub marked : markOk (st .mark) (st .recs) ≡ true
-  pub small : st .size ≤ 65536
-  pub room : 12 + length (run (st .recs)) ≤ st .size
+  pub small : st .size ≤ mostStore
+  pub room : markRecord + length (run (st .recs)) ≤ st .size
 
-pub mark-length : (m : Mark) → length (markBytes m) ≡ 12
+pub mark-length : (m : Mark) → length (markBytes m) ≡ markRecord
 unfolding markBytes le
 mark-length m = refl
 
 -- numbers in a valid mark
-pub mark-fits : (m : Mark) (rs : List Rec) → markOk m rs ≡ true → (m .on < 65536) × (m .fontOf < 65536) × (m .codeOf < 65536)
+pub mark-fits : (m : Mark) (rs : List Rec) → markOk m rs ≡ true → (m .on < wordEnd) × (m .fontOf < wordEnd) × (m .codeOf < wordEnd)
 unfolding markOk
 mark-fits m rs e = on? (eqb (m .on) 0) refl
   where
     Goal : Type 0
-    Goal = (m .on < 65536) × (m .fontOf < 65536) × (m .codeOf < 65536)
+    Goal = (m .on < wordEnd) × (m .fontOf < wordEnd) × (m .codeOf < wordEnd)
 
     on? : (b : Bool) → eqb (m .on) 0 ≡ b → Goal
     on? true q =
@@ -130,18 +130,18 @@ mark-fits m rs e = on? (eqb (m .on) 0) refl
         let c : m .codeOf ≡ 0 = eqb-true _ _ (both-r _ _ e') in
         omega arith
     on? false q =
-        let e1 : eqb (m .on) 1 & leb (m .fontOf) 32767 & leb (m .codeOf) 255 & opened (keyOf (m .fontOf) (m .codeOf + 1)) rs ≡ true = rw q at e in
+        let e1 : eqb (m .on) 1 & leb (m .fontOf) lastFont & leb (m .codeOf) lastCode & opened (keyOf (m .fontOf) (m .codeOf + 1)) rs ≡ true = rw q at e in
         let e2 = both-r _ _ e1 in
         let a : m .on ≡ 1 = eqb-true _ _ (both-l _ _ e1) in
-        let b : m .fontOf ≤ 32767 = leb-true _ _ (both-l _ _ e2) in
-        let c : m .codeOf ≤ 255 = leb-true _ _ (both-l _ _ (both-r _ _ e2)) in
+        let b : m .fontOf ≤ lastFont = leb-true _ _ (both-l _ _ e2) in
+        let c : m .codeOf ≤ lastCode = leb-true _ _ (both-l _ _ (both-r _ _ e2)) in
         omega arith
 
 pub length-encode : (st : Store) → Valid st → length (encode st) ≡ st .size
 unfolding encode
 length-encode st v = simp (length-append, length-replicate, mark-length) (omega (arith, v .room))
 
-pub mark-back : (m : Mark) (t : List ℕ) → m .on < 65536 → m .fontOf < 65536 → m .codeOf < 65536 → markIn (markBytes m ++ t) ≡ m
+pub mark-back : (m : Mark) (t : List ℕ) → m .on < wordEnd → m .fontOf < wordEnd → m .codeOf < wordEnd → markIn (markBytes m ++ t) ≡ m
 unfolding markBytes le num
 mark-back m t a b c =
     let qa : num (le 2 (m .on)) ≡ m .on = num-le 2 (m .on) (omega arith) in
@@ -153,8 +153,8 @@ pub begins-encode : (st : Store) → Valid st → begins (encode st) ≡ true
 unfolding begins encode markBytes le num
 begins-encode st v =
     let l = length-encode st v in
-    let a : leb 12 (length (encode st)) ≡ true = le-leb 12 (length (encode st)) (omega (arith, l, v .room)) in
-    let b : leb (length (encode st)) 65536 ≡ true = le-leb (length (encode st)) 65536 (omega (arith, l, v .small)) in
+    let a : leb leastStore (length (encode st)) ≡ true = le-leb leastStore (length (encode st)) (omega (arith, l, v .room)) in
+    let b : leb (length (encode st)) mostStore ≡ true = le-leb (length (encode st)) mostStore (omega (arith, l, v .small)) in
     both _ _ a (both _ _ b (both _ _ refl refl))
 
 -- the zeros after the records
@@ -172,17 +172,17 @@ decode-encode st v =
     let t = run (st .recs) ++ replicate (spare st) 0 in
     let e = encode-parts st in
     let m : markIn (encode st) ≡ st .mark = rw e (mark-back (st .mark) t (f .0) (f .1) (f .2)) in
-    let d : drop 12 (encode st) ≡ t = rw e (drop-at (markBytes (st .mark)) t 12 (mark-length (st .mark))) in
+    let d : drop markRecord (encode st) ≡ t = rw e (drop-at (markBytes (st .mark)) t markRecord (mark-length (st .mark))) in
     rw (begins-encode st v, length-encode st v, m, d, split-run (st .recs) (spare st) 0 alone (v .order), both _ _ (v .order) (v .marked))
 
-pub mark-sound : (s : List ℕ) → Bytes s → 12 ≤ length s → field 4 0 s ≡ 12 → field 2 4 s ≡ 1 → markBytes (markIn s) ++ drop 12 s ≡ s
+pub mark-sound : (s : List ℕ) → Bytes s → leastStore ≤ length s → field 4 0 s ≡ markRecord → field 2 kindAt s ≡ markKind → markBytes (markIn s) ++ drop markRecord s ≡ s
 unfolding markBytes
 mark-sound s B h e0 e4 =
-    let k0 : le 4 12 ++ drop 4 s ≡ s = subst (λ (x : ℕ). le 4 x ++ drop 4 s ≡ s) e0 (cut 4 0 s B (omega arith)) in
-    let k4 : le 2 1 ++ drop 6 s ≡ drop 4 s = subst (λ (x : ℕ). le 2 x ++ drop 6 s ≡ drop 4 s) e4 (cut 2 4 s B (omega arith)) in
-    simp (append-assoc, cut 2 10 s B (omega arith), cut 2 8 s B (omega arith), cut 2 6 s B (omega arith), k4, k0)
+    let k0 : le 4 markRecord ++ drop kindAt s ≡ s = subst (λ (x : ℕ). le 4 x ++ drop kindAt s ≡ s) e0 (cut 4 0 s B (omega arith)) in
+    let k4 : le 2 markKind ++ drop markOnAt s ≡ drop kindAt s = subst (λ (x : ℕ). le 2 x ++ drop markOnAt s ≡ drop kindAt s) e4 (cut 2 kindAt s B (omega arith)) in
+    simp (append-assoc, cut 2 markCodeAt s B (omega arith), cut 2 markFontAt s B (omega arith), cut 2 markOnAt s B (omega arith), k4, k0)
 
-pub begins-parts : (s : List ℕ) → begins s ≡ true → (12 ≤ length s) × (length s ≤ 65536) × (field 4 0 s ≡ 12) × (field 2 4 s ≡ 1)
+pub begins-parts : (s : List ℕ) → begins s ≡ true → (leastStore ≤ length s) × (length s ≤ mostStore) × (field 4 0 s ≡ markRecord) × (field 2 kindAt s ≡ markKind)
 unfolding begins
 begins-parts s e =
     let e1 = both-r _ _ e in
@@ -193,13 +193,13 @@ abbrev pub storeOf : List ℕ → List Rec → Store
 storeOf s rs = record { size = length s; mark = markIn s; recs = rs }
 
 -- a buffer with the first record and a run of records is the store of them
-pub stored : (s : List ℕ) (rs : List Rec) → Bytes s → begins s ≡ true → Runs (drop 12 s) rs → (s ≡ encode (storeOf s rs)) × (12 + length (run rs) ≤ length s)
+pub stored : (s : List ℕ) (rs : List Rec) → Bytes s → begins s ≡ true → Runs (drop markRecord s) rs → (s ≡ encode (storeOf s rs)) × (markRecord + length (run rs) ≤ length s)
 stored s rs B fr w =
     let f = begins-parts s fr in
     let z = w .0 in
     let ms = mark-sound s B (f .0) (f .2) (f .3) in
-    let l1 : length s - 12 ≡ length (run rs) + z = sym (length-drop 12 s) ∙ ap length (w .1) ∙ length-append (run rs) (replicate z 0) ∙ ap (λ (x : ℕ). length (run rs) + x) (length-replicate z 0) in
-    let l2 : length (markBytes (markIn s) ++ run rs) ≡ 12 + length (run rs) = length-append (markBytes (markIn s)) (run rs) ∙ ap (λ (x : ℕ). x + length (run rs)) (mark-length (markIn s)) in
+    let l1 : length s - markRecord ≡ length (run rs) + z = sym (length-drop markRecord s) ∙ ap length (w .1) ∙ length-append (run rs) (replicate z 0) ∙ ap (λ (x : ℕ). length (run rs) + x) (length-replicate z 0) in
+    let l2 : length (markBytes (markIn s) ++ run rs) ≡ markRecord + length (run rs) = length-append (markBytes (markIn s)) (run rs) ∙ ap (λ (x : ℕ). x + length (run rs)) (mark-length (markIn s)) in
     let zs : spare (storeOf s rs) ≡ z = omega (arith, f .0) in (
       sym ms ∙ ap (λ (l : List ℕ). markBytes (markIn s) ++ l) (w .1) ∙ ap (λ (n : ℕ). markBytes (markIn s) ++ (run rs ++ replicate n 0)) (sym zs) ∙ sym (encode-parts (storeOf s rs)),
       omega (arith, f .0),
@@ -207,16 +207,16 @@ stored s rs B fr w =
 
 pub encode-decode : (s : List ℕ) (st : Store) → Bytes s → decode s ≡ some st → (s ≡ encode st) × Valid st
 unfolding decode validOr split
-encode-decode s st B e = go (split (drop 12 s)) refl (guard-is _ _ st e)
+encode-decode s st B e = go (split (drop markRecord s)) refl (guard-is _ _ st e)
   where
     fr : begins s ≡ true
     fr = guard-test _ _ st e
 
-    go : (o : Option (List Rec)) → split (drop 12 s) ≡ o → validOr (length s) (markIn s) o ≡ some st → (s ≡ encode st) × Valid st
+    go : (o : Option (List Rec)) → split (drop markRecord s) ≡ o → validOr (length s) (markIn s) o ≡ some st → (s ≡ encode st) × Valid st
     go none q e' = let z : _≡_ {A = ℕ} 0 1 = cc in absurd (omega arith)
     go (some rs) q e' =
         let ok : sorted 0 alone rs & markOk (markIn s) rs ≡ true = guard-test _ _ st e' in
         let i : storeOf s rs ≡ st = cc (guard-is _ _ st e') in
-        let w = stored s rs B fr (split-is (suc (length (drop 12 s))) (drop 12 s) rs (bytes-drop 12 s B) q) in
+        let w = stored s rs B fr (split-is (suc (length (drop markRecord s))) (drop markRecord s) rs (bytes-drop markRecord s B) q) in
         subst (λ (x : Store). (s ≡ encode x) × Valid x) i
         (w .0, record { order = both-l _ _ ok; marked = both-r _ _ ok; small = begins-parts s fr .1; room = w .1 })

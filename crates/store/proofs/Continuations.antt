@@ -11,19 +11,21 @@ use lib.Seq.{take-all, take-append-add, take-append-le}
 use lib.Dec.{eqb, leb}
 use borrow.Author.Tests.{eqb-true, eqb-false, eq-eqb, ne-eqb, le-leb, lt-leb}
 use Rattle.blocks.specs.Header.{orientation}
-use Rattle.blocks.specs.Character.{class, width, height, isKeptFirst}
+use Rattle.blocks.specs.Character.{class, width, height, isKeptFirst, dataLimit, descriptorBytes, continuationBytes}
 use Rattle.blocks.specs.Picture.{judge, keptData, held}
+use Rattle.blocks.specs.declared.Verdict.the-variants.{Taken}
 use Rattle.blocks.specs.declared.picture.Held.{Held}
 use Rattle.blocks.specs.declared.picture.Held.the-variants.{Whole, Unfinished, Foreign}
 use Rattle.blocks.specs.declared.picture.Judged.{Judged}
 use Rattle.blocks.specs.declared.picture.Judged.the-variants.{Complete, Incomplete, PastWidth}
 use Rattle.blocks.proofs.KeptData.{complete-within, kept-complete, kept-incomplete, kept-judged, held-whole, held-unfinished, unfinished-judged, incomplete-prefix}
-use Rattle.store.specs.Layout.{keyOf}
+use Rattle.store.specs.Layout.{keyOf, characterKeptAt, characterRecord, markCodeAt, markFontAt, markOnAt}
 use Rattle.store.specs.Num.{_&_, field}
 use Rattle.store.specs.Model.{Rec, character, Under, under, alone, sorted, heldOf, heldUnder, isKept, isUnfinished, unfinished, opened, markOk, markIn, key}
 use Rattle.store.specs.Order.{find}
-use Rattle.store.specs.Answer.{onStore, checked, finding, After, refuse}
-use Rattle.store.specs.Download.{names, ifWithin, placing, placed, receiving, receivingMore, puttingMore}
+use Rattle.store.specs.Answer.{onStore, checked, finding, refuse}
+use Rattle.store.specs.Download.{names, withinWidth}
+use Rattle.store.specs.Putting.{placing, placed, receiving, receivingMore, puttingMore}
 use Rattle.store.specs.Walk.{Growing, Continued, keptAt, dataAt}
 use Rattle.store.specs.declared.walk.Places.{Places}
 use Rattle.store.proofs.Numbers.{both-l, both-r, less-or}
@@ -75,16 +77,16 @@ pub record Opened (n c : ℕ) (s : List ℕ) (w : Places) (x : Host n c s w) : T
   pub there : find (keyOf n (c + 1)) (x .ready .store .recs) ≡ some (character n c (keptAt s w) (dataAt s w))
   pub held : heldOf (keptAt s w) (dataAt s w) ≡ Unfinished
   pub kept : isKeptFirst (keptAt s w) (orientation (x .header)) ≡ true
-  pub span : w .to ≡ w .from + 26 + length (dataAt s w)
+  pub span : w .to ≡ w .from + characterRecord + length (dataAt s w)
 
 module _ (n c : ℕ) (s : List ℕ) (w : Places) (x : Host n c s w) where
   opened-char : (h d : List ℕ) → find (keyOf n (c + 1)) (x .ready .store .recs) ≡ some (character n c h d) → isUnfinished (heldOf h d) ≡ true → Opened n c s w x
   opened-char h d e q =
       let k : KeptChar n c s w = record { ready = x .ready; low = x .low; code = x .code; header = x .header; font-there = x .font-in; kept = h; bytes = d; there = e } in
-      let sp : w .to ≡ w .from + 26 + length d = char-span n c s w k in
+      let sp : w .to ≡ w .from + characterRecord + length d = char-span n c s w k in
       let i : keptAt s w ≡ h = char-kept n c s w k in
-      let m : w .to - (w .from + 26) ≡ length d = omega (arith, sp) in
-      let j : dataAt s w ≡ d = ap (λ (y : ℕ). take y (drop (w .from + 26) s)) m ∙ char-bytes n c s w k in
+      let m : w .to - (w .from + characterRecord) ≡ length d = omega (arith, sp) in
+      let j : dataAt s w ≡ d = ap (λ (y : ℕ). take y (drop (w .from + characterRecord) s)) m ∙ char-bytes n c s w k in
       record {
         there = e ∙ ap (λ (y : Rec). some y) (ap (λ (y : List ℕ). character n c y d) (sym i) ∙ ap (λ (y : List ℕ). character n c (keptAt s w) y) (sym j));
         held = ap (λ (y : List ℕ). heldOf y (dataAt s w)) i ∙ ap (heldOf h) j ∙ is-unfinished (heldOf h d) q;
@@ -96,10 +98,10 @@ module _ (n c : ℕ) (s : List ℕ) (w : Places) (x : Host n c s w) where
   opened-there q =
       let r = x .ready in
       let m = mark-is n (c + 1) s w r in
-      let e1 = both-r (eqb (field 2 6 s) 1) (eqb (field 2 8 s) n & eqb (field 2 10 s) c) q in
-      let on : field 2 6 s ≡ 1 = eqb-true _ _ (both-l (eqb (field 2 6 s) 1) (eqb (field 2 8 s) n & eqb (field 2 10 s) c) q) in
-      let fo : field 2 8 s ≡ n = eqb-true _ _ (both-l (eqb (field 2 8 s) n) (eqb (field 2 10 s) c) e1) in
-      let co : field 2 10 s ≡ c = eqb-true _ _ (both-r (eqb (field 2 8 s) n) (eqb (field 2 10 s) c) e1) in
+      let e1 = both-r (eqb (field 2 markOnAt s) 1) (eqb (field 2 markFontAt s) n & eqb (field 2 markCodeAt s) c) q in
+      let on : field 2 markOnAt s ≡ 1 = eqb-true _ _ (both-l (eqb (field 2 markOnAt s) 1) (eqb (field 2 markFontAt s) n & eqb (field 2 markCodeAt s) c) q) in
+      let fo : field 2 markFontAt s ≡ n = eqb-true _ _ (both-l (eqb (field 2 markFontAt s) n) (eqb (field 2 markCodeAt s) c) e1) in
+      let co : field 2 markCodeAt s ≡ c = eqb-true _ _ (both-r (eqb (field 2 markFontAt s) n) (eqb (field 2 markCodeAt s) c) e1) in
       let ok : markOk (markIn s) (r .store .recs) ≡ true = rw m (r .valid .marked) in
       let op : opened (keyOf n (c + 1)) (r .store .recs) ≡ true =
       ⊎-elim (λ (h : Shut (markIn s)). absurd (omega (arith, h .on)))
@@ -115,18 +117,18 @@ module _ (n c : ℕ) (s : List ℕ) (w : Places) (x : Host n c s w) where
 -- ── what is kept with a continuation
 module _ (n c : ℕ) (b s : List ℕ) (w : Places) (x : Host n c s w) where
   abbrev joined : Judged
-  joined = judge (class (keptAt s w)) (width (keptAt s w)) (height (keptAt s w)) (dataAt s w ++ drop 2 b)
+  joined = judge (class (keptAt s w)) (width (keptAt s w)) (height (keptAt s w)) (dataAt s w ++ drop continuationBytes b)
 
   -- as the code cuts the descriptor and the data out of the store
-  pub joined-at : judge (class (take (w .from + 26 - (w .from + 10)) (drop (w .from + 10) s))) (width (take (w .from + 26 - (w .from + 10)) (drop (w .from + 10) s))) (height (take (w .from + 26 - (w .from + 10)) (drop (w .from + 10) s))) (dataAt s w ++ drop 2 b) ≡ joined
-  joined-at = let i : w .from + 26 - (w .from + 10) ≡ 16 = omega arith in ap (λ (y : ℕ). judge (class (take y (drop (w .from + 10) s))) (width (take y (drop (w .from + 10) s))) (height (take y (drop (w .from + 10) s))) (dataAt s w ++ drop 2 b)) i
+  pub joined-at : judge (class (take (w .from + characterRecord - (w .from + characterKeptAt)) (drop (w .from + characterKeptAt) s))) (width (take (w .from + characterRecord - (w .from + characterKeptAt)) (drop (w .from + characterKeptAt) s))) (height (take (w .from + characterRecord - (w .from + characterKeptAt)) (drop (w .from + characterKeptAt) s))) (dataAt s w ++ drop continuationBytes b) ≡ joined
+  joined-at = let i : w .from + characterRecord - (w .from + characterKeptAt) ≡ descriptorBytes = omega arith in ap (λ (y : ℕ). judge (class (take y (drop (w .from + characterKeptAt) s))) (width (take y (drop (w .from + characterKeptAt) s))) (height (take y (drop (w .from + characterKeptAt) s))) (dataAt s w ++ drop continuationBytes b)) i
 
   pub more-not : names n c (markIn s) ≡ false → puttingMore n c b s ≡ refuse s 7
   unfolding puttingMore receivingMore onStore
   more-not q = rw (x .ready .is, ← (mark-is n (c + 1) s w (x .ready)), q)
 
   module _ (q : names n c (markIn s) ≡ true) where
-    more-call : puttingMore n c b s ≡ receiving n c (keptAt s w) (dataAt s w ++ drop 2 b) s (x .ready .store)
+    more-call : puttingMore n c b s ≡ receiving n c (keptAt s w) (dataAt s w ++ drop continuationBytes b) s (x .ready .store)
     unfolding puttingMore receivingMore onStore finding
     more-call = rw (x .ready .is, ← (mark-is n (c + 1) s w (x .ready)), q, opened-there n c s w x q .there)
 
@@ -135,13 +137,13 @@ module _ (n c : ℕ) (b s : List ℕ) (w : Places) (x : Host n c s w) where
     more-past row f r e = more-call ∙ rw e
 
     -- a completing continuation completes behind what was kept
-    pub more-within : (k : ℕ) → joined ≡ Complete k → (length (dataAt s w) ≤ k) × (k ≤ length (dataAt s w) + length (drop 2 b))
+    pub more-within : (k : ℕ) → joined ≡ Complete k → (length (dataAt s w) ≤ k) × (k ≤ length (dataAt s w) + length (drop continuationBytes b))
     more-within k e =
         let C = class (keptAt s w) in
         let W = width (keptAt s w) in
         let H = height (keptAt s w) in
         let d = dataAt s w in
-        let m = drop 2 b in
+        let m = drop continuationBytes b in
         let o = opened-there n c s w x q in
         let j : judge C W H d ≡ Incomplete = unfinished-judged C W H d (o .held) .0 in
         let u : k ≤ length d + length m = omega (arith, complete-within C W H (d ++ m) k e, length-append d m) in (
@@ -155,68 +157,68 @@ module _ (n c : ℕ) (b s : List ℕ) (w : Places) (x : Host n c s w) where
 
     -- what is kept: the data, and so many bytes of the continuation
     module _ (m : ℕ) (marked : Bool) (y : Continued s w b m marked) where
-      kept-more : (t : Bool) → Continued s w b m t → keptData (class (keptAt s w)) (width (keptAt s w)) (height (keptAt s w)) (dataAt s w ++ drop 2 b) ≡ dataAt s w ++ take m (drop 2 b)
+      kept-more : (t : Bool) → Continued s w b m t → keptData (class (keptAt s w)) (width (keptAt s w)) (height (keptAt s w)) (dataAt s w ++ drop continuationBytes b) ≡ dataAt s w ++ take m (drop continuationBytes b)
       kept-more true z =
-          kept-incomplete (class (keptAt s w)) (width (keptAt s w)) (height (keptAt s w)) (dataAt s w ++ drop 2 b) (z .0)
-          ∙ ap (λ (l : List ℕ). dataAt s w ++ l) (sym (take-all m (drop 2 b) (omega (arith, z .1, length-drop 2 b))))
+          kept-incomplete (class (keptAt s w)) (width (keptAt s w)) (height (keptAt s w)) (dataAt s w ++ drop continuationBytes b) (z .0)
+          ∙ ap (λ (l : List ℕ). dataAt s w ++ l) (sym (take-all m (drop continuationBytes b) (omega (arith, z .1, length-drop continuationBytes b))))
       kept-more false z =
-          kept-complete (class (keptAt s w)) (width (keptAt s w)) (height (keptAt s w)) (dataAt s w ++ drop 2 b) (length (dataAt s w) + m) z ∙ take-append-add (dataAt s w) (drop 2 b) m
+          kept-complete (class (keptAt s w)) (width (keptAt s w)) (height (keptAt s w)) (dataAt s w ++ drop continuationBytes b) (length (dataAt s w) + m) z ∙ take-append-add (dataAt s w) (drop continuationBytes b) m
 
-      within : (t : Bool) → Continued s w b m t → (p r : After) → ifWithin joined p r ≡ r
-      within true z p r = rw (z .0)
-      within false z p r = rw z
+      within : (t : Bool) → Continued s w b m t → withinWidth joined ≡ Taken
+      within true z = rw (z .0)
+      within false z = rw z
 
-      more-kept : puttingMore n c b s ≡ checked (refuse s) (leb (length (dataAt s w ++ take m (drop 2 b))) 32768) 9 (placing n c (keptAt s w) (dataAt s w ++ take m (drop 2 b)) (x .ready .store))
+      more-kept : puttingMore n c b s ≡ checked (refuse s) (leb (length (dataAt s w ++ take m (drop continuationBytes b))) dataLimit) 9 (placing n c (keptAt s w) (dataAt s w ++ take m (drop continuationBytes b)) (x .ready .store))
       unfolding receiving
-      more-kept = more-call ∙ rw (kept-more marked y) (within marked y (refuse s 8) _)
+      more-kept = more-call ∙ rw (kept-more marked y, within marked y)
 
-      pub more-large : 32768 < length (dataAt s w) + length (take m (drop 2 b)) → puttingMore n c b s ≡ refuse s 9
-      more-large l = more-kept ∙ rw (lt-leb (length (dataAt s w ++ take m (drop 2 b))) 32768 (omega (arith, length-append (dataAt s w) (take m (drop 2 b)))))
+      pub more-large : dataLimit < length (dataAt s w) + length (take m (drop continuationBytes b)) → puttingMore n c b s ≡ refuse s 9
+      more-large l = more-kept ∙ rw (lt-leb (length (dataAt s w ++ take m (drop continuationBytes b))) dataLimit (omega (arith, length-append (dataAt s w) (take m (drop continuationBytes b)))))
 
-      module _ (l : length (dataAt s w) + length (take m (drop 2 b)) ≤ 32768) where
-        few : length (keptData (class (keptAt s w)) (width (keptAt s w)) (height (keptAt s w)) (dataAt s w ++ drop 2 b)) ≤ 32768
-        few = omega (arith, ap length (kept-more marked y), length-append (dataAt s w) (take m (drop 2 b)))
+      module _ (l : length (dataAt s w) + length (take m (drop continuationBytes b)) ≤ dataLimit) where
+        few : length (keptData (class (keptAt s w)) (width (keptAt s w)) (height (keptAt s w)) (dataAt s w ++ drop continuationBytes b)) ≤ dataLimit
+        few = omega (arith, ap length (kept-more marked y), length-append (dataAt s w) (take m (drop continuationBytes b)))
 
         abbrev heldBy : Bool → Held
         heldBy true = Unfinished
         heldBy false = Whole
 
-        held-more : (t : Bool) → Continued s w b m t → heldOf (keptAt s w) (dataAt s w ++ take m (drop 2 b)) ≡ heldBy t
-        held-more true z = ap (heldOf (keptAt s w)) (sym (kept-more true z)) ∙ held-unfinished (class (keptAt s w)) (width (keptAt s w)) (height (keptAt s w)) (dataAt s w ++ drop 2 b) (z .0) few
-        held-more false z = ap (heldOf (keptAt s w)) (sym (kept-more false z)) ∙ held-whole (class (keptAt s w)) (width (keptAt s w)) (height (keptAt s w)) (dataAt s w ++ drop 2 b) (length (dataAt s w) + m) z few
+        held-more : (t : Bool) → Continued s w b m t → heldOf (keptAt s w) (dataAt s w ++ take m (drop continuationBytes b)) ≡ heldBy t
+        held-more true z = ap (heldOf (keptAt s w)) (sym (kept-more true z)) ∙ held-unfinished (class (keptAt s w)) (width (keptAt s w)) (height (keptAt s w)) (dataAt s w ++ drop continuationBytes b) (z .0) few
+        held-more false z = ap (heldOf (keptAt s w)) (sym (kept-more false z)) ∙ held-whole (class (keptAt s w)) (width (keptAt s w)) (height (keptAt s w)) (dataAt s w ++ drop continuationBytes b) (length (dataAt s w) + m) z few
 
-        pub more-marked : marked ≡ isUnfinished (heldOf (keptAt s w) (dataAt s w ++ take m (drop 2 b)))
+        pub more-marked : marked ≡ isUnfinished (heldOf (keptAt s w) (dataAt s w ++ take m (drop continuationBytes b)))
         more-marked = sym (ap isUnfinished (held-more marked y) ∙ back marked)
           where
             back : (t : Bool) → isUnfinished (heldBy t) ≡ t
             back true = refl
             back false = refl
 
-        pub more-grows : Growing n c (take m (drop 2 b)) s w
+        pub more-grows : Growing n c (take m (drop continuationBytes b)) s w
         unfolding heldUnder
         more-grows =
             let o = opened-there n c s w x q in
-            let e : isKept (heldOf (keptAt s w) (dataAt s w ++ take m (drop 2 b))) ≡ true = ap isKept (held-more marked y) ∙ ok marked in
-            record { fits = fitting n c s w x (keptAt s w) (dataAt s w ++ take m (drop 2 b)) (rw (o .kept) e); there = o .there }
+            let e : isKept (heldOf (keptAt s w) (dataAt s w ++ take m (drop continuationBytes b))) ≡ true = ap isKept (held-more marked y) ∙ ok marked in
+            record { fits = fitting n c s w x (keptAt s w) (dataAt s w ++ take m (drop continuationBytes b)) (rw (o .kept) e); there = o .there }
           where
             ok : (t : Bool) → isKept (heldBy t) ≡ true
             ok true = refl
             ok false = refl
 
-        pub more-placed : puttingMore n c b s ≡ placed n c (keptAt s w) (dataAt s w ++ take m (drop 2 b)) s
+        pub more-placed : puttingMore n c b s ≡ placed n c (keptAt s w) (dataAt s w ++ take m (drop continuationBytes b)) s
         unfolding placed onStore
-        more-placed = more-kept ∙ rw (le-leb (length (dataAt s w ++ take m (drop 2 b))) 32768 (omega (arith, length-append (dataAt s w) (take m (drop 2 b)))), x .ready .is)
+        more-placed = more-kept ∙ rw (le-leb (length (dataAt s w ++ take m (drop continuationBytes b))) dataLimit (omega (arith, length-append (dataAt s w) (take m (drop continuationBytes b)))), x .ready .is)
 
 -- the mark names a character, by its numbers
 module _ (n c : ℕ) (s : List ℕ) where
-  pub names-off : (field 2 6 s ≡ 1 → ⊥) → names n c (markIn s) ≡ false
+  pub names-off : (field 2 markOnAt s ≡ 1 → ⊥) → names n c (markIn s) ≡ false
   unfolding _&_
-  names-off h = rw (ne-eqb (field 2 6 s) 1 h)
+  names-off h = rw (ne-eqb (field 2 markOnAt s) 1 h)
 
-  pub names-other : field 2 6 s ≡ 1 → (field 2 8 s ≡ n → ⊥) → names n c (markIn s) ≡ false
+  pub names-other : field 2 markOnAt s ≡ 1 → (field 2 markFontAt s ≡ n → ⊥) → names n c (markIn s) ≡ false
   unfolding _&_
-  names-other e h = rw (eq-eqb (field 2 6 s) 1 e, ne-eqb (field 2 8 s) n h)
+  names-other e h = rw (eq-eqb (field 2 markOnAt s) 1 e, ne-eqb (field 2 markFontAt s) n h)
 
-  pub names-by : field 2 6 s ≡ 1 → field 2 8 s ≡ n → names n c (markIn s) ≡ eqb (field 2 10 s) c
+  pub names-by : field 2 markOnAt s ≡ 1 → field 2 markFontAt s ≡ n → names n c (markIn s) ≡ eqb (field 2 markCodeAt s) c
   unfolding _&_
-  names-by e h = rw (eq-eqb (field 2 6 s) 1 e, eq-eqb (field 2 8 s) n h)
+  names-by e h = rw (eq-eqb (field 2 markOnAt s) 1 e, eq-eqb (field 2 markFontAt s) n h)

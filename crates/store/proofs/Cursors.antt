@@ -10,14 +10,14 @@ use lib.Seq.{drop-drop}
 use lib.Dec.{eqb, leb, ltb}
 use borrow.Author.Tests.{eqb-false}
 use Rattle.blocks.specs.Header.{keptHeader}
-use Rattle.store.specs.Layout.{keyOf}
+use Rattle.store.specs.Layout.{keyOf, lastCode, lastFont, markRecord, mostStore}
 use Rattle.store.specs.Model.{Rec, font, character, Store, Under, under, alone, sorted, number, place, key, sizeOf, total, split, encode, decode}
 use Rattle.store.specs.Order.{keep, below, from, replaced}
 use Rattle.store.specs.Answer.{After}
 use Rattle.store.specs.Calls.{putFont, removeFont, withCharacter, downloadingFont}
 use Rattle.store.specs.Download.{putCharacter, downloadingCharacter}
 use Rattle.store.specs.Walk.{inspected, Stands}
-use Rattle.store.specs.Cursor.{Points, Opening, fontEnd, Came}
+use Rattle.store.specs.Cursor.{Points, Opening, fontEnd, Ordered, Came}
 use Rattle.store.specs.declared.walk.Places.{Places}
 use Rattle.store.specs.declared.locate.Cursor.{Cursor}
 use Rattle.store.specs.declared.walk.Inspected.the-variants.{Found}
@@ -29,7 +29,7 @@ use Rattle.store.proofs.Totals.{total-at, length-run}
 use Rattle.store.proofs.Lookup.{below-mono}
 use Rattle.store.proofs.Changed.{total-replaced}
 use Rattle.store.proofs.Holds.{valid-decode}
-use Rattle.store.proofs.KeptFonts.{decoded}
+use Rattle.store.proofs.RecordRuns.{decoded}
 use Rattle.store.proofs.Locates.{store-is, from-key, Told, told-first}
 use Rattle.store.proofs.Ready.{same-store}
 use Rattle.store.proofs.Again.{Guest, font-answers, character-answers}
@@ -74,37 +74,30 @@ below-replaced k lo hi new rs o l m e =
     keep-append t (below lo rs) (new ++ from hi rs) ∙ rw y (append-nil (below k (below lo rs))) ∙ below-low k lo 0 alone rs o l
 
 -- ── the numbers of a store's places
-fits-small : (st : Store) → Valid st → 12 + total (st .recs) ≤ 65536
+fits-small : (st : Store) → Valid st → markRecord + total (st .recs) ≤ mostStore
 fits-small st v = omega (arith, v .room, v .small, length-run 0 alone (st .recs) (v .order))
 
 module _ (n p : ℕ) (s : List ℕ) (w : Places) (x : Stands n p s w) where
   valid-of : Valid (x .store)
   valid-of = valid-decode s (x .store) (x .is)
 
-  used-of : w .used ≡ 12 + total (x .store .recs)
+  used-of : w .used ≡ markRecord + total (x .store .recs)
   used-of = ap (λ (y : Places). y .used) (sym (x .at))
 
-  lo-of : w .lo ≡ 12 + total (below (keyOf n 0) (x .store .recs))
+  lo-of : w .lo ≡ markRecord + total (below (keyOf n 0) (x .store .recs))
   lo-of = ap (λ (y : Places). y .lo) (sym (x .at))
 
-  from-of : w .from ≡ 12 + total (below (keyOf n p) (x .store .recs))
+  from-of : w .from ≡ markRecord + total (below (keyOf n p) (x .store .recs))
   from-of = ap (λ (y : Places). y .from) (sym (x .at))
 
-  to-of : w .to ≡ 12 + total (below (keyOf n p + 1) (x .store .recs))
+  to-of : w .to ≡ markRecord + total (below (keyOf n p + 1) (x .store .recs))
   to-of = ap (λ (y : Places). y .to) (sym (x .at))
 
-  hi-of : w .hi ≡ 12 + total (below (keyOf (n + 1) 0) (x .store .recs))
+  hi-of : w .hi ≡ markRecord + total (below (keyOf (n + 1) 0) (x .store .recs))
   hi-of = ap (λ (y : Places). y .hi) (sym (x .at))
 
-  pub record Bounds : Type 0 where
-    pub span : w .lo ≤ w .hi
-    pub end : w .hi ≤ w .used
-    pub one : w .from ≤ w .to
-    pub last : w .to ≤ w .used
-    pub small : w .used ≤ 65536
-
-  pub bounds : Bounds
-  bounds =
+  pub in-order : Ordered w
+  in-order =
       let rs = x .store .recs in
       let o = valid-of .order in
       let m1 = below-mono (keyOf n 0) (keyOf (n + 1) 0) 0 alone rs o (omega arith) in
@@ -151,7 +144,7 @@ font-out : (n : ℕ) (h : List ℕ) → below (keyOf n 0) (font n h ∷ []) ≡ 
 unfolding keep number place
 font-out n h = below-out (keyOf n 0) (font n h) [] (omega arith)
 
-module _ (n : ℕ) (b s : List ℕ) (w : Places) (x : Stands n 0 s w) (low : n ≤ 32767) where
+module _ (n : ℕ) (b s : List ℕ) (w : Places) (x : Stands n 0 s w) (low : n ≤ lastFont) where
   abbrev atFont : ℕ → Cursor
   atFont end = record { used = end; font = n; lo = w .lo; key = keyOf n 0; at = w .lo }
 
@@ -163,13 +156,13 @@ module _ (n : ℕ) (b s : List ℕ) (w : Places) (x : Stands n 0 s w) (low : n �
   font-put st e v v' =
       let i : x .store ≡ st = same-store s (x .is) e in
       let rs = st .recs in
-      let us : w .used ≡ 12 + total rs = rw i at (used-of n 0 s w x) in
-      let lo : w .lo ≡ 12 + total (below (keyOf n 0) rs) = rw i at (lo-of n 0 s w x) in
-      let hi : w .hi ≡ 12 + total (below (keyOf (n + 1) 0) rs) = rw i at (hi-of n 0 s w x) in
+      let us : w .used ≡ markRecord + total rs = rw i at (used-of n 0 s w x) in
+      let lo : w .lo ≡ markRecord + total (below (keyOf n 0) rs) = rw i at (lo-of n 0 s w x) in
+      let hi : w .hi ≡ markRecord + total (below (keyOf (n + 1) 0) rs) = rw i at (hi-of n 0 s w x) in
       let new = font n (keptHeader b) ∷ [] in
       let t = total-replaced (keyOf n 0) (keyOf (n + 1) 0) new rs (v .order) (omega arith) in
       let m = total-at (keyOf (n + 1) 0) 0 alone rs (v .order) in
-      let r : w .lo ≡ 12 + total (below (keyOf n 0) (replaced (keyOf n 0) (keyOf (n + 1) 0) new rs)) = lo ∙ ap (λ (l : List Rec). 12 + total l) (sym (below-replaced (keyOf n 0) (keyOf n 0) (keyOf (n + 1) 0) new rs (v .order) (omega arith) (omega arith) (font-out n (keptHeader b)))) in
+      let r : w .lo ≡ markRecord + total (below (keyOf n 0) (replaced (keyOf n 0) (keyOf (n + 1) 0) new rs)) = lo ∙ ap (λ (l : List Rec). markRecord + total l) (sym (below-replaced (keyOf n 0) (keyOf n 0) (keyOf (n + 1) 0) new rs (v .order) (omega arith) (omega arith) (font-out n (keptHeader b)))) in
       record { store = putFont n (keptHeader b) st; is = decode-encode (putFont n (keptHeader b) st) v'; low = low; used = omega (arith, us, lo, hi, t, m); lo = r; at = r }
 
   pub font-points : Points (downloadingFont n b s .bytes) (atFont (fontEnd w (downloadingFont n b s .answer)))
@@ -185,7 +178,7 @@ unfolding keep number place
 char-out k n c h d l = below-out k (character n c h d) [] (omega arith)
 
 -- the record that was put stands at its place
-put-told : (n c : ℕ) (h d : List ℕ) (st : Store) → Valid st → Valid (putCharacter n c h d st) → Told (encode (putCharacter n c h d st)) (12 + total (below (keyOf n (c + 1)) (st .recs))) (character n c h d)
+put-told : (n c : ℕ) (h d : List ℕ) (st : Store) → Valid st → Valid (putCharacter n c h d st) → Told (encode (putCharacter n c h d st)) (markRecord + total (below (keyOf n (c + 1)) (st .recs))) (character n c h d)
 unfolding number place
 put-told n c h d st v v' =
     let k = keyOf n (c + 1) in
@@ -195,27 +188,23 @@ put-told n c h d st v v' =
     let rs' = withCharacter n c new rs in
     let t = encode (putCharacter n c h d st) in
     let p = decoded t (putCharacter n c h d st) (decode-encode (putCharacter n c h d st) v') in
-    let e : split (drop (total (below k rs')) (drop 12 t)) ≡ some (from k rs') = from-key k 0 alone rs' (drop 12 t) (p .2) (p .1) in
+    let e : split (drop (total (below k rs')) (drop markRecord t)) ≡ some (from k rs') = from-key k 0 alone rs' (drop markRecord t) (p .2) (p .1) in
     let g : Rec → Bool = λ r. leb k (key r) in
     let f : from k rs' ≡ character n c h d ∷ from k Y = keep-append g (below k rs) (new ++ Y) ∙ rw (from-low k 0 alone rs (v .order)) (from-in k (character n c h d) Y (omega arith)) in
     let q : below k rs' ≡ below k rs = below-replaced k k (k + 1) new rs (v .order) (omega arith) (omega arith) (char-out k n c h d (omega arith)) in
-    told-first t (12 + total (below k rs)) (character n c h d) (from k Y)
-    (ap split (sym (drop-drop (total (below k rs)) 12 t)) ∙ ap (λ (l : List Rec). split (drop (total l) (drop 12 t))) (sym q) ∙ e ∙ ap some f)
+    told-first t (markRecord + total (below k rs)) (character n c h d) (from k Y)
+    (ap split (sym (drop-drop (total (below k rs)) markRecord t)) ∙ ap (λ (l : List Rec). split (drop (total l) (drop markRecord t))) (sym q) ∙ e ∙ ap some f)
 
-module _ (n c : ℕ) (b s : List ℕ) (w : Places) (x : Stands n (c + 1) s w) (low : n ≤ 32767) (code : c ≤ 255) where
+module _ (n c : ℕ) (b s : List ℕ) (w : Places) (x : Stands n (c + 1) s w) (low : n ≤ lastFont) (code : c ≤ lastCode) where
   char-kept : (m : ℕ) → eqb m 0 ≡ false → eqb m 10 ≡ false → Came n c m s w
   char-kept m e f =
-      let y = bounds n (c + 1) s w x in
+      let y = in-order n (c + 1) s w x in
       record {
         store = x .store;
         is = x .is;
         low = low;
         code = code;
-        span = y .span;
-        end = y .end;
-        one = y .one;
-        last = y .last;
-        small = y .small;
+        ordered = y;
         short = fits-small (x .store) (valid-of n (c + 1) s w x);
         lo = lo-of n (c + 1) s w x;
         struck = λ q. absurd (eqb-false m 10 f q);
@@ -229,25 +218,25 @@ module _ (n c : ℕ) (b s : List ℕ) (w : Places) (x : Stands n (c + 1) s w) (l
     st-is : x .store ≡ st
     st-is = same-store s (x .is) e
 
-    us : w .used ≡ 12 + total (st .recs)
+    us : w .used ≡ markRecord + total (st .recs)
     us = rw st-is at (used-of n (c + 1) s w x)
 
-    lo : w .lo ≡ 12 + total (below (keyOf n 0) (st .recs))
+    lo : w .lo ≡ markRecord + total (below (keyOf n 0) (st .recs))
     lo = rw st-is at (lo-of n (c + 1) s w x)
 
-    fr : w .from ≡ 12 + total (below (keyOf n (c + 1)) (st .recs))
+    fr : w .from ≡ markRecord + total (below (keyOf n (c + 1)) (st .recs))
     fr = rw st-is at (from-of n (c + 1) s w x)
 
-    to : w .to ≡ 12 + total (below (keyOf n (c + 1) + 1) (st .recs))
+    to : w .to ≡ markRecord + total (below (keyOf n (c + 1) + 1) (st .recs))
     to = rw st-is at (to-of n (c + 1) s w x)
 
-    hi : w .hi ≡ 12 + total (below (keyOf (n + 1) 0) (st .recs))
+    hi : w .hi ≡ markRecord + total (below (keyOf (n + 1) 0) (st .recs))
     hi = rw st-is at (hi-of n (c + 1) s w x)
 
     char-gone : Valid st → Valid (removeFont n st) → Came n c 10 (encode (removeFont n st)) w
     unfolding total keep
     char-gone v v' =
-        let y = bounds n (c + 1) s w x in
+        let y = in-order n (c + 1) s w x in
         let t = total-replaced (keyOf n 0) (keyOf (n + 1) 0) [] (st .recs) (v .order) (omega arith) in
         let m = total-at (keyOf (n + 1) 0) 0 alone (st .recs) (v .order) in
         record {
@@ -255,13 +244,9 @@ module _ (n c : ℕ) (b s : List ℕ) (w : Places) (x : Stands n (c + 1) s w) (l
           is = decode-encode (removeFont n st) v';
           low = low;
           code = code;
-          span = y .span;
-          end = y .end;
-          one = y .one;
-          last = y .last;
-          small = y .small;
+          ordered = y;
           short = fits-small (removeFont n st) v';
-          lo = lo ∙ ap (λ (l : List Rec). 12 + total l) (sym (below-replaced (keyOf n 0) (keyOf n 0) (keyOf (n + 1) 0) [] (st .recs) (v .order) (omega arith) (omega arith) refl));
+          lo = lo ∙ ap (λ (l : List Rec). markRecord + total l) (sym (below-replaced (keyOf n 0) (keyOf n 0) (keyOf (n + 1) 0) [] (st .recs) (v .order) (omega arith) (omega arith) refl));
           struck = λ q. omega (arith, us, lo, hi, t, m);
           from = λ q. absurd (q refl);
           room = λ q. absurd (omega (arith, q));
@@ -277,7 +262,7 @@ module _ (n c : ℕ) (b s : List ℕ) (w : Places) (x : Stands n (c + 1) s w) (l
       let e = g .is in
       let rs = st .recs in
       let new = character n c h d ∷ [] in
-      let y = bounds n (c + 1) s w x in
+      let y = in-order n (c + 1) s w x in
       let f = fr st e in
       let t = total-replaced k (k + 1) new rs (v .order) (omega arith) in
       let m = total-at (k + 1) 0 alone rs (v .order) in
@@ -287,15 +272,11 @@ module _ (n c : ℕ) (b s : List ℕ) (w : Places) (x : Stands n (c + 1) s w) (l
         is = decode-encode (putCharacter n c h d st) v';
         low = low;
         code = code;
-        span = y .span;
-        end = y .end;
-        one = y .one;
-        last = y .last;
-        small = y .small;
+        ordered = y;
         short = fits-small (putCharacter n c h d st) v';
-        lo = lo st e ∙ ap (λ (l : List Rec). 12 + total l) (sym (below-replaced (keyOf n 0) k (k + 1) new rs (v .order) (omega arith) (omega arith) (char-out (keyOf n 0) n c h d (omega arith))));
+        lo = lo st e ∙ ap (λ (l : List Rec). markRecord + total l) (sym (below-replaced (keyOf n 0) k (k + 1) new rs (v .order) (omega arith) (omega arith) (char-out (keyOf n 0) n c h d (omega arith))));
         struck = λ q. absurd (omega (arith, q));
-        from = λ q. f ∙ ap (λ (l : List Rec). 12 + total l) (sym (below-replaced k k (k + 1) new rs (v .order) (omega arith) (omega arith) (char-out k n c h d (omega arith))));
+        from = λ q. f ∙ ap (λ (l : List Rec). markRecord + total l) (sym (below-replaced k k (k + 1) new rs (v .order) (omega arith) (omega arith) (char-out k n c h d (omega arith))));
         room = λ q. d' .room;
         grown = λ q. omega (arith, us st e, f, to st e, t, m, d' .len);
         same = λ q z. absurd (z refl);

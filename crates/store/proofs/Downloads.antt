@@ -9,18 +9,20 @@ use lib.ListN.{length, take, drop, replicate, length-append, length-drop}
 use lib.Seq.{take-all}
 use borrow.Author.Tests.{le-leb, lt-leb, eq-eqb}
 use Rattle.blocks.specs.Header.{orientation}
-use Rattle.store.specs.Layout.{keyOf}
+use Rattle.blocks.specs.Character.{dataLimit, descriptorBytes}
+use Rattle.store.specs.Layout.{keyOf, characterRecord, lastCode, lastFont, markRecord}
 use Rattle.store.specs.Num.{_&_, le, Bytes}
 use Rattle.store.specs.Model.{Rec, font, character, under, alone, bytesOf, run, markBytes, encode, allowed, heldOf, heldUnder, isKept, isUnfinished, unfinished, opened, markOk, number, place, sizeOf, total}
 use Rattle.store.specs.Order.{below, from, find}
-use Rattle.store.specs.Change.{moved, put, remarked, unmarkedFor}
+use Rattle.store.specs.Change.{splicedAt, withBytes, remarked, unmarkedFor}
 use Rattle.store.specs.Answer.{onStore}
 use Rattle.store.specs.Calls.{shut, used, withCharacter}
-use Rattle.store.specs.Download.{markFor, putCharacter, placing, placed}
+use Rattle.store.specs.Download.{markFor, putCharacter}
+use Rattle.store.specs.Putting.{placing, placed}
 use Rattle.store.specs.Walk.{Fitting, Growing, keptAt, dataAt}
 use Rattle.store.specs.declared.walk.Places.{Places}
 use Rattle.store.proofs.Numbers.{both}
-use Rattle.store.proofs.Records.{Shaped, shaped}
+use Rattle.store.proofs.RecordBytes.{Shaped, shaped}
 use Rattle.store.proofs.Codec.{size-bytes}
 use Rattle.store.proofs.Replaced.{new-char, opened-append}
 use Rattle.store.proofs.Marks.{mark-open, shut-ok, remark-bytes}
@@ -36,7 +38,7 @@ pub to-end : (k : ℕ) (xs : List ℕ) → take (length xs - k) (drop k xs) ≡ 
 to-end k xs = take-all (length xs - k) (drop k xs) (simp length-drop (omega arith))
 
 -- ── the new record
-pub new-allowed : (n c : ℕ) (g h d : List ℕ) → n ≤ 32767 → c ≤ 255 → isKept (heldUnder (orientation g) h d) ≡ true → allowed (under alone (font n g)) (character n c h d) ≡ true
+pub new-allowed : (n c : ℕ) (g h d : List ℕ) → n ≤ lastFont → c ≤ lastCode → isKept (heldUnder (orientation g) h d) ≡ true → allowed (under alone (font n g)) (character n c h d) ≡ true
 unfolding allowed under
 new-allowed n c g h d a b e = both _ _ (eq-eqb (n + 1) (n + 1) refl) (both _ _ (le-leb _ _ a) (both _ _ (le-leb _ _ b) e))
 
@@ -49,7 +51,7 @@ unfolding opened unfinished number place _&_
 new-opened n c h d rs q = rw (eq-eqb (keyOf n (c + 1)) (keyOf n (c + 1)) refl, q)
 
 -- the mark after it
-pub mark-new : (n c : ℕ) (h d : List ℕ) (rs : List Rec) → n ≤ 32767 → c ≤ 255 → markOk (markFor n c h d) (withCharacter n c (character n c h d ∷ []) rs) ≡ true
+pub mark-new : (n c : ℕ) (h d : List ℕ) (rs : List Rec) → n ≤ lastFont → c ≤ lastCode → markOk (markFor n c h d) (withCharacter n c (character n c h d ∷ []) rs) ≡ true
 unfolding markFor
 mark-new n c h d rs a b = go (isUnfinished (heldOf h d)) refl
   where
@@ -68,42 +70,43 @@ char-run n c h d e = omega (arith, length-append (bytesOf (character n c h d)) [
 -- what a character that fits finds
 pub record Space (n c : ℕ) (h d s : List ℕ) (w : Places) : Type 0 where
   pub ready : Ready n (c + 1) s w
-  pub low : n ≤ 32767
-  pub code : c ≤ 255
+  pub low : n ≤ lastFont
+  pub code : c ≤ lastCode
   pub header : List ℕ
   pub font-in : find (keyOf n 0) (ready .store .recs) ≡ some (font n header)
   pub ok : allowed (under alone (font n header)) (character n c h d) ≡ true
 
 pub space : (n c : ℕ) (h d s : List ℕ) (w : Places) → Bytes s → Fitting n c h d s w → Space n c h d s w
 space n c h d s w B f =
-    let r = standing n (c + 1) s B w (f .stands) in
-    let i : f .stands .store ≡ r .store = same-store s (f .stands .is) (r .is) in
-    record { ready = r; low = f .low; code = f .code; header = f .header; font-in = rw i at (f .font-there); ok = new-allowed n c (f .header) h d (f .low) (f .code) (f .ok) }
+    let a = f .arrives in
+    let r = standing n (c + 1) s B w (a .stands) in
+    let i : a .stands .store ≡ r .store = same-store s (a .stands .is) (r .is) in
+    record { ready = r; low = a .low; code = a .code; header = a .header; font-in = rw i at (a .font-there); ok = new-allowed n c (a .header) h d (a .low) (a .code) (f .ok) }
 
 module _ (n c : ℕ) (h d s : List ℕ) (w : Places) (x : Space n c h d s w) where
-  new-shape : (length h ≡ 16) × (length d ≤ 32768) × (n ≤ 32767) × (c ≤ 255)
+  new-shape : (length h ≡ descriptorBytes) × (length d ≤ dataLimit) × (n ≤ lastFont) × (c ≤ lastCode)
   new-shape = shaped (under alone (font n (x .header))) (character n c h d) (x .ok)
 
-  pub data-small : length d ≤ 32768
+  pub data-small : length d ≤ dataLimit
   data-small = new-shape .1
 
-  lo : w .from ≡ 12 + total (below (keyOf n (c + 1)) (x .ready .store .recs))
+  lo : w .from ≡ markRecord + total (below (keyOf n (c + 1)) (x .ready .store .recs))
   lo = ap (λ (y : Places). y .from) (x .ready .at)
 
-  hi : w .to ≡ 12 + total (below (keyOf n (c + 1) + 1) (x .ready .store .recs))
+  hi : w .to ≡ markRecord + total (below (keyOf n (c + 1) + 1) (x .ready .store .recs))
   hi = ap (λ (y : Places). y .to) (x .ready .at)
 
-  us : w .used ≡ 12 + total (x .ready .store .recs)
+  us : w .used ≡ markRecord + total (x .ready .store .recs)
   us = ap (λ (y : Places). y .used) (x .ready .at)
 
-  grows : total (withCharacter n c (character n c h d ∷ []) (x .ready .store .recs)) + (w .to - w .from) ≡ total (x .ready .store .recs) + (26 + length d)
+  grows : total (withCharacter n c (character n c h d ∷ []) (x .ready .store .recs)) + (w .to - w .from) ≡ total (x .ready .store .recs) + (characterRecord + length d)
   unfolding total sizeOf
   grows =
       let e = total-replaced (keyOf n (c + 1)) (keyOf n (c + 1) + 1) (character n c h d ∷ []) (x .ready .store .recs) (x .ready .valid .order) (omega arith) in
       omega (arith, e, lo, hi)
 
   -- no room: the font goes
-  pub place-full : length s < w .used - (w .to - w .from) + (26 + length d) → placed n c h d s ≡ record { answer = 10; bytes = unmarkedFor n (moved (w .lo) (w .hi - w .lo) (w .used) 0 s) }
+  pub place-full : length s < w .used - (w .to - w .from) + (characterRecord + length d) → placed n c h d s ≡ record { answer = 10; bytes = unmarkedFor n (splicedAt (w .lo) (w .hi - w .lo) (w .used) 0 s) }
   unfolding placed placing onStore
   place-full q =
       let r = x .ready in
@@ -111,20 +114,20 @@ module _ (n c : ℕ) (h d s : List ℕ) (w : Places) (x : Space n c h d s w) whe
       rw (r .is, lt-leb _ _ y, cut-done n (c + 1) s w r)
 
   -- room: the record stands, and the mark is made
-  pub place-done : w .used - (w .to - w .from) + (26 + length d) ≤ length s
-      → placed n c h d s ≡ record { answer = 0; bytes = remarked (markFor n c h d) (put (moved (w .from) (w .to - w .from) (w .used) (26 + length d) s) (w .from) (bytesOf (character n c h d))) }
+  pub place-done : w .used - (w .to - w .from) + (characterRecord + length d) ≤ length s
+      → placed n c h d s ≡ record { answer = 0; bytes = remarked (markFor n c h d) (withBytes (splicedAt (w .from) (w .to - w .from) (w .used) (characterRecord + length d) s) (w .from) (bytesOf (character n c h d))) }
   unfolding placed placing onStore run total sizeOf
   place-done q =
       let r = x .ready in
       let st = r .store in
       let rs = st .recs in
       let new = character n c h d ∷ [] in
-      let fits : 12 + total (withCharacter n c new rs) ≤ st .size = omega (arith, grows, us, r .one, r .last, r .size) in
-      let T : List ℕ = run (withCharacter n c new rs) ++ replicate (st .size - (12 + length (run (withCharacter n c new rs)))) 0 in
-      let z : 26 + length d + 0 ≡ 26 + length d = omega arith in
-      let b : put (moved (w .from) (w .to - w .from) (w .used) (26 + length d) s) (w .from) (bytesOf (character n c h d)) ≡ markBytes (st .mark) ++ T =
+      let fits : markRecord + total (withCharacter n c new rs) ≤ st .size = omega (arith, grows, us, r .one, r .last, r .size) in
+      let T : List ℕ = run (withCharacter n c new rs) ++ replicate (st .size - (markRecord + length (run (withCharacter n c new rs)))) 0 in
+      let z : characterRecord + length d + 0 ≡ characterRecord + length d = omega arith in
+      let b : withBytes (splicedAt (w .from) (w .to - w .from) (w .used) (characterRecord + length d) s) (w .from) (bytesOf (character n c h d)) ≡ markBytes (st .mark) ++ T =
       rw (lo, hi, us, r .bytes, ← (append-nil (bytesOf (character n c h d))), ← z) (bytes-char n c (x .header) new st (r .valid) (x .code) (x .font-in) (new-char h d (x .ok)) (char-run n c h d new-shape) fits) in
-      let y : encode (putCharacter n c h d st) ≡ remarked (markFor n c h d) (put (moved (w .from) (w .to - w .from) (w .used) (26 + length d) s) (w .from) (bytesOf (character n c h d))) =
+      let y : encode (putCharacter n c h d st) ≡ remarked (markFor n c h d) (withBytes (splicedAt (w .from) (w .to - w .from) (w .used) (characterRecord + length d) s) (w .from) (bytesOf (character n c h d))) =
       encode-changed (markFor n c h d) (withCharacter n c new rs) st ∙ sym (ap (remarked (markFor n c h d)) b ∙ remark-bytes (st .mark) (markFor n c h d) T) in
       rw (r .is, le-leb _ _ fits, y)
 
@@ -133,8 +136,8 @@ module _ (n c : ℕ) (t s : List ℕ) (w : Places) (B : Bytes s) (g : Growing n 
   pub growing : Space n c (keptAt s w) (dataAt s w ++ t) s w
   growing = space n c (keptAt s w) (dataAt s w ++ t) s w B (g .fits)
 
-  grow-same : g .fits .stands .store ≡ growing .ready .store
-  grow-same = same-store s (g .fits .stands .is) (growing .ready .is)
+  grow-same : g .fits .arrives .stands .store ≡ growing .ready .store
+  grow-same = same-store s (g .fits .arrives .stands .is) (growing .ready .is)
 
   grow-there : find (keyOf n (c + 1)) (growing .ready .store .recs) ≡ some (character n c (keptAt s w) (dataAt s w))
   grow-there = rw grow-same at (g .there)
@@ -152,30 +155,30 @@ module _ (n c : ℕ) (t s : List ℕ) (w : Places) (B : Bytes s) (g : Growing n 
         there = grow-there;
       }
 
-  pub grow-span : w .to ≡ w .from + 26 + length (dataAt s w)
+  pub grow-span : w .to ≡ w .from + characterRecord + length (dataAt s w)
   grow-span = char-span n c s w grow-char
 
-  pub grow-small : length (dataAt s w) + length t ≤ 32768
+  pub grow-small : length (dataAt s w) + length t ≤ dataLimit
   grow-small = omega (arith, data-small n c (keptAt s w) (dataAt s w ++ t) s w growing, length-append (dataAt s w) t)
 
   grow-bytes : (u : List ℕ) × (drop (w .from) s ≡ bytesOf (character n c (keptAt s w) (dataAt s w)) ++ u)
   grow-bytes =
       let r = growing .ready in
       let b = record-bytes (keyOf n (c + 1)) (character n c (keptAt s w) (dataAt s w)) (r .store) (r .valid) grow-there in
-      let i : w .from ≡ 12 + total (below (keyOf n (c + 1)) (r .store .recs)) = ap (λ (y : Places). y .from) (r .at) in
-      (b .0, ap (λ (k : ℕ). drop k s) i ∙ ap (drop (12 + total (below (keyOf n (c + 1)) (r .store .recs)))) (r .bytes) ∙ b .1)
+      let i : w .from ≡ markRecord + total (below (keyOf n (c + 1)) (r .store .recs)) = ap (λ (y : Places). y .from) (r .at) in
+      (b .0, ap (λ (k : ℕ). drop k s) i ∙ ap (drop (markRecord + total (below (keyOf n (c + 1)) (r .store .recs)))) (r .bytes) ∙ b .1)
 
   -- the code's writes are those of the whole record
   pub grow-put : w .used + length t ≤ length s
-      → put (put (moved (w .from) (w .to - w .from) (w .used) (w .to - w .from + length t) s) (w .from) (le 2 (w .to - w .from + length t))) (w .from + (w .to - w .from)) t
-      ≡ put (moved (w .from) (w .to - w .from) (w .used) (26 + length (dataAt s w ++ t)) s) (w .from) (bytesOf (character n c (keptAt s w) (dataAt s w ++ t)))
+      → withBytes (withBytes (splicedAt (w .from) (w .to - w .from) (w .used) (w .to - w .from + length t) s) (w .from) (le 2 (w .to - w .from + length t))) (w .from + (w .to - w .from)) t
+      ≡ withBytes (splicedAt (w .from) (w .to - w .from) (w .used) (characterRecord + length (dataAt s w ++ t)) s) (w .from) (bytesOf (character n c (keptAt s w) (dataAt s w ++ t)))
   grow-put room =
       let d = dataAt s w in
       let u = grow-bytes in
-      let i : w .to - w .from ≡ 26 + length d = omega (arith, grow-span) in
-      let j : 26 + length (d ++ t) ≡ 26 + length d + length t = omega (arith, length-append d t) in
-      let k : length (keptAt s w) ≡ 16 = char-shape n c s w grow-char .0 in
+      let i : w .to - w .from ≡ characterRecord + length d = omega (arith, grow-span) in
+      let j : characterRecord + length (d ++ t) ≡ characterRecord + length d + length t = omega (arith, length-append d t) in
+      let k : length (keptAt s w) ≡ descriptorBytes = char-shape n c s w grow-char .0 in
       let e = extended n c (w .from) (w .used) (keptAt s w) d t s (u .0) (u .1) k (omega (arith, grow-small)) (omega (arith, grow-span, growing .ready .last)) in
-      ap (λ (x : ℕ). put (put (moved (w .from) x (w .used) (x + length t) s) (w .from) (le 2 (x + length t))) (w .from + x) t) i ∙ e
-      ∙ ap (λ (x : ℕ). put (moved (w .from) (26 + length d) (w .used) x s) (w .from) (bytesOf (character n c (keptAt s w) (d ++ t)))) (sym j)
-      ∙ ap (λ (x : ℕ). put (moved (w .from) x (w .used) (26 + length (d ++ t)) s) (w .from) (bytesOf (character n c (keptAt s w) (d ++ t)))) (sym i)
+      ap (λ (x : ℕ). withBytes (withBytes (splicedAt (w .from) x (w .used) (x + length t) s) (w .from) (le 2 (x + length t))) (w .from + x) t) i ∙ e
+      ∙ ap (λ (x : ℕ). withBytes (splicedAt (w .from) (characterRecord + length d) (w .used) x s) (w .from) (bytesOf (character n c (keptAt s w) (d ++ t)))) (sym j)
+      ∙ ap (λ (x : ℕ). withBytes (splicedAt (w .from) x (w .used) (characterRecord + length (d ++ t)) s) (w .from) (bytesOf (character n c (keptAt s w) (d ++ t)))) (sym i)

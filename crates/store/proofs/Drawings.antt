@@ -1,49 +1,37 @@
 -- What drawing a character that is there answers. Assumes nothing.
 use mathlib.Core.Path.{_≡_, ap, _∙_}
 use mathlib.Core.List.{List, _++_}
-use mathlib.Core.Bool.{Bool, true, _&&_}
+use mathlib.Core.Bool.{true}
 use Prim.Native.Nat.{ℕ, _+_, _-_, _<_, _≤_}
 use native.Mathlib.Omega.{arith}
 use lib.ListN.{length, take, drop}
 use borrow.Author.Tests.{le-leb, lt-leb, lt-ltb, le-ltb}
 use Rattle.blocks.specs.Header.{orientation}
-use lib.Dec.{eqb}
-use Rattle.blocks.specs.Field.{within, byte, signedWithin}
-use Rattle.blocks.specs.Character.{class, width, height, leftOffset, topOffset, rowSize, pictureSize, readFirst, firstChecks, isKeptFirst}
+use Rattle.blocks.specs.Character.{class, width, height, rowSize, pictureSize, isKeptFirst, descriptorBytes}
 use Rattle.blocks.specs.Rows.{rowBytes, picture}
-use Rattle.blocks.specs.declared.Verdict.the-variants.{Taken}
-use Rattle.blocks.proofs.Checks.{both, taken, within-low}
-use Rattle.blocks.proofs.KeptFirst.{is-kept-first}
 use Rattle.blocks.proofs.Pictures.{length-row, length-picture}
+use Rattle.store.specs.Layout.{characterKeptAt, characterRecord}
 use Rattle.store.specs.Answer.{refuse}
 use Rattle.store.specs.Drawing.{rowOf, pictureOf, drawingRow, drawingPicture}
 use Rattle.store.specs.declared.walk.Places.{Places}
+use Rattle.store.proofs.RecordBytes.{kept-width}
 use Rattle.store.proofs.Lookup.{kept-under}
 use Rattle.store.proofs.Seeks.{KeptChar, char-call}
 use Rattle.store.proofs.Spots.{char-span, char-kept, char-bytes}
-
--- ── a kept character has a width
-read-width : (k : List ℕ) (o : ℕ) → readFirst k o ≡ Taken → 0 < width k
-unfolding readFirst
-read-width k o e =
-    let f = taken (firstChecks k o) e .1 .1 .0 in
-    let a : Bool = eqb (byte k 4) o && signedWithin 16 16384 (leftOffset k) && signedWithin 16 16384 (topOffset k) in
-    let p = both (a && within 1 16384 (width k)) (within 1 16384 (height k)) f in
-    within-low 1 16384 (width k) (both a (within 1 16384 (width k)) (p .0) .1)
 
 module _ (n c : ℕ) (s : List ℕ) (w : Places) (x : KeptChar n c s w) where
   char-descriptor : isKeptFirst (x .kept) (orientation (x .header)) ≡ true
   char-descriptor = kept-under n c (x .header) (x .kept) (x .bytes) (x .ready .store .recs) (x .ready .valid .order) (x .code) (x .font-there) (x .there)
 
   pub char-width : 0 < width (x .kept)
-  char-width = read-width (x .kept) (orientation (x .header)) (is-kept-first (x .kept) (orientation (x .header)) char-descriptor .1)
+  char-width = kept-width (x .kept) (orientation (x .header)) char-descriptor
 
   -- as the code cuts the descriptor and the data out of the store
-  pub kept-cut : take (w .from + 26 - (w .from + 10)) (drop (w .from + 10) s) ≡ x .kept
-  kept-cut = let i : w .from + 26 - (w .from + 10) ≡ 16 = omega arith in ap (λ (k : ℕ). take k (drop (w .from + 10) s)) i ∙ char-kept n c s w x
+  pub kept-cut : take (w .from + characterRecord - (w .from + characterKeptAt)) (drop (w .from + characterKeptAt) s) ≡ x .kept
+  kept-cut = let i : w .from + characterRecord - (w .from + characterKeptAt) ≡ descriptorBytes = omega arith in ap (λ (k : ℕ). take k (drop (w .from + characterKeptAt) s)) i ∙ char-kept n c s w x
 
-  pub data-cut : take (w .to - (w .from + 26)) (drop (w .from + 26) s) ≡ x .bytes
-  data-cut = let i : w .to - (w .from + 26) ≡ length (x .bytes) = omega (arith, char-span n c s w x) in ap (λ (k : ℕ). take k (drop (w .from + 26) s)) i ∙ char-bytes n c s w x
+  pub data-cut : take (w .to - (w .from + characterRecord)) (drop (w .from + characterRecord) s) ≡ x .bytes
+  data-cut = let i : w .to - (w .from + characterRecord) ≡ length (x .bytes) = omega (arith, char-span n c s w x) in ap (λ (k : ℕ). take k (drop (w .from + characterRecord) s)) i ∙ char-bytes n c s w x
 
   pub row-call : (row : ℕ) (out : List ℕ) → drawingRow n c row s out ≡ rowOf (x .kept) (x .bytes) row out
   unfolding drawingRow

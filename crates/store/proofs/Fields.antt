@@ -10,7 +10,7 @@ use lib.ListN.{length, getD, take, drop, drop-of-length-le}
 use lib.Seq.{drop-drop, drop-cons}
 use lib.Dec.{eqb}
 use borrow.Author.Tests.{eqb-true, eqb-false, ne-eqb}
-use Rattle.store.specs.Num.{_&_, num, field, allZero}
+use Rattle.store.specs.Num.{_&_, num, field, allZero, wordEnd}
 
 pub field-suc : (k i : ℕ) (s : List ℕ) → i < length s → field (suc k) i s ≡ getD s i 0 + 256 * field k (i + 1) s
 unfolding num
@@ -23,7 +23,7 @@ field-zero i s = refl
 pub field-two : (i : ℕ) (s : List ℕ) → i + 2 ≤ length s → field 2 i s ≡ getD s i 0 + 256 * getD s (i + 1) 0
 field-two i s h = omega (arith, field-suc 1 i s (omega arith), field-suc 0 (i + 1) s (omega arith), field-zero (i + 1 + 1) s)
 
-pub field-four : (i : ℕ) (s : List ℕ) → i + 4 ≤ length s → field 4 i s ≡ field 2 i s + 65536 * field 2 (i + 2) s
+pub field-four : (i : ℕ) (s : List ℕ) → i + 4 ≤ length s → field 4 i s ≡ field 2 i s + wordEnd * field 2 (i + 2) s
 field-four i s h =
     let e : field 2 (i + 1 + 1) s ≡ field 2 (i + 2) s = let e1 : i + 1 + 1 ≡ i + 2 = omega arith in ap (λ (j : ℕ). field 2 j s) e1 in
     omega (arith, field-suc 3 i s (omega arith), field-suc 2 (i + 1) s (omega arith), field-suc 1 i s (omega arith), field-suc 0 (i + 1) s (omega arith), field-zero (i + 1 + 1) s)

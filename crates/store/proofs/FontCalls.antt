@@ -9,16 +9,17 @@ use lib.ListN.{length, replicate, length-append, length-replicate, replicate-app
 use lib.Seq.{paste, take-all}
 use lib.Dec.{leb}
 use borrow.Author.Tests.{le-leb, lt-leb}
-use Rattle.blocks.specs.Header.{readHeader, keptHeader}
+use Rattle.blocks.specs.Header.{readHeader, keptHeader, headerBytes}
 use Rattle.blocks.specs.declared.Verdict.the-variants.{Taken, Refused}
 use Rattle.blocks.proofs.KeptHeader.{kept-header, kept-length, header-long}
-use Rattle.store.specs.Layout.{keyOf}
+use Rattle.store.specs.Layout.{keyOf, fontRecord, lastFont, leastStore, markKind, markRecord, mostStore}
 use Rattle.store.specs.Num.{_&_, le}
 use Rattle.store.specs.Model.{font, bytesOf, run, markBytes, encode, decode, sizeOf, total}
 use Rattle.store.specs.Order.{below, replaced}
-use Rattle.store.specs.Change.{moved, put, unmarkedFor}
+use Rattle.store.specs.Change.{splicedAt, withBytes, unmarkedFor}
 use Rattle.store.specs.Answer.{onStore, After, refuse, done}
-use Rattle.store.specs.Calls.{shut, fresh, makingFresh, used, removeFont, putFont, puttingFont, downloadingFont}
+use Rattle.store.specs.Calls.{shut, fresh, makingFresh, used, removeFont, putFont, downloadingFont}
+use Rattle.store.specs.Putting.{puttingFont}
 use Rattle.store.specs.declared.walk.Places.{Places}
 use Rattle.store.proofs.Puts.{put-nil}
 use Rattle.store.proofs.Replaced.{no-font, new-font}
@@ -31,16 +32,16 @@ pub answered : {a b : After} → a ≡ b → (b .answer ≡ a .answer) × (b .by
 answered e = (ap (λ (x : After). x .answer) (sym e), ap (λ (x : After). x .bytes) (sym e))
 
 -- ── removing
-pub cut-done : (n p : ℕ) (s : List ℕ) (w : Places) (r : Ready n p s w) → unmarkedFor n (moved (w .lo) (w .hi - w .lo) (w .used) 0 s) ≡ encode (removeFont n (r .store))
+pub cut-done : (n p : ℕ) (s : List ℕ) (w : Places) (r : Ready n p s w) → unmarkedFor n (splicedAt (w .lo) (w .hi - w .lo) (w .used) 0 s) ≡ encode (removeFont n (r .store))
 unfolding run total
 cut-done n p s w r =
     let st = r .store in
     let rs = st .recs in
-    let lo : w .lo ≡ 12 + total (below (keyOf n 0) rs) = ap (λ (x : Places). x .lo) (r .at) in
-    let hi : w .hi ≡ 12 + total (below (keyOf (n + 1) 0) rs) = ap (λ (x : Places). x .hi) (r .at) in
-    let us : w .used ≡ 12 + total rs = ap (λ (x : Places). x .used) (r .at) in
+    let lo : w .lo ≡ markRecord + total (below (keyOf n 0) rs) = ap (λ (x : Places). x .lo) (r .at) in
+    let hi : w .hi ≡ markRecord + total (below (keyOf (n + 1) 0) rs) = ap (λ (x : Places). x .hi) (r .at) in
+    let us : w .used ≡ markRecord + total rs = ap (λ (x : Places). x .used) (r .at) in
     let fits : used (removeFont n st) ≤ st .size = omega (arith, total-replaced (keyOf n 0) (keyOf (n + 1) 0) [] rs (r .valid .order) (omega arith), r .room, r .size) in
-    rw (lo, hi, us, r .bytes) (ap (unmarkedFor n) (sym (put-nil _ (12 + total (below (keyOf n 0) rs)))) ∙ bytes-font n [] st (r .valid) no-font refl fits)
+    rw (lo, hi, us, r .bytes) (ap (unmarkedFor n) (sym (put-nil _ (markRecord + total (below (keyOf n 0) rs)))) ∙ bytes-font n [] st (r .valid) no-font refl fits)
 
 -- ── making fresh
 zeros-all : (s : List ℕ) → paste s 0 (replicate (length s) 0) (length s) ≡ replicate (length s) 0
@@ -48,33 +49,33 @@ zeros-all s =
     let z : List ℕ = replicate (length s) 0 in
     rw (drop-of-length-le s {i = 0 + length s} (omega arith), take-all (length s) z (omega (arith, length-replicate {A = ℕ} (length s) 0))) (append-nil z)
 
-fresh-first : (z : List ℕ) → put (put (replicate 12 0 ++ z) 0 (le 2 12)) 4 (le 2 1) ≡ markBytes shut ++ z
-unfolding put le markBytes
+fresh-first : (z : List ℕ) → withBytes (withBytes (replicate markRecord 0 ++ z) 0 (le 2 markRecord)) 4 (le 2 markKind) ≡ markBytes shut ++ z
+unfolding withBytes le markBytes
 fresh-first z = refl
 
-pub fresh-bytes : (s : List ℕ) → 12 ≤ length s → put (put (paste s 0 (replicate (length s) 0) (length s)) 0 (le 2 12)) 4 (le 2 1) ≡ encode (fresh (length s))
+pub fresh-bytes : (s : List ℕ) → leastStore ≤ length s → withBytes (withBytes (paste s 0 (replicate (length s) 0) (length s)) 0 (le 2 markRecord)) 4 (le 2 markKind) ≡ encode (fresh (length s))
 unfolding run
 fresh-bytes s h =
     let n = length s in
-    let e : 12 + (n - 12) ≡ n = omega arith in
-    let r : replicate {A = ℕ} n 0 ≡ replicate 12 0 ++ replicate (n - 12) 0 = sym (replicate-append-replicate {A = ℕ} 12 (n - 12) 0 ∙ ap (λ (k : ℕ). replicate k 0) e) in
-    rw (zeros-all s, r) (fresh-first (replicate (n - 12) 0) ∙ sym (encode-parts (fresh n) ∙ ap (λ (k : ℕ). markBytes shut ++ replicate k 0) (spare-is (fresh n))))
+    let e : markRecord + (n - markRecord) ≡ n = omega arith in
+    let r : replicate {A = ℕ} n 0 ≡ replicate markRecord 0 ++ replicate (n - markRecord) 0 = sym (replicate-append-replicate {A = ℕ} markRecord (n - markRecord) 0 ∙ ap (λ (k : ℕ). replicate k 0) e) in
+    rw (zeros-all s, r) (fresh-first (replicate (n - markRecord) 0) ∙ sym (encode-parts (fresh n) ∙ ap (λ (k : ℕ). markBytes shut ++ replicate k 0) (spare-is (fresh n))))
 
 module _ (s : List ℕ) where
-  pub fresh-short : length s < 12 → makingFresh s ≡ refuse s 1
+  pub fresh-short : length s < leastStore → makingFresh s ≡ refuse s 1
   unfolding makingFresh _&_
-  fresh-short l = rw (lt-leb 12 (length s) l)
+  fresh-short l = rw (lt-leb leastStore (length s) l)
 
-  pub fresh-long : 12 ≤ length s → 65536 < length s → makingFresh s ≡ refuse s 1
+  pub fresh-long : leastStore ≤ length s → mostStore < length s → makingFresh s ≡ refuse s 1
   unfolding makingFresh _&_
-  fresh-long a l = rw (le-leb 12 (length s) a, lt-leb (length s) 65536 l)
+  fresh-long a l = rw (le-leb leastStore (length s) a, lt-leb (length s) mostStore l)
 
-  pub fresh-done : 12 ≤ length s → length s ≤ 65536 → makingFresh s ≡ done (fresh (length s))
+  pub fresh-done : leastStore ≤ length s → length s ≤ mostStore → makingFresh s ≡ done (fresh (length s))
   unfolding makingFresh _&_
-  fresh-done a b = rw (le-leb 12 (length s) a, le-leb (length s) 65536 b)
+  fresh-done a b = rw (le-leb leastStore (length s) a, le-leb (length s) mostStore b)
 
 -- ── downloading
-pub font-run : (n : ℕ) (h : List ℕ) → length h ≡ 64 → n ≤ 32767 → length (run (font n h ∷ [])) ≡ total (font n h ∷ [])
+pub font-run : (n : ℕ) (h : List ℕ) → length h ≡ headerBytes → n ≤ lastFont → length (run (font n h ∷ [])) ≡ total (font n h ∷ [])
 unfolding run total
 font-run n h l m = omega (arith, length-append (bytesOf (font n h)) [], size-bytes (font n h) (l, m))
 
@@ -84,52 +85,52 @@ module _ (n : ℕ) (b s : List ℕ) where
   download-not e = rw e
 
   module _ (w : Places) (r : Ready n 0 s w) where
-    pub download-range : 32767 < n → downloadingFont n b s ≡ refuse s 2
+    pub download-range : lastFont < n → downloadingFont n b s ≡ refuse s 2
     unfolding downloadingFont onStore
-    download-range l = rw (r .is, lt-leb n 32767 l)
+    download-range l = rw (r .is, lt-leb n lastFont l)
 
-    pub download-refused : n ≤ 32767 → (k : ℕ) → readHeader b ≡ Refused k → downloadingFont n b s ≡ refuse s k
+    pub download-refused : n ≤ lastFont → (k : ℕ) → readHeader b ≡ Refused k → downloadingFont n b s ≡ refuse s k
     unfolding downloadingFont onStore
-    download-refused l k e = rw (r .is, le-leb n 32767 l, e)
+    download-refused l k e = rw (r .is, le-leb n lastFont l, e)
 
     -- a block that is taken goes into a store that has room
-    pub download-taken : n ≤ 32767 → readHeader b ≡ Taken → downloadingFont n b s ≡ puttingFont n b s
+    pub download-taken : n ≤ lastFont → readHeader b ≡ Taken → downloadingFont n b s ≡ puttingFont n b s
     unfolding downloadingFont puttingFont onStore
-    download-taken l e = rw (r .is, le-leb n 32767 l, e)
+    download-taken l e = rw (r .is, le-leb n lastFont l, e)
 
   -- the same for a store that is known to be one
-  module _ (w : Places) (r : Ready n 0 s w) (l : n ≤ 32767) (e : readHeader b ≡ Taken) where
-    lo : w .lo ≡ 12 + total (below (keyOf n 0) (r .store .recs))
+  module _ (w : Places) (r : Ready n 0 s w) (l : n ≤ lastFont) (e : readHeader b ≡ Taken) where
+    lo : w .lo ≡ markRecord + total (below (keyOf n 0) (r .store .recs))
     lo = ap (λ (x : Places). x .lo) (r .at)
 
-    hi : w .hi ≡ 12 + total (below (keyOf (n + 1) 0) (r .store .recs))
+    hi : w .hi ≡ markRecord + total (below (keyOf (n + 1) 0) (r .store .recs))
     hi = ap (λ (x : Places). x .hi) (r .at)
 
-    us : w .used ≡ 12 + total (r .store .recs)
+    us : w .used ≡ markRecord + total (r .store .recs)
     us = ap (λ (x : Places). x .used) (r .at)
 
     -- the records with the font put in
-    grows : total (replaced (keyOf n 0) (keyOf (n + 1) 0) (font n (keptHeader b) ∷ []) (r .store .recs)) + (w .hi - w .lo) ≡ total (r .store .recs) + 72
+    grows : total (replaced (keyOf n 0) (keyOf (n + 1) 0) (font n (keptHeader b) ∷ []) (r .store .recs)) + (w .hi - w .lo) ≡ total (r .store .recs) + fontRecord
     unfolding total sizeOf
     grows = rw (lo, hi) (total-replaced (keyOf n 0) (keyOf (n + 1) 0) (font n (keptHeader b) ∷ []) (r .store .recs) (r .valid .order) (omega arith))
 
-    pub put-full : length s < w .used - (w .hi - w .lo) + 72 → puttingFont n b s ≡ refuse s 10
+    pub put-full : length s < w .used - (w .hi - w .lo) + fontRecord → puttingFont n b s ≡ refuse s 10
     unfolding puttingFont onStore
     put-full q =
         let y : r .store .size < used (putFont n (keptHeader b) (r .store)) = omega (arith, grows, us, r .span, r .end, r .size) in
         let x : leb (used (putFont n (keptHeader b) (r .store))) (r .store .size) ≡ false = lt-leb _ _ y in
         rw (r .is, x)
 
-    pub put-done : w .used - (w .hi - w .lo) + 72 ≤ length s
-        → puttingFont n b s ≡ record { answer = 0; bytes = unmarkedFor n (put (moved (w .lo) (w .hi - w .lo) (w .used) 72 s) (w .lo) (bytesOf (font n (keptHeader b)))) }
+    pub put-done : w .used - (w .hi - w .lo) + fontRecord ≤ length s
+        → puttingFont n b s ≡ record { answer = 0; bytes = unmarkedFor n (withBytes (splicedAt (w .lo) (w .hi - w .lo) (w .used) fontRecord s) (w .lo) (bytesOf (font n (keptHeader b)))) }
     unfolding puttingFont onStore run total sizeOf
     put-done q =
         let st = r .store in
         let h = keptHeader b in
-        let k : length h ≡ 64 = kept-length b (header-long b e) in
+        let k : length h ≡ headerBytes = kept-length b (header-long b e) in
         let fits : used (putFont n h st) ≤ st .size = omega (arith, grows, us, r .span, r .end, r .size) in
         let x : leb (used (putFont n h st)) (st .size) ≡ true = le-leb _ _ fits in
-        let y : unmarkedFor n (put (moved (w .lo) (w .hi - w .lo) (w .used) 72 s) (w .lo) (bytesOf (font n h))) ≡ encode (putFont n h st) =
-        rw (lo, hi, us, r .bytes) (ap (λ (z : List ℕ). unmarkedFor n (put (moved (12 + total (below (keyOf n 0) (st .recs))) (12 + total (below (keyOf (n + 1) 0) (st .recs)) - (12 + total (below (keyOf n 0) (st .recs)))) (12 + total (st .recs)) 72 (encode st)) (12 + total (below (keyOf n 0) (st .recs))) z)) (sym (append-nil (bytesOf (font n h))))
+        let y : unmarkedFor n (withBytes (splicedAt (w .lo) (w .hi - w .lo) (w .used) fontRecord s) (w .lo) (bytesOf (font n h))) ≡ encode (putFont n h st) =
+        rw (lo, hi, us, r .bytes) (ap (λ (z : List ℕ). unmarkedFor n (withBytes (splicedAt (markRecord + total (below (keyOf n 0) (st .recs))) (markRecord + total (below (keyOf (n + 1) 0) (st .recs)) - (markRecord + total (below (keyOf n 0) (st .recs)))) (markRecord + total (st .recs)) fontRecord (encode st)) (markRecord + total (below (keyOf n 0) (st .recs))) z)) (sym (append-nil (bytesOf (font n h))))
         ∙ bytes-font n (font n h ∷ []) st (r .valid) (new-font h l (kept-header b e)) (font-run n h k l) fits) in
         rw (r .is, x, y)

@@ -7,12 +7,12 @@ use Prim.Native.Nat.{ℕ, _+_, _≤_}
 use native.Mathlib.Omega.{arith}
 use lib.ListN.{getD, take, drop}
 use lib.Seq.{getD-take, getD-drop}
-use Rattle.blocks.specs.Header.{orientation}
-use Rattle.store.specs.Layout.{keyOf}
+use Rattle.blocks.specs.Header.{orientation, headerBytes, orientationAt}
+use Rattle.store.specs.Layout.{keyOf, fontKeptAt, fontOrientationAt, fontRecord, lastCode, lastFont}
 use Rattle.store.specs.Num.{Bytes}
-use Rattle.store.specs.Model.{font, character, heldUnder, isKept}
+use Rattle.store.specs.Model.{font, heldUnder, isKept}
 use Rattle.store.specs.Order.{find}
-use Rattle.store.specs.Walk.{Stands, Arriving, Fitting, fontTurn}
+use Rattle.store.specs.Walk.{Stands, Arriving, Fitting, fontOrientation}
 use Rattle.store.specs.declared.walk.Places.{Places}
 use Rattle.store.proofs.Ready.{Ready, standing, font-there, same-store}
 use Rattle.store.proofs.Seeks.{KeptFont}
@@ -20,8 +20,8 @@ use Rattle.store.proofs.Spots.{font-kept, font-span}
 
 pub record Host (n c : ℕ) (s : List ℕ) (w : Places) : Type 0 where
   pub ready : Ready n (c + 1) s w
-  pub low : n ≤ 32767
-  pub code : c ≤ 255
+  pub low : n ≤ lastFont
+  pub code : c ≤ lastCode
   pub header : List ℕ
   pub font-in : find (keyOf n 0) (ready .store .recs) ≡ some (font n header)
 
@@ -35,21 +35,21 @@ module _ (n c : ℕ) (s : List ℕ) (w : Places) (x : Host n c s w) where
   host-font : KeptFont n (c + 1) s w
   host-font = record { ready = x .ready; low = x .low; header = x .header; there = x .font-in }
 
-  pub host-span : w .lo + 72 ≤ w .hi
+  pub host-span : w .lo + fontRecord ≤ w .hi
   host-span = font-span n (c + 1) s w host-font
 
   abbrev stood : Stands n (c + 1) s w
   stood = record { store = x .ready .store; is = x .ready .is; at = sym (x .ready .at) }
 
-  pub arriving : Arriving n c s w
+  abbrev pub arriving : Arriving n c s w
   arriving = record { stands = stood; low = x .low; code = x .code; header = x .header; font-there = x .font-in }
 
   abbrev pub fitting : (h d : List ℕ) → isKept (heldUnder (orientation (x .header)) h d) ≡ true → Fitting n c h d s w
-  fitting h d e = record { stands = stood; low = x .low; code = x .code; header = x .header; font-there = x .font-in; ok = e }
+  fitting h d e = record { arrives = arriving; ok = e }
 
-pub host-turn : (n c : ℕ) (s : List ℕ) (w : Places) (x : Host n c s w) → fontTurn s w ≡ orientation (x .header)
-host-turn n c s w x =
-    let k : take 64 (drop (w .lo + 8) s) ≡ x .header = font-kept n (c + 1) s w (record { ready = x .ready; low = x .low; header = x .header; there = x .font-in }) in
-    let e : getD (take 64 (drop (w .lo + 8) s)) 12 0 ≡ getD s (w .lo + 8 + 12) 0 = getD-take 64 (drop (w .lo + 8) s) 12 0 (omega arith) ∙ getD-drop (w .lo + 8) s 12 0 in
-    let i : w .lo + 8 + 12 ≡ w .lo + 20 = omega arith in
-    sym (ap (λ (l : List ℕ). getD l 12 0) (sym k) ∙ e ∙ ap (λ (j : ℕ). getD s j 0) i)
+pub host-orientation : (n c : ℕ) (s : List ℕ) (w : Places) (x : Host n c s w) → fontOrientation s w ≡ orientation (x .header)
+host-orientation n c s w x =
+    let k : take headerBytes (drop (w .lo + fontKeptAt) s) ≡ x .header = font-kept n (c + 1) s w (record { ready = x .ready; low = x .low; header = x .header; there = x .font-in }) in
+    let e : getD (take headerBytes (drop (w .lo + fontKeptAt) s)) orientationAt 0 ≡ getD s (w .lo + fontKeptAt + orientationAt) 0 = getD-take headerBytes (drop (w .lo + fontKeptAt) s) orientationAt 0 (omega arith) ∙ getD-drop (w .lo + fontKeptAt) s orientationAt 0 in
+    let i : w .lo + fontKeptAt + orientationAt ≡ w .lo + fontOrientationAt = omega arith in
+    sym (ap (λ (l : List ℕ). getD l orientationAt 0) (sym k) ∙ e ∙ ap (λ (j : ℕ). getD s j 0) i)

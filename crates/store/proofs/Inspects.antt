@@ -9,11 +9,11 @@ use native.Mathlib.Nat.{zero-add}
 use lib.ListN.{length, drop}
 use lib.Dec.{eqb, leb}
 use borrow.Author.Tests.{eqb-true, le-leb, lt-leb, ne-eqb}
-use Rattle.store.specs.Layout.{keyOf}
+use Rattle.store.specs.Layout.{keyOf, kindAt, lastCode, lastFont, leastStore, markRecord, mostStore, markKind}
 use Rattle.store.specs.Num.{_&_, field}
 use Rattle.store.specs.Model.{Rec, Mark, alone, sorted, opened, markOk, guard, split, markIn, begins, validOr, decode}
 use Rattle.store.specs.Calls.{charactersOf}
-use Rattle.store.specs.Walk.{start, asking, placesOf, placesFrom, walked, markSeen, surveyed, inspected}
+use Rattle.store.specs.Walk.{walkStart, queryFor, placesOf, placesFrom, walked, markSeen, surveyed, inspected}
 use Rattle.store.specs.declared.walk.Places.{Places}
 use Rattle.store.specs.declared.walk.Walk.the-variants.{Run, Broken}
 use Rattle.store.specs.declared.walk.MarkSeen.{MarkSeen}
@@ -22,21 +22,21 @@ use Rattle.store.specs.declared.walk.Inspected.the-variants.{Found, NotS
 
 -- ── the first record
 module _ (s : List ℕ) where
-  pub begins-short : length s < 12 → begins s ≡ false
+  pub begins-short : length s < leastStore → begins s ≡ false
   unfolding begins _&_
-  begins-short l = rw (lt-leb 12 (length s) l)
+  begins-short l = rw (lt-leb leastStore (length s) l)
 
-  pub begins-long : 12 ≤ length s → 65536 < length s → begins s ≡ false
+  pub begins-long : leastStore ≤ length s → mostStore < length s → begins s ≡ false
   unfolding begins _&_
-  begins-long a l = rw (le-leb 12 (length s) a, lt-leb (length s) 65536 l)
+  begins-long a l = rw (le-leb leastStore (length s) a, lt-leb (length s) mostStore l)
 
-  pub begins-len : 12 ≤ length s → length s ≤ 65536 → (field 4 0 s ≡ 12 → ⊥) → begins s ≡ false
+  pub begins-len : leastStore ≤ length s → length s ≤ mostStore → (field 4 0 s ≡ markRecord → ⊥) → begins s ≡ false
   unfolding begins _&_
-  begins-len a b n = rw (le-leb 12 (length s) a, le-leb (length s) 65536 b, ne-eqb (field 4 0 s) 12 n)
+  begins-len a b n = rw (le-leb leastStore (length s) a, le-leb (length s) mostStore b, ne-eqb (field 4 0 s) markRecord n)
 
-  pub begins-is : 12 ≤ length s → length s ≤ 65536 → field 4 0 s ≡ 12 → begins s ≡ eqb (field 2 4 s) 1
+  pub begins-is : leastStore ≤ length s → length s ≤ mostStore → field 4 0 s ≡ markRecord → begins s ≡ eqb (field 2 kindAt s) markKind
   unfolding begins _&_
-  begins-is a b n = rw (le-leb 12 (length s) a, le-leb (length s) 65536 b, n)
+  begins-is a b n = rw (le-leb leastStore (length s) a, le-leb (length s) mostStore b, n)
 
 module _ (m : Mark) where
   pub seen-shut : m .on ≡ 0 → m .fontOf ≡ 0 → m .codeOf ≡ 0 → markSeen m ≡ Shut
@@ -55,42 +55,42 @@ module _ (m : Mark) where
   unfolding markSeen _&_
   seen-on a b = rw (ne-eqb (m .on) 0 a, ne-eqb (m .on) 1 b)
 
-  pub seen-font : m .on ≡ 1 → 32767 < m .fontOf → markSeen m ≡ Wrong
+  pub seen-font : m .on ≡ 1 → lastFont < m .fontOf → markSeen m ≡ Wrong
   unfolding markSeen _&_
-  seen-font a l = rw (a, lt-leb (m .fontOf) 32767 l)
+  seen-font a l = rw (a, lt-leb (m .fontOf) lastFont l)
 
-  pub seen-code : m .on ≡ 1 → m .fontOf ≤ 32767 → 255 < m .codeOf → markSeen m ≡ Wrong
+  pub seen-code : m .on ≡ 1 → m .fontOf ≤ lastFont → lastCode < m .codeOf → markSeen m ≡ Wrong
   unfolding markSeen _&_
-  seen-code a b l = rw (a, le-leb (m .fontOf) 32767 b, lt-leb (m .codeOf) 255 l)
+  seen-code a b l = rw (a, le-leb (m .fontOf) lastFont b, lt-leb (m .codeOf) lastCode l)
 
-  pub seen-open : m .on ≡ 1 → m .fontOf ≤ 32767 → m .codeOf ≤ 255 → markSeen m ≡ Open (keyOf (m .fontOf) (m .codeOf + 1))
+  pub seen-open : m .on ≡ 1 → m .fontOf ≤ lastFont → m .codeOf ≤ lastCode → markSeen m ≡ Open (keyOf (m .fontOf) (m .codeOf + 1))
   unfolding markSeen _&_
-  seen-open a b c = rw (a, le-leb (m .fontOf) 32767 b, le-leb (m .codeOf) 255 c)
+  seen-open a b c = rw (a, le-leb (m .fontOf) lastFont b, le-leb (m .codeOf) lastCode c)
 
 -- ── the records
-places-start : (n p m : ℕ) (rs : List Rec) → placesFrom (asking n p m) start rs ≡ placesOf n p rs
+places-start : (n p m : ℕ) (rs : List Rec) → placesFrom (queryFor n p m) walkStart rs ≡ placesOf n p rs
 places-start n p m rs = rw (zero-add (length (charactersOf n rs)))
 
-pub surveyed-run : (n p m : ℕ) (must : Bool) (o : Option (List Rec)) (w : Places) (k : Bool) → walked (asking n p m) start o ≡ Run w k
+pub surveyed-run : (n p m : ℕ) (must : Bool) (o : Option (List Rec)) (w : Places) (k : Bool) → walked (queryFor n p m) walkStart o ≡ Run w k
     → surveyed n p m must o ≡ cond (not must || k) (Found w) NotStore
 unfolding walked surveyed _&_
 surveyed-run n p m must none w k e = let z : _≡_ {A = ℕ} 0 1 = cc in absurd (omega arith)
 surveyed-run n p m must (some rs) w k e = go (sorted 0 alone rs) e
   where
-    go : (b : Bool) → cond b (Run (placesFrom (asking n p m) start rs) (opened m rs)) Broken ≡ Run w k
+    go : (b : Bool) → cond b (Run (placesFrom (queryFor n p m) walkStart rs) (opened m rs)) Broken ≡ Run w k
         → cond (b & (not must || opened m rs)) (Found (placesOf n p rs)) NotStore ≡ cond (not must || k) (Found w) NotStore
     go true e' =
-        let a : placesFrom (asking n p m) start rs ≡ w = cc in
+        let a : placesFrom (queryFor n p m) walkStart rs ≡ w = cc in
         let b : opened m rs ≡ k = cc in
         rw (← b, ← a, places-start n p m rs)
     go false e' = let z : _≡_ {A = ℕ} 0 1 = cc in absurd (omega arith)
 
-pub surveyed-broken : (n p m : ℕ) (must : Bool) (o : Option (List Rec)) → walked (asking n p m) start o ≡ Broken → surveyed n p m must o ≡ NotStore
+pub surveyed-broken : (n p m : ℕ) (must : Bool) (o : Option (List Rec)) → walked (queryFor n p m) walkStart o ≡ Broken → surveyed n p m must o ≡ NotStore
 unfolding walked surveyed _&_
 surveyed-broken n p m must none e = refl
 surveyed-broken n p m must (some rs) e = go (sorted 0 alone rs) e
   where
-    go : (b : Bool) → cond b (Run (placesFrom (asking n p m) start rs) (opened m rs)) Broken ≡ Broken → cond (b & (not must || opened m rs)) (Found (placesOf n p rs)) NotStore ≡ NotStore
+    go : (b : Bool) → cond b (Run (placesFrom (queryFor n p m) walkStart rs) (opened m rs)) Broken ≡ Broken → cond (b & (not must || opened m rs)) (Found (placesOf n p rs)) NotStore ≡ NotStore
     go true e' = let z : _≡_ {A = ℕ} 0 1 = cc in absurd (omega arith)
     go false e' = refl
 
@@ -102,7 +102,7 @@ okBy Wrong rs = false
 
 mark-by : (m : Mark) (rs : List Rec) → markOk m rs ≡ okBy (markSeen m) rs
 unfolding markOk markSeen
-mark-by m rs = go (eqb (m .on) 0) (eqb (m .fontOf) 0 & eqb (m .codeOf) 0) (eqb (m .on) 1) (leb (m .fontOf) 32767) (leb (m .codeOf) 255)
+mark-by m rs = go (eqb (m .on) 0) (eqb (m .fontOf) 0 & eqb (m .codeOf) 0) (eqb (m .on) 1) (leb (m .fontOf) lastFont) (leb (m .codeOf) lastCode)
   where
     go : (a b c d e : Bool)
         → cond a b (c & d & e & opened (keyOf (m .fontOf) (m .codeOf + 1)) rs)
@@ -119,12 +119,12 @@ module _ (n p : ℕ) (s : List ℕ) where
   unfolding decode guard inspected
   inspect-not e = rw e
 
-  inspect-by : begins s ≡ true → (o : Option (List Rec)) → split (drop 12 s) ≡ o → inspected n p (decode s) ≡ inspected n p (validOr (length s) (markIn s) o)
+  inspect-by : begins s ≡ true → (o : Option (List Rec)) → split (drop markRecord s) ≡ o → inspected n p (decode s) ≡ inspected n p (validOr (length s) (markIn s) o)
   unfolding decode guard
   inspect-by e o q = rw (e, q)
 
   pub inspect-wrong : begins s ≡ true → markSeen (markIn s) ≡ Wrong → inspected n p (decode s) ≡ NotStore
-  inspect-wrong e w = inspect-by e (split (drop 12 s)) refl ∙ go (split (drop 12 s))
+  inspect-wrong e w = inspect-by e (split (drop markRecord s)) refl ∙ go (split (drop markRecord s))
     where
       go : (o : Option (List Rec)) → inspected n p (validOr (length s) (markIn s) o) ≡ NotStore
       go none = unfold validOr inspected in refl
@@ -135,8 +135,8 @@ module _ (n p : ℕ) (s : List ℕ) where
           fail false rs = unfold _&_ guard inspected in refl
 
   inspect-is : (m : ℕ) (must : Bool) → begins s ≡ true → ((rs : List Rec) → markOk (markIn s) rs ≡ not must || opened m rs)
-      → inspected n p (decode s) ≡ surveyed n p m must (split (drop 12 s))
-  inspect-is m must e k = inspect-by e (split (drop 12 s)) refl ∙ go (split (drop 12 s))
+      → inspected n p (decode s) ≡ surveyed n p m must (split (drop markRecord s))
+  inspect-is m must e k = inspect-by e (split (drop markRecord s)) refl ∙ go (split (drop markRecord s))
     where
       give : (b : Bool) (rs : List Rec) → inspected n p (guard b (some (record { size = length s; mark = markIn s; recs = rs }))) ≡ cond b (Found (placesOf n p rs)) NotStore
       give true rs = unfold guard inspected in refl
@@ -146,8 +146,8 @@ module _ (n p : ℕ) (s : List ℕ) where
       go none = unfold validOr inspected surveyed in refl
       go (some rs) = unfold validOr surveyed in rw (k rs) (give (sorted 0 alone rs & (not must || opened m rs)) rs)
 
-  pub inspect-shut : begins s ≡ true → markSeen (markIn s) ≡ Shut → inspected n p (decode s) ≡ surveyed n p 0 false (split (drop 12 s))
+  pub inspect-shut : begins s ≡ true → markSeen (markIn s) ≡ Shut → inspected n p (decode s) ≡ surveyed n p 0 false (split (drop markRecord s))
   inspect-shut e w = inspect-is 0 false e (λ rs. mark-by (markIn s) rs ∙ rw w)
 
-  pub inspect-open : (k : ℕ) → begins s ≡ true → markSeen (markIn s) ≡ Open k → inspected n p (decode s) ≡ surveyed n p k true (split (drop 12 s))
+  pub inspect-open : (k : ℕ) → begins s ≡ true → markSeen (markIn s) ≡ Open k → inspected n p (decode s) ≡ surveyed n p k true (split (drop markRecord s))
   inspect-open k e w = inspect-is k true e (λ rs. mark-by (markIn s) rs ∙ rw w)

@@ -7,7 +7,7 @@ use Prim.Native.Nat.{ℕ, _+_, _-_, _<_, _≤_}
 use native.Mathlib.Omega.{arith}
 use lib.Dec.{leb, ltb}
 use borrow.Author.Tests.{ltb-true, ltb-false}
-use Rattle.store.specs.Layout.{keyOf}
+use Rattle.store.specs.Layout.{keyOf, lastCode}
 use Rattle.store.specs.Model.{Rec, font, character, alone, sorted, number, place, key}
 use Rattle.store.specs.Order.{keep, below, from, replaced}
 use Rattle.store.specs.Fonts.{Font, fontsIn, fontsBelow, fontsAbove, fontsWith}
@@ -64,7 +64,7 @@ fonts-font n new rs =
     ∙ ap (λ (l : List Font). fontsBelow n (fontsIn rs) ++ (fontsIn new ++ l)) (fonts-above n rs)
 
 -- no font stands at a character's key
-from-past : (n c : ℕ) (rs : List Rec) → c ≤ 255 → fontsIn (from (keyOf n (c + 1) + 1) rs) ≡ fontsIn (from (keyOf n (c + 1)) rs)
+from-past : (n c : ℕ) (rs : List Rec) → c ≤ lastCode → fontsIn (from (keyOf n (c + 1) + 1) rs) ≡ fontsIn (from (keyOf n (c + 1)) rs)
 unfolding fontsIn keep
 from-past n c [] b = refl
 from-past n c (character m i h d ∷ rs) b = kept-char (λ r. leb (keyOf n (c + 1) + 1) (key r)) m i h d rs ∙ from-past n c rs b ∙ sym (kept-char (λ r. leb (keyOf n (c + 1)) (key r)) m i h d rs)
@@ -74,7 +74,7 @@ from-past n c (font m h ∷ rs) b = ⊎-elim
     (less-or n m)
 
 -- one character gives way to characters: the fonts stay
-pub fonts-char : (n c : ℕ) (new rs : List Rec) → sorted 0 alone rs ≡ true → c ≤ 255 → fontsIn new ≡ [] → fontsIn (replaced (keyOf n (c + 1)) (keyOf n (c + 1) + 1) new rs) ≡ fontsIn rs
+pub fonts-char : (n c : ℕ) (new rs : List Rec) → sorted 0 alone rs ≡ true → c ≤ lastCode → fontsIn new ≡ [] → fontsIn (replaced (keyOf n (c + 1)) (keyOf n (c + 1) + 1) new rs) ≡ fontsIn rs
 fonts-char n c new rs o b e =
     fonts-append (below (keyOf n (c + 1)) rs) (new ++ from (keyOf n (c + 1) + 1) rs)
     ∙ ap (λ (l : List Font). fontsIn (below (keyOf n (c + 1)) rs) ++ l) (fonts-append new (from (keyOf n (c + 1) + 1) rs) ∙ ap (λ (l : List Font). l ++ fontsIn (from (keyOf n (c + 1) + 1) rs)) e ∙ from-past n c rs b)

@@ -1,7 +1,7 @@
 pub mod Numbers
 pub mod Fields
 pub mod Moves
-pub mod Records
+pub mod RecordBytes
 pub mod Codec
 pub mod Heads
 pub mod Walks
@@ -20,6 +20,7 @@ pub mod FontCalls
 pub mod Seeks
 pub mod Spots
 pub mod CharacterCalls
+pub mod RecordRuns
 pub mod KeptFonts
 pub mod Downloads
 pub mod Extends
@@ -29,6 +30,7 @@ pub mod Continuations
 pub mod Receives
 pub mod Drawings
 pub mod Locates
+pub mod FontRecords
 pub mod Again
 pub mod Appends
 pub mod Leaves

@@ -7,28 +7,28 @@ use Prim.Native.Nat.{ℕ, _+_, _-_, _<_, _≤_}
 use native.Mathlib.Omega.{arith}
 use lib.ListN.{length, drop, length-drop}
 use lib.Seq.{drop-drop}
-use Rattle.store.specs.Layout.{keyOf}
+use Rattle.store.specs.Layout.{keyOf, characterKind, characterRecord, codeAt, fontKind, kindAt, markRecord, mostStore, numberAt}
 use Rattle.store.specs.Num.{field}
-use Rattle.store.specs.Model.{Rec, font, Store, Under, under, alone, sorted, number, place, key, headRec, sizeOf, total, split, decode}
+use Rattle.store.specs.Model.{Rec, Store, Under, under, alone, sorted, number, place, key, headRec, sizeOf, total, split, decode}
 use Rattle.store.specs.Order.{keep, below, from, after}
-use Rattle.store.specs.Fonts.{isStore}
+use Rattle.store.specs.Records.{isStore}
 use Rattle.store.specs.Walk.{Stands}
 use Rattle.store.specs.Cursor.{keyAt, Reaches, Seeking, Points}
 use Rattle.store.specs.declared.locate.Cursor.{Cursor}
 use Rattle.store.proofs.Fields.{field-drop}
-use Rattle.store.proofs.Records.{Headed, is-font, is-character, head-inv}
+use Rattle.store.proofs.RecordBytes.{Headed, is-font, is-character, head-inv}
 use Rattle.store.proofs.Codec.{Sorted, sorted-inv, begins-parts}
 use Rattle.store.proofs.Order.{below-in, below-out, from-in, from-out, none-below, sorted-from, Side, before, behind, side}
 use Rattle.store.proofs.Totals.{total-at}
 use Rattle.store.proofs.Lookup.{below-below}
-use Rattle.store.proofs.KeptFonts.{Standing, at-end, at-record, stands-at, char-size, decoded}
+use Rattle.store.proofs.RecordRuns.{Standing, at-end, at-record, stands-at, char-size, decoded}
 use Rattle.store.proofs.Ready.{same-store}
 
 pub is-store : (s : List ℕ) → isStore s ≡ true → (st : Store) × (decode s ≡ some st)
 unfolding isStore
 is-store s e = go (decode s) refl e
   where
-    go : (o : Option Store) → decode s ≡ o → Rattle.store.specs.Fonts.isSome o ≡ true → (st : Store) × (decode s ≡ some st)
+    go : (o : Option Store) → decode s ≡ o → Rattle.store.specs.Records.isSome o ≡ true → (st : Store) × (decode s ≡ some st)
     go none q e' = let z : _≡_ {A = ℕ} 0 1 = cc in absurd (omega arith)
     go (some st) q e' = (st, q)
 
@@ -36,9 +36,9 @@ pub store-is : (s : List ℕ) (st : Store) → decode s ≡ some st → isStore 
 unfolding isStore
 store-is s st e = rw e
 
-pub store-small : (s : List ℕ) (st : Store) → decode s ≡ some st → length s ≤ 65536
+pub store-small : (s : List ℕ) (st : Store) → decode s ≡ some st → length s ≤ mostStore
 unfolding decode
-store-small s st e = begins-parts s (Rattle.store.proofs.Records.guard-test _ _ st e) .1
+store-small s st e = begins-parts s (Rattle.store.proofs.RecordBytes.guard-test _ _ st e) .1
 
 -- ── the records from a key on stand at its place
 key-side : {k : ℕ} {u : Under} {r : Rec} {rs : List Rec} → (s : List ℕ) → split s ≡ some (r ∷ rs) → Side k u r rs
@@ -69,26 +69,26 @@ from-key k j u (r ∷ rs) s o e =
 pub record Told (s : List ℕ) (here : ℕ) (r : Rec) : Type 0 where
   pub key : key r ≡ keyAt s here
   pub len : sizeOf r ≡ field 4 here s
-  pub room : here + 26 ≤ length s
+  pub room : here + characterRecord ≤ length s
   pub fits : here + field 4 here s ≤ length s
   pub some : 0 < field 4 here s
 
 told-by : (s : List ℕ) (here : ℕ) (r : Rec) → Headed (drop here s) r → Told s here r
 unfolding number place sizeOf
-told-by s here r (is-font f a b) =
-    let kind : field 2 (here + 4) s ≡ 2 = sym (field-drop 2 4 here s) ∙ a in
-    let n : field 2 6 (drop here s) ≡ field 2 (here + 6) s = field-drop 2 6 here s in
+told-by s here r (is-font x) =
+    let kind : field 2 (here + kindAt) s ≡ fontKind = sym (field-drop 2 kindAt here s) ∙ x .kind in
+    let n : field 2 numberAt (drop here s) ≡ field 2 (here + numberAt) s = field-drop 2 numberAt here s in
     record {
       key = rw (kind, n);
-      len = sym b;
-      room = omega (arith, f, b, length-drop here s);
-      fits = omega (arith, f, b, length-drop here s);
-      some = omega (arith, b);
+      len = sym (x .len);
+      room = omega (arith, x .fits, x .len, length-drop here s);
+      fits = omega (arith, x .fits, x .len, length-drop here s);
+      some = omega (arith, x .len);
     }
 told-by s here r (is-character f a b) =
-    let kind : field 2 (here + 4) s ≡ 3 = sym (field-drop 2 4 here s) ∙ a in
-    let n : field 2 6 (drop here s) ≡ field 2 (here + 6) s = field-drop 2 6 here s in
-    let m : field 2 8 (drop here s) ≡ field 2 (here + 8) s = field-drop 2 8 here s in
+    let kind : field 2 (here + kindAt) s ≡ characterKind = sym (field-drop 2 kindAt here s) ∙ a in
+    let n : field 2 numberAt (drop here s) ≡ field 2 (here + numberAt) s = field-drop 2 numberAt here s in
+    let m : field 2 codeAt (drop here s) ≡ field 2 (here + codeAt) s = field-drop 2 codeAt here s in
     record {
       key = rw (kind, n, m);
       len = char-size (drop here s) f b;
@@ -105,13 +105,13 @@ told-first s here r rs e = told-by s here r (head-inv (drop here s) r (split-res
 pub record Passing (s : List ℕ) (end k here : ℕ) : Type 0 where
   pub store : Store
   pub is : decode s ≡ some store
-  pub small : length s ≤ 65536
+  pub small : length s ≤ mostStore
   pub recs : List Rec
   pub rest : split (drop here s) ≡ some recs
   pub least : ℕ
   pub behind : Under
   pub order : sorted least behind recs ≡ true
-  pub sum : here + total (below k recs) ≡ 12 + total (below k (store .recs))
+  pub sum : here + total (below k recs) ≡ markRecord + total (below k (store .recs))
   pub last : here + total recs ≡ end
 
 pub passing : (s : List ℕ) (end k here : ℕ) → Seeking s end k here → Passing s end k here
@@ -119,14 +119,14 @@ passing s end k here x =
     let st = x .store in
     let d = decoded s st (x .is) in
     let rs = st .recs in
-    let e : split (drop (total (below (x .base) rs)) (drop 12 s)) ≡ some (from (x .base) rs) = from-key (x .base) 0 alone rs (drop 12 s) (d .2) (d .1) in
+    let e : split (drop (total (below (x .base) rs)) (drop markRecord s)) ≡ some (from (x .base) rs) = from-key (x .base) 0 alone rs (drop markRecord s) (d .2) (d .1) in
     let b = ap total (below-below (x .base) k 0 alone rs (d .2) (x .low)) ∙ Rattle.store.proofs.Totals.total-append (below (x .base) rs) (below k (from (x .base) rs)) in
     record {
       store = st;
       is = x .is;
       small = store-small s st (x .is);
       recs = from (x .base) rs;
-      rest = ap (λ (y : ℕ). split (drop y s)) (x .at) ∙ ap split (sym (drop-drop (total (below (x .base) rs)) 12 s)) ∙ e;
+      rest = ap (λ (y : ℕ). split (drop y s)) (x .at) ∙ ap split (sym (drop-drop (total (below (x .base) rs)) markRecord s)) ∙ e;
       least = x .base;
       behind = after alone (below (x .base) rs);
       order = sorted-from (x .base) 0 alone rs (d .2);
@@ -198,10 +198,7 @@ module _ (s : List ℕ) (c : Cursor) (x : Points s c) where
   pub from-here : (k : ℕ) → c .key ≤ k → Seeking s (c .used) k (c .at)
   from-here k l = record { store = x .store; is = x .is; used = x .used; base = c .key; low = l; at = x .at }
 
-  pub from-font : (k : ℕ) → keyOf (c .font) 0 ≤ k → Seeking s (c .used) k (c .lo)
-  from-font k l = record { store = x .store; is = x .is; used = x .used; base = keyOf (c .font) 0; low = l; at = x .lo }
-
-  pub from-front : (k : ℕ) → Seeking s (c .used) k 12
+  pub from-front : (k : ℕ) → Seeking s (c .used) k markRecord
   unfolding total
   from-front k =
       let z : total (below 0 (x .store .recs)) ≡ 0 = ap total (none-below 0 0 alone (x .store .recs) (decoded s (x .store) (x .is) .2) (omega arith)) in
@@ -217,9 +214,9 @@ module _ (s : List ℕ) (c : Cursor) (x : Points s c) where
       → Stands n p s (record { used = c .used; lo = lo; from = from; to = to; hi = hi; chars = 0 })
   four n p lo from to hi a b d e =
       let rs = x .store .recs in
-      let at : (k here : ℕ) → Reaches s k here → 12 + total (below k rs) ≡ here = λ k here y. let i : y .store ≡ x .store = same-store s (y .is) (x .is) in sym (rw i at (y .at)) in
-      let a' : 12 + total (below (keyOf n 0) rs) ≡ lo = at (keyOf n 0) lo a in
-      let b' : 12 + total (below (keyOf n p) rs) ≡ from = at (keyOf n p) from b in
-      let d' : 12 + total (below (keyOf n p + 1) rs) ≡ to = at (keyOf n p + 1) to d in
-      let e' : 12 + total (below (keyOf (n + 1) 0) rs) ≡ hi = at (keyOf (n + 1) 0) hi e in
+      let at : (k here : ℕ) → Reaches s k here → markRecord + total (below k rs) ≡ here = λ k here y. let i : y .store ≡ x .store = same-store s (y .is) (x .is) in sym (rw i at (y .at)) in
+      let a' : markRecord + total (below (keyOf n 0) rs) ≡ lo = at (keyOf n 0) lo a in
+      let b' : markRecord + total (below (keyOf n p) rs) ≡ from = at (keyOf n p) from b in
+      let d' : markRecord + total (below (keyOf n p + 1) rs) ≡ to = at (keyOf n p + 1) to d in
+      let e' : markRecord + total (below (keyOf (n + 1) 0) rs) ≡ hi = at (keyOf (n + 1) 0) hi e in
       record { store = x .store; is = x .is; at = rw (a', b', d', e', ← (x .used)) }

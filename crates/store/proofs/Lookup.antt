@@ -9,10 +9,10 @@ use lib.Dec.{eqb, ltb}
 use borrow.Author.Tests.{eqb-true, eqb-false, eq-eqb, ne-eqb}
 use Rattle.blocks.specs.Header.{orientation}
 use Rattle.blocks.specs.Character.{isKeptFirst}
-use Rattle.store.specs.Layout.{keyOf}
+use Rattle.store.specs.Layout.{keyOf, lastCode}
 use Rattle.store.specs.Model.{Rec, font, character, Under, under, alone, allowed, sorted, number, place, key, sizeOf, total}
 use Rattle.store.specs.Order.{keep, below, from, find, after}
-use Rattle.store.proofs.Records.{allowed-char}
+use Rattle.store.proofs.RecordBytes.{allowed-char}
 use Rattle.store.proofs.Codec.{Sorted, sorted-inv}
 use Rattle.store.proofs.Order.{from-in, from-out, below-in, below-out, Side, before, behind, side, all-from, none-below, sorted-from, after-low}
 use Rattle.store.proofs.Totals.{total-at, total-append}
@@ -142,7 +142,7 @@ font-at n u (font m h) e q = let i : m ≡ n = omega arith in (h, rw i)
 font-at n u (character m c h d) e q = let p = allowed-char u m c h d e in absurd (omega (arith, p .code))
 
 -- one with a character's key is that character
-pub char-at : (n c : ℕ) (u : Under) (r : Rec) → c ≤ 255 → allowed u r ≡ true → key r ≡ keyOf n (c + 1) → (h : List ℕ) × (d : List ℕ) × (r ≡ character n c h d)
+pub char-at : (n c : ℕ) (u : Under) (r : Rec) → c ≤ lastCode → allowed u r ≡ true → key r ≡ keyOf n (c + 1) → (h : List ℕ) × (d : List ℕ) × (r ≡ character n c h d)
 unfolding number place
 char-at n c u (font m h) l e q = absurd (omega arith)
 char-at n c u (character m b h d) l e q =
@@ -182,7 +182,7 @@ after-font n p h rs e q a b =
     ∙ after-chars n (keyOf n p) (lo + 1) (after alone (below (lo + 1) rs)) (from (lo + 1) rs) s (omega arith) (omega arith) ∙ c
 
 -- the descriptor of a character that is there is a kept one of its font's orientation
-pub kept-under : (n c : ℕ) (g h d : List ℕ) (rs : List Rec) → sorted 0 alone rs ≡ true → c ≤ 255 → find (keyOf n 0) rs ≡ some (font n g) → find (keyOf n (c + 1)) rs ≡ some (character n c h d)
+pub kept-under : (n c : ℕ) (g h d : List ℕ) (rs : List Rec) → sorted 0 alone rs ≡ true → c ≤ lastCode → find (keyOf n 0) rs ≡ some (font n g) → find (keyOf n (c + 1)) rs ≡ some (character n c h d)
     → isKeptFirst h (orientation g) ≡ true
 unfolding under
 kept-under n c g h d rs e l p q =

@@ -7,12 +7,12 @@ use Prim.Native.Nat.{ℕ, _+_, _<_, _≤_}
 use native.Mathlib.Omega.{arith}
 use lib.Dec.{eqb, leb}
 use borrow.Author.Tests.{eqb-true, eqb-false, leb-true, le-leb, eq-eqb, ne-eqb}
-use Rattle.store.specs.Layout.{keyOf}
-use Rattle.store.specs.Num.{_&_, le, field}
+use Rattle.store.specs.Layout.{keyOf, lastCode, lastFont, markCodeAt, markFontAt, markOnAt}
+use Rattle.store.specs.Num.{_&_, le, field, wordEnd}
 use Rattle.store.specs.Model.{Rec, Mark, markBytes, alone, sorted, opened, markOk}
 use Rattle.store.specs.Order.{replaced}
 use Rattle.store.specs.Calls.{shut, closedFor, closedAt}
-use Rattle.store.specs.Change.{put, remarked, unmarkedFor, unmarkedAt}
+use Rattle.store.specs.Change.{withBytes, remarked, unmarkedFor, unmarkedAt}
 use Rattle.store.proofs.Numbers.{both-l, both-r, both, less-or}
 use Rattle.store.proofs.Codec.{mark-back}
 use Rattle.store.proofs.Replaced.{Outside, opened-replaced}
@@ -24,8 +24,8 @@ pub record Shut (m : Mark) : Type 0 where
 
 pub record Open (m : Mark) : Type 0 where
   pub on : m .on ≡ 1
-  pub number : m .fontOf ≤ 32767
-  pub code : m .codeOf ≤ 255
+  pub number : m .fontOf ≤ lastFont
+  pub code : m .codeOf ≤ lastCode
 
 abbrev pub markKey : Mark → ℕ
 markKey m = keyOf (m .fontOf) (m .codeOf + 1)
@@ -39,7 +39,7 @@ mark-inv m rs e = go (eqb (m .on) 0) refl
         let e' : eqb (m .fontOf) 0 & eqb (m .codeOf) 0 ≡ true = rw q at e in
         inl (record { on = eqb-true _ _ q; number = eqb-true _ _ (both-l _ _ e'); code = eqb-true _ _ (both-r _ _ e') })
     go false q =
-        let e1 : eqb (m .on) 1 & leb (m .fontOf) 32767 & leb (m .codeOf) 255 & opened (markKey m) rs ≡ true = rw q at e in
+        let e1 : eqb (m .on) 1 & leb (m .fontOf) lastFont & leb (m .codeOf) lastCode & opened (markKey m) rs ≡ true = rw q at e in
         let e2 = both-r _ _ e1 in
         let e3 = both-r _ _ e2 in
         inr (record { on = eqb-true _ _ (both-l _ _ e1); number = leb-true _ _ (both-l _ _ e2); code = leb-true _ _ (both-l _ _ e3) }, both-r _ _ e3)
@@ -81,7 +81,7 @@ closed-for n m new rs e k q =
     let x = eqb-false (m .fontOf) n (and-not (eqb (m .on) 1) (eqb (m .fontOf) n) z (eq-eqb (m .on) 1 (h .on))) in
     ⊎-elim (λ (l : m .fontOf < n). inl (omega (arith, h .code))) (λ (l : n ≤ m .fontOf). inr (omega (arith, x))) (less-or (m .fontOf) n))
 
-pub closed-at : (n c : ℕ) (m : Mark) (rs : List Rec) → c ≤ 255 → sorted 0 alone rs ≡ true → markOk m rs ≡ true
+pub closed-at : (n c : ℕ) (m : Mark) (rs : List Rec) → c ≤ lastCode → sorted 0 alone rs ≡ true → markOk m rs ≡ true
     → markOk (closedAt n c m) (replaced (keyOf n (c + 1)) (keyOf n (c + 1) + 1) [] rs) ≡ true
 unfolding closedAt opened
 closed-at n c m rs b e k =
@@ -95,12 +95,12 @@ closed-at n c m rs b e k =
 -- ── in the bytes
 -- numbers of a mark that fit two bytes each
 pub record Small (m : Mark) : Type 0 where
-  pub on : m .on < 65536
-  pub number : m .fontOf < 65536
-  pub code : m .codeOf < 65536
+  pub on : m .on < wordEnd
+  pub number : m .fontOf < wordEnd
+  pub code : m .codeOf < wordEnd
 
 pub remark-bytes : (m m′ : Mark) (t : List ℕ) → remarked m′ (markBytes m ++ t) ≡ markBytes m′ ++ t
-unfolding remarked put markBytes le
+unfolding remarked withBytes markBytes le
 remark-bytes m m′ t = refl
 
 unmark-by : (x : Bool) (m : Mark) (t : List ℕ) → cond x (remarked shut (markBytes m ++ t)) (markBytes m ++ t) ≡ markBytes (cond x shut m) ++ t
@@ -111,37 +111,37 @@ pub unmark-for : (n : ℕ) (m : Mark) (t : List ℕ) → Small m → unmarkedFor
 unfolding unmarkedFor closedFor
 unmark-for n m t f =
     let k = mark-back m t (f .on) (f .number) (f .code) in
-    let f6 : field 2 6 (markBytes m ++ t) ≡ m .on = ap (λ (x : Mark). x .on) k in
-    let f8 : field 2 8 (markBytes m ++ t) ≡ m .fontOf = ap (λ (x : Mark). x .fontOf) k in
+    let f6 : field 2 markOnAt (markBytes m ++ t) ≡ m .on = ap (λ (x : Mark). x .on) k in
+    let f8 : field 2 markFontAt (markBytes m ++ t) ≡ m .fontOf = ap (λ (x : Mark). x .fontOf) k in
     rw (f6, f8) (unmark-by (eqb (m .on) 1 & eqb (m .fontOf) n) m t)
 
 pub unmark-at : (n c : ℕ) (m : Mark) (t : List ℕ) → Small m → unmarkedAt n c (markBytes m ++ t) ≡ markBytes (closedAt n c m) ++ t
 unfolding unmarkedAt closedAt
 unmark-at n c m t f =
     let k = mark-back m t (f .on) (f .number) (f .code) in
-    let f6 : field 2 6 (markBytes m ++ t) ≡ m .on = ap (λ (x : Mark). x .on) k in
-    let f8 : field 2 8 (markBytes m ++ t) ≡ m .fontOf = ap (λ (x : Mark). x .fontOf) k in
-    let f10 : field 2 10 (markBytes m ++ t) ≡ m .codeOf = ap (λ (x : Mark). x .codeOf) k in
+    let f6 : field 2 markOnAt (markBytes m ++ t) ≡ m .on = ap (λ (x : Mark). x .on) k in
+    let f8 : field 2 markFontAt (markBytes m ++ t) ≡ m .fontOf = ap (λ (x : Mark). x .fontOf) k in
+    let f10 : field 2 markCodeAt (markBytes m ++ t) ≡ m .codeOf = ap (λ (x : Mark). x .codeOf) k in
     rw (f6, f8, f10) (unmark-by (eqb (m .on) 1 & eqb (m .fontOf) n & eqb (m .codeOf) c) m t)
 
 -- ── closing by the mark's numbers
 module _ (n c : ℕ) (s : List ℕ) where
-  pub unmark-off : (field 2 6 s ≡ 1 → ⊥) → (unmarkedFor n s ≡ s) × (unmarkedAt n c s ≡ s)
+  pub unmark-off : (field 2 markOnAt s ≡ 1 → ⊥) → (unmarkedFor n s ≡ s) × (unmarkedAt n c s ≡ s)
   unfolding unmarkedFor unmarkedAt _&_
-  unmark-off h = (rw (ne-eqb (field 2 6 s) 1 h), rw (ne-eqb (field 2 6 s) 1 h))
+  unmark-off h = (rw (ne-eqb (field 2 markOnAt s) 1 h), rw (ne-eqb (field 2 markOnAt s) 1 h))
 
-  pub unmark-other : field 2 6 s ≡ 1 → (field 2 8 s ≡ n → ⊥) → (unmarkedFor n s ≡ s) × (unmarkedAt n c s ≡ s)
+  pub unmark-other : field 2 markOnAt s ≡ 1 → (field 2 markFontAt s ≡ n → ⊥) → (unmarkedFor n s ≡ s) × (unmarkedAt n c s ≡ s)
   unfolding unmarkedFor unmarkedAt _&_
-  unmark-other e h = (rw (eq-eqb (field 2 6 s) 1 e, ne-eqb (field 2 8 s) n h), rw (eq-eqb (field 2 6 s) 1 e, ne-eqb (field 2 8 s) n h))
+  unmark-other e h = (rw (eq-eqb (field 2 markOnAt s) 1 e, ne-eqb (field 2 markFontAt s) n h), rw (eq-eqb (field 2 markOnAt s) 1 e, ne-eqb (field 2 markFontAt s) n h))
 
-  pub unmark-font : field 2 6 s ≡ 1 → field 2 8 s ≡ n → unmarkedFor n s ≡ remarked shut s
+  pub unmark-font : field 2 markOnAt s ≡ 1 → field 2 markFontAt s ≡ n → unmarkedFor n s ≡ remarked shut s
   unfolding unmarkedFor _&_
-  unmark-font e h = rw (eq-eqb (field 2 6 s) 1 e, eq-eqb (field 2 8 s) n h)
+  unmark-font e h = rw (eq-eqb (field 2 markOnAt s) 1 e, eq-eqb (field 2 markFontAt s) n h)
 
-  pub unmark-code : field 2 6 s ≡ 1 → field 2 8 s ≡ n → (field 2 10 s ≡ c → ⊥) → unmarkedAt n c s ≡ s
+  pub unmark-code : field 2 markOnAt s ≡ 1 → field 2 markFontAt s ≡ n → (field 2 markCodeAt s ≡ c → ⊥) → unmarkedAt n c s ≡ s
   unfolding unmarkedAt _&_
-  unmark-code e h k = rw (eq-eqb (field 2 6 s) 1 e, eq-eqb (field 2 8 s) n h, ne-eqb (field 2 10 s) c k)
+  unmark-code e h k = rw (eq-eqb (field 2 markOnAt s) 1 e, eq-eqb (field 2 markFontAt s) n h, ne-eqb (field 2 markCodeAt s) c k)
 
-  pub unmark-char : field 2 6 s ≡ 1 → field 2 8 s ≡ n → field 2 10 s ≡ c → unmarkedAt n c s ≡ remarked shut s
+  pub unmark-char : field 2 markOnAt s ≡ 1 → field 2 markFontAt s ≡ n → field 2 markCodeAt s ≡ c → unmarkedAt n c s ≡ remarked shut s
   unfolding unmarkedAt _&_
-  unmark-char e h k = rw (eq-eqb (field 2 6 s) 1 e, eq-eqb (field 2 8 s) n h, eq-eqb (field 2 10 s) c k)
+  unmark-char e h k = rw (eq-eqb (field 2 markOnAt s) 1 e, eq-eqb (field 2 markFontAt s) n h, eq-eqb (field 2 markCodeAt s) c k)

@@ -6,7 +6,7 @@ use native.Mathlib.Omega.{arith}
 use native.Mathlib.Numerals.{add-one}
 use lib.ListN.{length, getD, take, drop, set, replicate, length-drop, length-append, length-replicate, getD-replicate, List·getD-append}
 use lib.Seq.{paste, paste-suc, paste-zero, length-paste-head, getD-append-add, getD-drop, getD-take, take-suc, drop-cons, set-at, length-take-le, drop-drop, take-at, drop-append-add}
-use Rattle.store.specs.Change.{moved}
+use Rattle.store.specs.Change.{splicedAt}
 
 -- what is behind a paste is as it was
 far : (d : List ℕ) (at : ℕ) (src : List ℕ) (i k : ℕ) → at ≤ length d → i ≤ length src → at + i ≤ k → getD (paste d at src i) k 0 ≡ getD d k 0
@@ -72,16 +72,16 @@ paste-end d s src at n i e a b = let q : i ≡ n = omega arith in rw q at e
 
 -- ── both moves together
 pub splice-up : (s : List ℕ) (at old used new : ℕ) → old ≤ new → at + old ≤ used → used ≤ length s
-    → paste s (at + new) (drop (at + old) s) (used - (at + old)) ≡ moved at old used new s
-unfolding moved
+    → paste s (at + new) (drop (at + old) s) (used - (at + old)) ≡ splicedAt at old used new s
+unfolding splicedAt
 splice-up s at old used new le h u =
     let a : old - new ≡ 0 = omega arith in
     let b : used + (new - old) ≡ at + new + (used - (at + old)) = omega arith in
     rw (a, b) (append-assoc (take (at + new) s) (take (used - (at + old)) (drop (at + old) s)) (drop (at + new + (used - (at + old))) s))
 
 pub splice-down : (s : List ℕ) (at old used new : ℕ) → new ≤ old → at + old ≤ used → used ≤ length s
-    → paste (paste s (at + new) (drop (at + old) s) (used - (at + old))) (at + new + (used - (at + old))) (replicate (old - new) 0) (old - new) ≡ moved at old used new s
-unfolding moved
+    → paste (paste s (at + new) (drop (at + old) s) (used - (at + old))) (at + new + (used - (at + old))) (replicate (old - new) 0) (old - new) ≡ splicedAt at old used new s
+unfolding splicedAt
 splice-down s at old used new le h u =
     let n = used - (at + old) in
     let z = old - new in

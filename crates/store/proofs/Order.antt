@@ -9,7 +9,7 @@ use borrow.Author.Tests.{ltb-true, ltb-false, le-leb, lt-ltb, le-ltb, lt-leb}
 use Rattle.store.specs.Layout.{keyOf}
 use Rattle.store.specs.Model.{Rec, font, character, Under, under, allowed, sorted, number, place, key}
 use Rattle.store.specs.Order.{keep, below, from, after}
-use Rattle.store.proofs.Records.{shaped, allowed-char}
+use Rattle.store.proofs.RecordBytes.{shaped, allowed-char}
 use Rattle.store.proofs.Codec.{Sorted, sorted-inv, sorted-cons}
 
 -- ── one record

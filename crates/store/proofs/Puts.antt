@@ -6,22 +6,22 @@ use native.Mathlib.Omega.{arith}
 use native.Mathlib.Numerals.{add-one}
 use lib.ListN.{length, getD, take, drop, set, length-append, length-take, length-drop, take-append-drop}
 use lib.Seq.{paste, paste-suc, sets-eq, take-at, drop-drop, drop-append-add, length-take-le}
-use Rattle.store.specs.Num.{le}
-use Rattle.store.specs.Change.{put}
+use Rattle.store.specs.Num.{le, wordEnd}
+use Rattle.store.specs.Change.{withBytes}
 
 pub take-whole : (b : List ℕ) → take (length b) b ≡ b
 take-whole b = ap (λ (l : List ℕ). take (length b) l) (sym (append-nil b)) ∙ take-at b [] (length b) refl
 
-pub put-paste : (s : List ℕ) (at : ℕ) (b : List ℕ) → paste s at b (length b) ≡ put s at b
-unfolding put
+pub put-paste : (s : List ℕ) (at : ℕ) (b : List ℕ) → paste s at b (length b) ≡ withBytes s at b
+unfolding withBytes
 put-paste s at b = rw (take-whole b) (append-assoc (take at s) b (drop (at + length b) s))
 
-pub length-put : (s : List ℕ) (at : ℕ) (b : List ℕ) → at + length b ≤ length s → length (put s at b) ≡ length s
-unfolding put
+pub length-put : (s : List ℕ) (at : ℕ) (b : List ℕ) → at + length b ≤ length s → length (withBytes s at b) ≡ length s
+unfolding withBytes
 length-put s at b h = simp (length-append, length-take, length-drop) (omega arith)
 
-pub put-put : (s : List ℕ) (at : ℕ) (a b : List ℕ) (i : ℕ) → i ≡ at + length a → at + length a + length b ≤ length s → put (put s at a) i b ≡ put s at (a ++ b)
-unfolding put
+pub put-put : (s : List ℕ) (at : ℕ) (a b : List ℕ) (i : ℕ) → i ≡ at + length a → at + length a + length b ≤ length s → withBytes (withBytes s at a) i b ≡ withBytes s at (a ++ b)
+unfolding withBytes
 put-put s at a b i e h =
     let P = take at s ++ a in
     let D = drop (at + length a) s in
@@ -33,8 +33,8 @@ put-put s at a b i e h =
     let m : at + length (a ++ b) ≡ at + length a + length b = omega (arith, length-append a b) in
     rw (q, t, d, m) (simp append-assoc)
 
-pub put-two : (s : List ℕ) (at v : ℕ) → at + 2 ≤ length s → v < 65536 → set (set s at (v % 256)) (at + 1) (v / 256) ≡ put s at (le 2 v)
-unfolding put le
+pub put-two : (s : List ℕ) (at v : ℕ) → at + 2 ≤ length s → v < wordEnd → set (set s at (v % 256)) (at + 1) (v / 256) ≡ withBytes s at (le 2 v)
+unfolding withBytes le
 put-two s at v h l =
     let q : v / 256 % 256 ≡ v / 256 = omega arith in
     rw (q, add-one) (sets-eq (v % 256 ∷ v / 256 ∷ []) s at h ∙ append-assoc (take at s) (v % 256 ∷ v / 256 ∷ []) (drop (at + 2) s))
@@ -42,9 +42,9 @@ put-two s at v h l =
 pub copy-turn : (d s b : List ℕ) (at i : ℕ) → s ≡ paste d at b i → i < length b → at + length b ≤ length d → set s (at + i) (getD b i 0) ≡ paste d at b (i + 1)
 copy-turn d s b at i e lt h = rw (e, add-one) (paste-suc d at b i 0 (omega arith) lt)
 
-pub copy-end : (d s b : List ℕ) (at i : ℕ) → s ≡ paste d at b i → i ≤ length b → length b ≤ i → s ≡ put d at b
+pub copy-end : (d s b : List ℕ) (at i : ℕ) → s ≡ paste d at b i → i ≤ length b → length b ≤ i → s ≡ withBytes d at b
 copy-end d s b at i e x y = let q : i ≡ length b = omega arith in (rw q at e) ∙ put-paste d at b
 
-pub put-nil : (s : List ℕ) (at : ℕ) → put s at [] ≡ s
-unfolding put
+pub put-nil : (s : List ℕ) (at : ℕ) → withBytes s at [] ≡ s
+unfolding withBytes
 put-nil s at = let e : at + 0 ≡ at = omega arith in rw e (take-append-drop at s)

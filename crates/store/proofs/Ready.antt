@@ -9,16 +9,16 @@ use lib.ListN.{length, drop, replicate}
 use lib.Seq.{drop-at}
 use lib.Dec.{ltb}
 use borrow.Author.Tests.{ltb-true, ltb-false}
-use Rattle.store.specs.Layout.{keyOf}
+use Rattle.store.specs.Layout.{keyOf, markRecord}
 use Rattle.store.specs.Num.{Bytes}
 use Rattle.store.specs.Model.{Rec, font, Store, alone, sorted, bytesOf, run, markBytes, encode, decode, total}
 use Rattle.store.specs.Order.{below, from, find}
 use Rattle.store.specs.Calls.{charactersOf}
-use Rattle.store.specs.Walk.{placesWith, placesOf, inspected, lookedUp, Stands}
+use Rattle.store.specs.Walk.{placesWith, placesOf, inspected, Stands}
 use Rattle.store.specs.declared.walk.Places.{Places}
 use Rattle.store.specs.declared.walk.Lookup.the-variants.{At, Missing}
 use Rattle.store.specs.declared.walk.Inspected.the-variants.{Found as FoundAt, NotStore}
-use Rattle.store.proofs.Records.{size-pos}
+use Rattle.store.proofs.RecordBytes.{size-pos}
 use Rattle.store.proofs.Codec.{Valid, encode-decode, length-encode, encode-parts, spare, mark-length}
 use Rattle.store.proofs.Order.{split-at}
 use Rattle.store.proofs.Totals.{total-at, length-run, length-keep, run-append}
@@ -31,7 +31,7 @@ pub record Ready (n p : ℕ) (s : List ℕ) (w : Places) : Type 0 where
   pub valid : Valid store
   pub at : w ≡ placesWith n p (w .chars) (store .recs)
   pub size : length s ≡ store .size
-  pub least : 12 ≤ w .lo
+  pub least : markRecord ≤ w .lo
   pub span : w .lo ≤ w .hi
   pub end : w .hi ≤ w .used
   pub one : w .from ≤ w .to
@@ -61,7 +61,7 @@ module _ (n p : ℕ) (s : List ℕ) where
       let m2 = below-mono (keyOf n p) (keyOf n p + 1) 0 alone rs o (omega arith) in
       let t1 = total-at (keyOf (n + 1) 0) 0 alone rs o in
       let t2 = total-at (keyOf n p + 1) 0 alone rs o in
-      let r : 12 + total rs ≤ length s = omega (arith, v .1 .room, length-run 0 alone rs o) in
+      let r : markRecord + total rs ≤ length s = omega (arith, v .1 .room, length-run 0 alone rs o) in
       rw (← i)
       (record {
         store = st;
@@ -103,17 +103,17 @@ pub stands : {n p : ℕ} {s : List ℕ} {w : Places} → Ready n p s w → Stand
 stands r = record { store = r .store; is = r .is; at = sym (r .at) }
 
 -- ── lookups
-pub looked-at : (a b x : ℕ) → lookedUp a b ≡ At x → (a < b) × (a ≡ x)
-looked-at a b x e = go (ltb a b) refl e
+pub looked-at : (a b : ℕ) (w x : Places) → cond (ltb a b) (At w) Missing ≡ At x → (a < b) × (w ≡ x)
+looked-at a b w x e = go (ltb a b) refl e
   where
-    go : (t : Bool) → ltb a b ≡ t → cond t (At a) Missing ≡ At x → (a < b) × (a ≡ x)
+    go : (t : Bool) → ltb a b ≡ t → cond t (At w) Missing ≡ At x → (a < b) × (w ≡ x)
     go true q e' = (ltb-true a b q, cc)
     go false q e' = let z : _≡_ {A = ℕ} 0 1 = cc in absurd (omega arith)
 
-pub looked-not : (a b : ℕ) → lookedUp a b ≡ Missing → b ≤ a
-looked-not a b e = go (ltb a b) refl e
+pub looked-not : (a b : ℕ) (w : Places) → cond (ltb a b) (At w) Missing ≡ Missing → b ≤ a
+looked-not a b w e = go (ltb a b) refl e
   where
-    go : (t : Bool) → ltb a b ≡ t → cond t (At a) Missing ≡ Missing → b ≤ a
+    go : (t : Bool) → ltb a b ≡ t → cond t (At w) Missing ≡ Missing → b ≤ a
     go true q e' = let z : _≡_ {A = ℕ} 0 1 = cc in absurd (omega arith)
     go false q e' = ltb-false a b q
 
@@ -153,7 +153,7 @@ record-missing k rs o l = go (find k rs) refl
     go (some r) q = let f = found k 0 alone r rs o q in absurd (omega (arith, f .size, size-pos r))
 
 -- the bytes from a key's place on start with the record that has the key
-pub record-bytes : (k : ℕ) (r : Rec) (st : Store) → Valid st → find k (st .recs) ≡ some r → (t : List ℕ) × (drop (12 + total (below k (st .recs))) (encode st) ≡ bytesOf r ++ t)
+pub record-bytes : (k : ℕ) (r : Rec) (st : Store) → Valid st → find k (st .recs) ≡ some r → (t : List ℕ) × (drop (markRecord + total (below k (st .recs))) (encode st) ≡ bytesOf r ++ t)
 unfolding run
 record-bytes k r st v q =
     let rs = st .recs in
@@ -162,5 +162,5 @@ record-bytes k r st v q =
     let M = markBytes (st .mark) in
     let Z : List ℕ = replicate (spare st) 0 in
     let e : encode st ≡ (M ++ run (below k rs)) ++ (run (from k rs) ++ Z) = encode-parts st ∙ ap (λ (l : List ℕ). M ++ (l ++ Z)) (ap run (split-at k 0 alone rs o) ∙ run-append (below k rs) (from k rs)) ∙ simp mathlib.Core.List.append-assoc in
-    let l : length (M ++ run (below k rs)) ≡ 12 + total (below k rs) = omega (arith, lib.ListN.length-append M (run (below k rs)), mark-length (st .mark), length-keep (λ x. ltb (Rattle.store.specs.Model.key x) k) 0 alone rs o) in
-    (run (from (k + 1) rs) ++ Z, rw (e, drop-at (M ++ run (below k rs)) (run (from k rs) ++ Z) (12 + total (below k rs)) l, f .rest) (mathlib.Core.List.append-assoc (bytesOf r) (run (from (k + 1) rs)) Z))
+    let l : length (M ++ run (below k rs)) ≡ markRecord + total (below k rs) = omega (arith, lib.ListN.length-append M (run (below k rs)), mark-length (st .mark), length-keep (λ x. ltb (Rattle.store.specs.Model.key x) k) 0 alone rs o) in
+    (run (from (k + 1) rs) ++ Z, rw (e, drop-at (M ++ run (below k rs)) (run (from k rs) ++ Z) (markRecord + total (below k rs)) l, f .rest) (mathlib.Core.List.append-assoc (bytesOf r) (run (from (k + 1) rs)) Z))

@@ -5,15 +5,16 @@ use mathlib.Core.Bool.{true, false}
 use mathlib.Core.Option.{none}
 use Prim.Native.Nat.{ℕ, _+_, _<_, _≤_}
 use native.Mathlib.Omega.{arith}
-use lib.ListN.{length}
 use lib.Dec.{leb}
 use borrow.Author.Tests.{leb-true}
 use Rattle.blocks.specs.Character.{characterLength, kindOf}
 use Rattle.blocks.specs.declared.character.Kind.the-variants.{First, Continuation, Unknown}
 use Rattle.blocks.proofs.Checks.{both}
-use Rattle.store.specs.Model.{font, character, decode}
+use Rattle.store.specs.Layout.{lastCode, lastFont}
+use Rattle.store.specs.Model.{decode}
 use Rattle.store.specs.Answer.{onStore, finding, numbered, refuse}
-use Rattle.store.specs.Download.{puttingFirst, puttingMore, puttingBlock, downloadingCharacter}
+use Rattle.store.specs.Download.{downloadingCharacter}
+use Rattle.store.specs.Putting.{placing, receiving, receivingFirst, puttingFirst, receivingMore, puttingMore, receivingBlock, puttingBlock}
 use Rattle.store.specs.declared.walk.Places.{Places}
 use Rattle.store.proofs.Ready.{Ready, font-there, font-missing}
 use Rattle.store.proofs.Host.{Host}
@@ -28,22 +29,22 @@ module _ (n c : ℕ) (b s : List ℕ) (w : Places) (r : Ready n (c + 1) s w) whe
   unfolding puttingBlock onStore finding
   block-no-font e l = rw (r .is, e, font-missing n (r .store .recs) (r .valid .order) (omega (arith, ap (λ (x : Places). x .lo) (r .at), ap (λ (x : Places). x .hi) (r .at))))
 
-pub block-host : (n c : ℕ) (s : List ℕ) (w : Places) → Ready n (c + 1) s w → n ≤ 32767 → c ≤ 255 → w .lo < w .hi → Host n c s w
+pub block-host : (n c : ℕ) (s : List ℕ) (w : Places) → Ready n (c + 1) s w → n ≤ lastFont → c ≤ lastCode → w .lo < w .hi → Host n c s w
 block-host n c s w r a d l =
     let f = font-there n (r .store .recs) (r .valid .order) (omega (arith, ap (λ (x : Places). x .lo) (r .at), ap (λ (x : Places). x .hi) (r .at))) in
     record { ready = r; low = a; code = d; header = f .0; font-in = f .1 }
 
 module _ (n c : ℕ) (b s : List ℕ) (w : Places) (x : Host n c s w) (e : characterLength b ≡ true) where
   pub block-unknown : kindOf b ≡ Unknown → puttingBlock n c b s ≡ refuse s 4
-  unfolding puttingBlock onStore finding
+  unfolding puttingBlock receivingBlock onStore finding
   block-unknown k = rw (x .ready .is, e, x .font-in, k)
 
   pub block-first : kindOf b ≡ First → puttingBlock n c b s ≡ puttingFirst n c b s
-  unfolding puttingBlock puttingFirst onStore finding
+  unfolding puttingBlock receivingBlock puttingFirst receivingFirst onStore finding
   block-first k = rw (x .ready .is, e, x .font-in, k)
 
   pub block-more : kindOf b ≡ Continuation → puttingBlock n c b s ≡ puttingMore n c b s
-  unfolding puttingBlock puttingMore onStore finding
+  unfolding puttingBlock receivingBlock puttingMore receivingMore onStore finding
   block-more k = rw (x .ready .is, e, x .font-in, k)
 
 -- ── the whole call
@@ -57,8 +58,8 @@ module _ (n c : ℕ) (b s : List ℕ) where
   download-range w r e = rw (r .is, e)
 
   pub download-block : (w : Places) → Ready n (c + 1) s w → numbered n c ≡ true → downloadingCharacter n c b s ≡ puttingBlock n c b s
-  unfolding downloadingCharacter onStore
+  unfolding downloadingCharacter puttingBlock receivingBlock receiving placing onStore
   download-block w r e = rw (r .is, e)
 
-pub in-range : (n c : ℕ) → numbered n c ≡ true → (n ≤ 32767) × (c ≤ 255)
-in-range n c e = let p = both (leb n 32767) (leb c 255) e in (leb-true _ _ (p .0), leb-true _ _ (p .1))
+pub in-range : (n c : ℕ) → numbered n c ≡ true → (n ≤ lastFont) × (c ≤ lastCode)
+in-range n c e = let p = both (leb n lastFont) (leb c lastCode) e in (leb-true _ _ (p .0), leb-true _ _ (p .1))

@@ -9,7 +9,7 @@ use native.Mathlib.Omega.{arith}
 use lib.Dec.{eqb}
 use borrow.Author.Tests.{le-leb, ne-eqb}
 use Rattle.blocks.specs.Header.{isKeptHeader}
-use Rattle.store.specs.Layout.{keyOf}
+use Rattle.store.specs.Layout.{keyOf, lastCode, lastFont, keysEach}
 use Rattle.store.specs.Num.{_&_}
 use Rattle.store.specs.Model.{Rec, font, character, Under, under, alone, allowed, sorted, number, place, key, unfinished, opened}
 use Rattle.store.specs.Order.{keep, below, from, find, replaced, after}
@@ -21,7 +21,7 @@ use Rattle.store.proofs.Lookup.{from-from, after-font}
 -- what replaces a font with its characters: nothing, or that font
 pub data NewFont (n : ℕ) : List Rec → Type 0 where
   no-font : NewFont n []
-  new-font : (h : List ℕ) → n ≤ 32767 → isKeptHeader h ≡ true → NewFont n (font n h ∷ [])
+  new-font : (h : List ℕ) → n ≤ lastFont → isKeptHeader h ≡ true → NewFont n (font n h ∷ [])
 
 -- what replaces a character of the font with header h: nothing, or that character
 pub data NewChar (n c : ℕ) (h : List ℕ) : List Rec → Type 0 where
@@ -45,7 +45,7 @@ module _ (rs : List Rec) (e : sorted 0 alone rs ≡ true) where
           (record {
             ok = both _ _ (le-leb _ _ l) k;
             least = omega arith;
-            rest = weaken (keyOf (n + 1) 0) (n * 257 + 0 + 1) (under v (font n h)) (from (keyOf (n + 1) 0) rs) (any (under v (font n h))) (omega arith);
+            rest = weaken (keyOf (n + 1) 0) (n * keysEach + 0 + 1) (under v (font n h)) (from (keyOf (n + 1) 0) rs) (any (under v (font n h))) (omega arith);
           })
 
   pub font-replaced : (n : ℕ) (new : List Rec) → NewFont n new → sorted 0 alone (replaced (keyOf n 0) (keyOf (n + 1) 0) new rs) ≡ true
@@ -58,7 +58,7 @@ module _ (rs : List Rec) (e : sorted 0 alone rs ≡ true) where
   char-new n c h new (new-char k d a) s =
       sorted-cons (keyOf n (c + 1)) (under alone (font n h)) (character n c k d) (from (keyOf n (c + 1) + 1) rs) (record { ok = a; least = omega arith; rest = s })
 
-  pub char-replaced : (n c : ℕ) (h : List ℕ) (new : List Rec) → c ≤ 255 → find (keyOf n 0) rs ≡ some (font n h) → NewChar n c h new
+  pub char-replaced : (n c : ℕ) (h : List ℕ) (new : List Rec) → c ≤ lastCode → find (keyOf n 0) rs ≡ some (font n h) → NewChar n c h new
       → sorted 0 alone (replaced (keyOf n (c + 1)) (keyOf n (c + 1) + 1) new rs) ≡ true
   char-replaced n c h new l f w =
       let lo = keyOf n (c + 1) in

@@ -9,7 +9,7 @@ use lib.ListN.{length}
 use lib.Dec.{leb}
 use borrow.Author.Tests.{le-leb, lt-leb, leb-true}
 use Rattle.blocks.proofs.Checks.{both}
-use Rattle.store.specs.Layout.{keyOf}
+use Rattle.store.specs.Layout.{keyOf, lastCode, lastFont}
 use Rattle.store.specs.Num.{Bytes}
 use Rattle.store.specs.Model.{Rec, font, character, Store, alone, decode}
 use Rattle.store.specs.Order.{find}
@@ -29,20 +29,20 @@ module _ (n : ℕ) (s : List ℕ) where
   font-not e = rw e
 
   module _ (w : Places) (r : Ready n 0 s w) where
-    pub font-range : 32767 < n → soughtFont n s ≡ Refused 2
+    pub font-range : lastFont < n → soughtFont n s ≡ Refused 2
     unfolding soughtFont onFont onStore
-    font-range l = rw (r .is, lt-leb n 32767 l)
+    font-range l = rw (r .is, lt-leb n lastFont l)
 
-    pub font-none : n ≤ 32767 → w .hi ≤ w .lo → soughtFont n s ≡ Refused 6
+    pub font-none : n ≤ lastFont → w .hi ≤ w .lo → soughtFont n s ≡ Refused 6
     unfolding soughtFont onFont onStore finding
     font-none l e =
-        rw (r .is, le-leb n 32767 l, font-missing n (r .store .recs) (r .valid .order) (omega (arith, ap (λ (x : Places). x .lo) (r .at), ap (λ (x : Places). x .hi) (r .at))))
+        rw (r .is, le-leb n lastFont l, font-missing n (r .store .recs) (r .valid .order) (omega (arith, ap (λ (x : Places). x .lo) (r .at), ap (λ (x : Places). x .hi) (r .at))))
 
-    pub font-here : n ≤ 32767 → w .lo < w .hi → inspected n 0 (decode s) ≡ FoundAt w → soughtFont n s ≡ Here w
+    pub font-here : n ≤ lastFont → w .lo < w .hi → inspected n 0 (decode s) ≡ FoundAt w → soughtFont n s ≡ Here w
     unfolding soughtFont onFont onStore finding
     font-here l e i =
         let f = font-there n (r .store .recs) (r .valid .order) (omega (arith, ap (λ (x : Places). x .lo) (r .at), ap (λ (x : Places). x .hi) (r .at))) in
-        rw (r .is, le-leb n 32767 l, f .1, found-places n 0 s w r i)
+        rw (r .is, le-leb n lastFont l, f .1, found-places n 0 s w r i)
 
 module _ (n c : ℕ) (s : List ℕ) where
   pub char-not : decode s ≡ none → soughtCharacter n c s ≡ Refused 1
@@ -88,20 +88,20 @@ font-refused refuse n k s f e = go (decode s) e
     range st false e' = let i : 2 ≡ k = cc in ap refuse i
 
     go : (o : Option Store)
-        → onStore Refused o (λ st. checked Refused (leb n 32767) 2 (finding Refused (find (keyOf n 0) (st .recs)) 6 (λ r. Here (placesOf n 0 (st .recs))))) ≡ Refused k
-        → onStore refuse o (λ st. checked refuse (leb n 32767) 2 (finding refuse (find (keyOf n 0) (st .recs)) 6 (f st))) ≡ refuse k
+        → onStore Refused o (λ st. checked Refused (leb n lastFont) 2 (finding Refused (find (keyOf n 0) (st .recs)) 6 (λ r. Here (placesOf n 0 (st .recs))))) ≡ Refused k
+        → onStore refuse o (λ st. checked refuse (leb n lastFont) 2 (finding refuse (find (keyOf n 0) (st .recs)) 6 (f st))) ≡ refuse k
     go none e' = let i : 1 ≡ k = cc in ap refuse i
-    go (some st) e' = range st (leb n 32767) e'
+    go (some st) e' = range st (leb n lastFont) e'
 
 -- a font that is there
 pub record KeptFont (n p : ℕ) (s : List ℕ) (w : Places) : Type 0 where
   pub ready : Ready n p s w
-  pub low : n ≤ 32767
+  pub low : n ≤ lastFont
   pub header : List ℕ
   pub there : find (keyOf n 0) (ready .store .recs) ≡ some (font n header)
 
 module _ (n : ℕ) (s : List ℕ) (w : Places) where
-  font-of : (r : Ready n 0 s w) → n ≤ 32767 → (q : Rec) → find (keyOf n 0) (r .store .recs) ≡ some q → KeptFont n 0 s w
+  font-of : (r : Ready n 0 s w) → n ≤ lastFont → (q : Rec) → find (keyOf n 0) (r .store .recs) ≡ some q → KeptFont n 0 s w
   font-of r l q e =
       let f = found (keyOf n 0) 0 alone q (r .store .recs) (r .valid .order) e in
       let x = font-at n _ q (f .ok) (f .is) in
@@ -111,7 +111,7 @@ module _ (n : ℕ) (s : List ℕ) (w : Places) where
   unfolding soughtFont onFont onStore finding
   font-sought B e = go (decode s) refl e
     where
-      seek : (st : Store) → decode s ≡ some st → n ≤ 32767 → (o : Option Rec) → find (keyOf n 0) (st .recs) ≡ o → finding Refused o 6 (λ r. Here (placesOf n 0 (st .recs))) ≡ Here w → KeptFont n 0 s w
+      seek : (st : Store) → decode s ≡ some st → n ≤ lastFont → (o : Option Rec) → find (keyOf n 0) (st .recs) ≡ o → finding Refused o 6 (λ r. Here (placesOf n 0 (st .recs))) ≡ Here w → KeptFont n 0 s w
       seek st d l none q e' = let z : _≡_ {A = ℕ} 0 1 = cc in absurd (omega arith)
       seek st d l (some x) q e' =
           let w' : placesOf n 0 (st .recs) ≡ w = cc in
@@ -119,17 +119,17 @@ module _ (n : ℕ) (s : List ℕ) (w : Places) where
           let i : st ≡ r .store = same-store s d (r .is) in
           font-of r l x (rw i at q)
 
-      range : (st : Store) → decode s ≡ some st → (b : Bool) → leb n 32767 ≡ b → checked Refused b 2 (finding Refused (find (keyOf n 0) (st .recs)) 6 (λ r. Here (placesOf n 0 (st .recs)))) ≡ Here w → KeptFont n 0 s w
+      range : (st : Store) → decode s ≡ some st → (b : Bool) → leb n lastFont ≡ b → checked Refused b 2 (finding Refused (find (keyOf n 0) (st .recs)) 6 (λ r. Here (placesOf n 0 (st .recs)))) ≡ Here w → KeptFont n 0 s w
       range st d true q e' = seek st d (leb-true _ _ q) (find (keyOf n 0) (st .recs)) refl e'
       range st d false q e' = let z : _≡_ {A = ℕ} 0 1 = cc in absurd (omega arith)
 
-      go : (o : Option Store) → decode s ≡ o → onStore Refused o (λ st. checked Refused (leb n 32767) 2 (finding Refused (find (keyOf n 0) (st .recs)) 6 (λ r. Here (placesOf n 0 (st .recs))))) ≡ Here w → KeptFont n 0 s w
+      go : (o : Option Store) → decode s ≡ o → onStore Refused o (λ st. checked Refused (leb n lastFont) 2 (finding Refused (find (keyOf n 0) (st .recs)) 6 (λ r. Here (placesOf n 0 (st .recs))))) ≡ Here w → KeptFont n 0 s w
       go none d e' = let z : _≡_ {A = ℕ} 0 1 = cc in absurd (omega arith)
-      go (some st) d e' = range st d (leb n 32767) refl e'
+      go (some st) d e' = range st d (leb n lastFont) refl e'
 
   pub font-call : {A : Type 0} (refuse : ℕ → A) (f : Store → Rec → A) (x : KeptFont n 0 s w) → onFont refuse n s f ≡ f (x .ready .store) (font n (x .header))
   unfolding onFont onStore finding
-  font-call refuse f x = rw (x .ready .is, le-leb n 32767 (x .low), x .there)
+  font-call refuse f x = rw (x .ready .is, le-leb n lastFont (x .low), x .there)
 
   -- and its characters are counted
   pub font-counted : soughtFont n s ≡ Here w → (x : KeptFont n 0 s w) → w .chars ≡ length (charactersOf n (x .ready .store .recs))
@@ -165,8 +165,8 @@ char-refused refuse n c k s f e = go (decode s) e
 -- a character that is there
 pub record KeptChar (n c : ℕ) (s : List ℕ) (w : Places) : Type 0 where
   pub ready : Ready n (c + 1) s w
-  pub low : n ≤ 32767
-  pub code : c ≤ 255
+  pub low : n ≤ lastFont
+  pub code : c ≤ lastCode
   pub header : List ℕ
   pub font-there : find (keyOf n 0) (ready .store .recs) ≡ some (font n header)
   pub kept : List ℕ
@@ -174,7 +174,7 @@ pub record KeptChar (n c : ℕ) (s : List ℕ) (w : Places) : Type 0 where
   pub there : find (keyOf n (c + 1)) (ready .store .recs) ≡ some (character n c kept bytes)
 
 module _ (n c : ℕ) (s : List ℕ) (w : Places) where
-  char-of : (r : Ready n (c + 1) s w) → n ≤ 32767 → c ≤ 255 → (p q : Rec) → find (keyOf n 0) (r .store .recs) ≡ some p → find (keyOf n (c + 1)) (r .store .recs) ≡ some q → KeptChar n c s w
+  char-of : (r : Ready n (c + 1) s w) → n ≤ lastFont → c ≤ lastCode → (p q : Rec) → find (keyOf n 0) (r .store .recs) ≡ some p → find (keyOf n (c + 1)) (r .store .recs) ≡ some q → KeptChar n c s w
   char-of r l m p q d e =
       let g = found (keyOf n 0) 0 alone p (r .store .recs) (r .valid .order) d in
       let y = font-at n _ p (g .ok) (g .is) in
@@ -186,7 +186,7 @@ module _ (n c : ℕ) (s : List ℕ) (w : Places) where
   unfolding soughtCharacter onCharacter onStore finding
   char-sought B e = go (decode s) refl e
     where
-      one : (st : Store) → decode s ≡ some st → (leb n 32767 ≡ true) × (leb c 255 ≡ true) → (p : Rec) → find (keyOf n 0) (st .recs) ≡ some p → (o : Option Rec) → find (keyOf n (c + 1)) (st .recs) ≡ o
+      one : (st : Store) → decode s ≡ some st → (leb n lastFont ≡ true) × (leb c lastCode ≡ true) → (p : Rec) → find (keyOf n 0) (st .recs) ≡ some p → (o : Option Rec) → find (keyOf n (c + 1)) (st .recs) ≡ o
           → finding Refused o 7 (λ r. Here (placesOf n (c + 1) (st .recs))) ≡ Here w → KeptChar n c s w
       one st d l p a none q e' = let z : _≡_ {A = ℕ} 0 1 = cc in absurd (omega arith)
       one st d l p a (some x) q e' =
@@ -195,14 +195,14 @@ module _ (n c : ℕ) (s : List ℕ) (w : Places) where
           let i : st ≡ r .store = same-store s d (r .is) in
           char-of r (leb-true _ _ (l .0)) (leb-true _ _ (l .1)) p x (rw i at a) (rw i at q)
 
-      seek : (st : Store) → decode s ≡ some st → (leb n 32767 ≡ true) × (leb c 255 ≡ true) → (o : Option Rec) → find (keyOf n 0) (st .recs) ≡ o
+      seek : (st : Store) → decode s ≡ some st → (leb n lastFont ≡ true) × (leb c lastCode ≡ true) → (o : Option Rec) → find (keyOf n 0) (st .recs) ≡ o
           → finding Refused o 6 (λ r. finding Refused (find (keyOf n (c + 1)) (st .recs)) 7 (λ q. Here (placesOf n (c + 1) (st .recs)))) ≡ Here w → KeptChar n c s w
       seek st d l none q e' = let z : _≡_ {A = ℕ} 0 1 = cc in absurd (omega arith)
       seek st d l (some x) q e' = one st d l x q (find (keyOf n (c + 1)) (st .recs)) refl e'
 
       range : (st : Store) → decode s ≡ some st → (b : Bool) → numbered n c ≡ b
           → checked Refused b 2 (finding Refused (find (keyOf n 0) (st .recs)) 6 (λ r. finding Refused (find (keyOf n (c + 1)) (st .recs)) 7 (λ q. Here (placesOf n (c + 1) (st .recs))))) ≡ Here w → KeptChar n c s w
-      range st d true q e' = seek st d (both (leb n 32767) (leb c 255) q) (find (keyOf n 0) (st .recs)) refl e'
+      range st d true q e' = seek st d (both (leb n lastFont) (leb c lastCode) q) (find (keyOf n 0) (st .recs)) refl e'
       range st d false q e' = let z : _≡_ {A = ℕ} 0 1 = cc in absurd (omega arith)
 
       go : (o : Option Store) → decode s ≡ o
@@ -212,4 +212,4 @@ module _ (n c : ℕ) (s : List ℕ) (w : Places) where
 
   pub char-call : {A : Type 0} (refuse : ℕ → A) (f : Store → Rec → A) (x : KeptChar n c s w) → onCharacter refuse n c s f ≡ f (x .ready .store) (character n c (x .kept) (x .bytes))
   unfolding onCharacter onStore finding
-  char-call refuse f x = rw (x .ready .is, le-leb n 32767 (x .low), le-leb c 255 (x .code), x .font-there, x .there)
+  char-call refuse f x = rw (x .ready .is, le-leb n lastFont (x .low), le-leb c lastCode (x .code), x .font-there, x .there)

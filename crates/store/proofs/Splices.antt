@@ -7,9 +7,10 @@ use native.Mathlib.Omega.{arith}
 use lib.Dec.{ltb}
 use lib.ListN.{length, take, drop, replicate, length-append, length-replicate, replicate-append-replicate}
 use lib.Seq.{paste, take-at, drop-at, drop-drop, take-take, drop-append-add, take-append-le, length-take-le}
+use Rattle.store.specs.Layout.{markRecord}
 use Rattle.store.specs.Model.{Rec, alone, sorted, key, run, total}
 use Rattle.store.specs.Order.{below, from, replaced}
-use Rattle.store.specs.Change.{moved, put}
+use Rattle.store.specs.Change.{splicedAt, withBytes}
 use Rattle.store.proofs.Puts.{put-paste}
 use Rattle.store.proofs.Order.{split-at}
 use Rattle.store.proofs.Lookup.{below-mono}
@@ -17,8 +18,8 @@ use Rattle.store.proofs.Totals.{run-append, length-run, length-keep}
 
 -- ── the law of splice: at a place where S falls apart
 module _ (S A R A2 C Z : List ℕ) (at old used new : ℕ) (a : S ≡ A ++ R) (la : length A ≡ at) (b : S ≡ A2 ++ (C ++ Z)) (lb : length A2 ≡ at + old) (lc : at + old + length C ≡ used) where
-  moved-cut : moved at old used new S ≡ take (at + new) S ++ (C ++ (replicate (old - new) 0 ++ drop (new - old) Z))
-  unfolding moved
+  moved-cut : splicedAt at old used new S ≡ take (at + new) S ++ (C ++ (replicate (old - new) 0 ++ drop (new - old) Z))
+  unfolding splicedAt
   moved-cut =
       let d1 : drop (at + old) S ≡ C ++ Z = rw b (drop-at A2 (C ++ Z) (at + old) lb) in
       let n1 : used - (at + old) ≡ length C = omega arith in
@@ -28,7 +29,7 @@ module _ (S A R A2 C Z : List ℕ) (at old used new : ℕ) (a : S ≡ A ++ R) (l
       rw (d3, n1, d1, d2)
 
   -- the new bytes put in their place
-  spliced : (blk : List ℕ) → length blk ≡ new → at + new ≤ length S → paste (moved at old used new S) at blk new ≡ A ++ (blk ++ (C ++ (replicate (old - new) 0 ++ drop (new - old) Z)))
+  spliced : (blk : List ℕ) → length blk ≡ new → at + new ≤ length S → paste (splicedAt at old used new S) at blk new ≡ A ++ (blk ++ (C ++ (replicate (old - new) 0 ++ drop (new - old) Z)))
   spliced blk e h =
       let Y = C ++ (replicate (old - new) 0 ++ drop (new - old) Z) in
       let l : length (take (at + new) S) ≡ at + new = length-take-le (at + new) S h in
@@ -42,10 +43,10 @@ drop-replicate zero n a = let e : n ≡ n - 0 = omega arith in ap (λ (m : ℕ).
 drop-replicate (suc k) zero a = let e : 0 ≡ 0 - suc k = omega arith in ap (λ (m : ℕ). replicate m a) e
 drop-replicate (suc k) (suc n) a = let e : n - k ≡ suc n - suc k = omega arith in drop-replicate k n a ∙ ap (λ (m : ℕ). replicate m a) e
 
-module _ (lo hi z : ℕ) (M : List ℕ) (new rs : List Rec) (e : sorted 0 alone rs ≡ true) (m : lo ≤ hi) (lm : length M ≡ 12) (b : ℕ) (lb : length (run new) ≡ b) where
-  pub replace-bytes : b ≤ 12 + total (below hi rs) - (12 + total (below lo rs)) + z
-      → put (moved (12 + total (below lo rs)) (12 + total (below hi rs) - (12 + total (below lo rs))) (12 + total rs) b (M ++ (run rs ++ replicate z 0))) (12 + total (below lo rs)) (run new)
-      ≡ M ++ (run (replaced lo hi new rs) ++ replicate (12 + total (below hi rs) - (12 + total (below lo rs)) + z - b) 0)
+module _ (lo hi z : ℕ) (M : List ℕ) (new rs : List Rec) (e : sorted 0 alone rs ≡ true) (m : lo ≤ hi) (lm : length M ≡ markRecord) (b : ℕ) (lb : length (run new) ≡ b) where
+  pub replace-bytes : b ≤ markRecord + total (below hi rs) - (markRecord + total (below lo rs)) + z
+      → withBytes (splicedAt (markRecord + total (below lo rs)) (markRecord + total (below hi rs) - (markRecord + total (below lo rs))) (markRecord + total rs) b (M ++ (run rs ++ replicate z 0))) (markRecord + total (below lo rs)) (run new)
+      ≡ M ++ (run (replaced lo hi new rs) ++ replicate (markRecord + total (below hi rs) - (markRecord + total (below lo rs)) + z - b) 0)
   replace-bytes room =
       let L = below lo rs in
       let H = below hi rs in
@@ -53,9 +54,9 @@ module _ (lo hi z : ℕ) (M : List ℕ) (new rs : List Rec) (e : sorted 0 alone 
       let W = from hi rs in
       let Z : List ℕ = replicate z 0 in
       let S = M ++ (run rs ++ Z) in
-      let at = 12 + total L in
-      let old = 12 + total H - (12 + total L) in
-      let used = 12 + total rs in
+      let at = markRecord + total L in
+      let old = markRecord + total H - (markRecord + total L) in
+      let used = markRecord + total rs in
       let mono = below-mono lo hi 0 alone rs e m in
       let ll : length (run L) ≡ total L = length-keep (λ r. ltb (key r) lo) 0 alone rs e in
       let lh : length (run H) ≡ total H = length-keep (λ r. ltb (key r) hi) 0 alone rs e in
@@ -69,10 +70,10 @@ module _ (lo hi z : ℕ) (M : List ℕ) (new rs : List Rec) (e : sorted 0 alone 
       let l2 : length (M ++ run H) ≡ at + old = omega (arith, length-append M (run H)) in
       let l3 : at + old + length (run W) ≡ used = omega (arith, ap length rh, length-append (run H) (run W)) in
       let ls : length S ≡ used + z = omega (arith, length-append M (run rs ++ Z), length-append (run rs) Z) in
-      let s : paste (moved at old used b S) at (run new) b ≡ (M ++ run L) ++ (run new ++ (run W ++ (replicate (old - b) 0 ++ drop (b - old) Z))) =
+      let s : paste (splicedAt at old used b S) at (run new) b ≡ (M ++ run L) ++ (run new ++ (run W ++ (replicate (old - b) 0 ++ drop (b - old) Z))) =
       spliced S (M ++ run L) (run U ++ Z) (M ++ run H) (run W) Z at old used b e1 l1 e2 l2 l3 (run new) lb (omega arith) in
-      let p : put (moved at old used b S) at (run new) ≡ paste (moved at old used b S) at (run new) b =
-      sym (put-paste (moved at old used b S) at (run new)) ∙ ap (λ (k : ℕ). paste (moved at old used b S) at (run new) k) lb in
+      let p : withBytes (splicedAt at old used b S) at (run new) ≡ paste (splicedAt at old used b S) at (run new) b =
+      sym (put-paste (splicedAt at old used b S) at (run new)) ∙ ap (λ (k : ℕ). paste (splicedAt at old used b S) at (run new) k) lb in
       let zs : (old - b) + (z - (b - old)) ≡ old + z - b = omega arith in
       let zz : replicate (old - b) 0 ++ drop (b - old) Z ≡ replicate (old + z - b) 0 =
       ap (λ (l : List ℕ). replicate (old - b) 0 ++ l) (drop-replicate (b - old) z 0) ∙ replicate-append-replicate {A = ℕ} (old - b) (z - (b - old)) 0 ∙ ap (λ (k : ℕ). replicate k 0) zs in

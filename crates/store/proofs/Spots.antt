@@ -1,19 +1,20 @@
 -- The bytes of a kept font and of a kept character at their places. Assumes nothing.
-use mathlib.Core.Path.{_≡_, refl, sym, ap, _∙_}
-use mathlib.Core.List.{List, [], _∷_, _++_, append-assoc}
+use mathlib.Core.Path.{_≡_, sym, ap, _∙_}
+use mathlib.Core.List.{List, [], _∷_, _++_}
 use mathlib.Core.Bool.{Bool, true, false, cond}
 use Prim.Native.Nat.{ℕ, _+_, _-_, _≤_}
 use native.Mathlib.Omega.{arith}
 use lib.ListN.{length, take, drop}
-use lib.Seq.{take-at, drop-at, drop-drop}
-use Rattle.store.specs.Layout.{keyOf}
-use Rattle.store.specs.Num.{le}
+use lib.Seq.{drop-drop}
+use Rattle.blocks.specs.Header.{headerBytes}
+use Rattle.blocks.specs.Character.{dataLimit, descriptorBytes}
+use Rattle.store.specs.Layout.{keyOf, characterKeptAt, characterRecord, fontKeptAt, fontRecord, lastCode, lastFont, markRecord, mostStore}
 use Rattle.store.specs.Model.{Rec, font, character, alone, bytesOf, sizeOf, total}
 use Rattle.store.specs.Order.{keep, below, after}
-use Rattle.store.specs.Change.{put}
+use Rattle.store.specs.Change.{withBytes}
 use Rattle.store.specs.Calls.{charactersOf, onto}
 use Rattle.store.specs.declared.walk.Places.{Places}
-use Rattle.store.proofs.Records.{size-pos, shaped}
+use Rattle.store.proofs.RecordBytes.{size-pos, shaped, font-kept-in, character-kept-in, character-data-in}
 use Rattle.store.proofs.Lookup.{Found, found, below-mono}
 use Rattle.store.proofs.Ready.{Ready, record-bytes}
 use Rattle.store.proofs.Seeks.{KeptFont, KeptChar}
@@ -28,7 +29,7 @@ count-keep t (r ∷ rs) = go (t r) (count-keep t rs)
     go true ih = omega (arith, size-pos r)
     go false ih = omega arith
 
-pub chars-few : (n p : ℕ) (s : List ℕ) (w : Places) (r : Ready n p s w) → w .chars ≡ length (charactersOf n (r .store .recs)) → w .chars ≤ 65536
+pub chars-few : (n p : ℕ) (s : List ℕ) (w : Places) (r : Ready n p s w) → w .chars ≡ length (charactersOf n (r .store .recs)) → w .chars ≤ mostStore
 unfolding charactersOf
 chars-few n p s w r e =
     let few : length (charactersOf n (r .store .recs)) ≤ total (r .store .recs) = count-keep _ (r .store .recs) in
@@ -39,26 +40,24 @@ module _ (n p : ℕ) (s : List ℕ) (w : Places) (x : KeptFont n p s w) where
   font-found : Found (keyOf n 0) alone (font n (x .header)) (x .ready .store .recs)
   font-found = found (keyOf n 0) 0 alone (font n (x .header)) (x .ready .store .recs) (x .ready .valid .order) (x .there)
 
-  font-shape : (length (x .header) ≡ 64) × (n ≤ 32767)
+  font-shape : (length (x .header) ≡ headerBytes) × (n ≤ lastFont)
   font-shape = shaped (after alone (below (keyOf n 0) (x .ready .store .recs))) (font n (x .header)) (font-found .ok)
 
-  pub font-span : w .lo + 72 ≤ w .hi
+  pub font-span : w .lo + fontRecord ≤ w .hi
   unfolding sizeOf
   font-span =
       let r = x .ready in
       omega (arith, ap (λ (y : Places). y .lo) (r .at), ap (λ (y : Places). y .hi) (r .at), font-found .size, below-mono (keyOf n 0 + 1) (keyOf (n + 1) 0) 0 alone (r .store .recs) (r .valid .order) (omega arith))
 
-  pub font-kept : take 64 (drop (w .lo + 8) s) ≡ x .header
-  unfolding bytesOf le
+  pub font-kept : take headerBytes (drop (w .lo + fontKeptAt) s) ≡ x .header
   font-kept =
       let r = x .ready in
       let b = record-bytes (keyOf n 0) (font n (x .header)) (r .store) (r .valid) (x .there) in
-      let lo : w .lo ≡ 12 + total (below (keyOf n 0) (r .store .recs)) = ap (λ (y : Places). y .lo) (r .at) in
+      let lo : w .lo ≡ markRecord + total (below (keyOf n 0) (r .store .recs)) = ap (λ (y : Places). y .lo) (r .at) in
       let e : drop (w .lo) s ≡ bytesOf (font n (x .header)) ++ b .0 = rw (lo, r .bytes) (b .1) in
-      let d : drop (w .lo + 8) s ≡ x .header ++ b .0 = sym (drop-drop 8 (w .lo) s) ∙ ap (drop 8) e in
-      rw d (take-at (x .header) (b .0) 64 (font-shape .0))
+      ap (take headerBytes) (sym (drop-drop fontKeptAt (w .lo) s) ∙ ap (drop fontKeptAt) e) ∙ font-kept-in n (x .header) (b .0) (font-shape .0)
 
-  pub header-length : length (x .header) ≡ 64
+  pub header-length : length (x .header) ≡ headerBytes
   header-length = font-shape .0
 
 -- ── a character
@@ -66,10 +65,10 @@ module _ (n c : ℕ) (s : List ℕ) (w : Places) (x : KeptChar n c s w) where
   pub char-found : Found (keyOf n (c + 1)) alone (character n c (x .kept) (x .bytes)) (x .ready .store .recs)
   char-found = found (keyOf n (c + 1)) 0 alone (character n c (x .kept) (x .bytes)) (x .ready .store .recs) (x .ready .valid .order) (x .there)
 
-  pub char-shape : (length (x .kept) ≡ 16) × (length (x .bytes) ≤ 32768) × (n ≤ 32767) × (c ≤ 255)
+  pub char-shape : (length (x .kept) ≡ descriptorBytes) × (length (x .bytes) ≤ dataLimit) × (n ≤ lastFont) × (c ≤ lastCode)
   char-shape = shaped (after alone (below (keyOf n (c + 1)) (x .ready .store .recs))) (character n c (x .kept) (x .bytes)) (char-found .ok)
 
-  pub char-span : w .to ≡ w .from + 26 + length (x .bytes)
+  pub char-span : w .to ≡ w .from + characterRecord + length (x .bytes)
   unfolding sizeOf
   char-span = let r = x .ready in omega (arith, ap (λ (y : Places). y .from) (r .at), ap (λ (y : Places). y .to) (r .at), char-found .size)
 
@@ -77,22 +76,18 @@ module _ (n c : ℕ) (s : List ℕ) (w : Places) (x : KeptChar n c s w) where
   char-drop k =
       let r = x .ready in
       let b = record-bytes (keyOf n (c + 1)) (character n c (x .kept) (x .bytes)) (r .store) (r .valid) (x .there) in
-      let fr : w .from ≡ 12 + total (below (keyOf n (c + 1)) (r .store .recs)) = ap (λ (y : Places). y .from) (r .at) in
+      let fr : w .from ≡ markRecord + total (below (keyOf n (c + 1)) (r .store .recs)) = ap (λ (y : Places). y .from) (r .at) in
       let e : drop (w .from) s ≡ bytesOf (character n c (x .kept) (x .bytes)) ++ b .0 = rw (fr, r .bytes) (b .1) in
       (b .0, sym (drop-drop k (w .from) s) ∙ ap (drop k) e)
 
-  pub char-kept : take 16 (drop (w .from + 10) s) ≡ x .kept
-  unfolding bytesOf le
-  char-kept = let d = char-drop 10 in rw (d .1, append-assoc (x .kept) (x .bytes) (d .0)) (take-at (x .kept) (x .bytes ++ d .0) 16 (char-shape .0))
+  pub char-kept : take descriptorBytes (drop (w .from + characterKeptAt) s) ≡ x .kept
+  char-kept = let d = char-drop characterKeptAt in ap (take descriptorBytes) (d .1) ∙ character-kept-in n c (x .kept) (x .bytes) (d .0) (char-shape .0)
 
-  pub char-bytes : take (length (x .bytes)) (drop (w .from + 26) s) ≡ x .bytes
-  unfolding bytesOf le
-  char-bytes =
-      let d = char-drop 26 in
-      rw (d .1, append-assoc (x .kept) (x .bytes) (d .0), drop-at (x .kept) (x .bytes ++ d .0) 16 (char-shape .0)) (take-at (x .bytes) (d .0) (length (x .bytes)) refl)
+  pub char-bytes : take (length (x .bytes)) (drop (w .from + characterRecord) s) ≡ x .bytes
+  char-bytes = let d = char-drop characterRecord in ap (take (length (x .bytes))) (d .1) ∙ character-data-in n c (x .kept) (x .bytes) (d .0) (char-shape .0)
 
 -- ── telling
 -- bytes copied to the front of an output
-pub front : (b out : List ℕ) → put out 0 b ≡ onto b out
-unfolding put
+pub front : (b out : List ℕ) → withBytes out 0 b ≡ onto b out
+unfolding withBytes
 front b out = let e : 0 + length b ≡ length b = omega arith in rw e

@@ -7,7 +7,7 @@ use native.Mathlib.Omega.{arith}
 use lib.ListN.{length, length-append}
 use Rattle.store.specs.Model.{Rec, Under, under, sorted, key, bytesOf, run, total}
 use Rattle.store.specs.Order.{keep, below, from}
-use Rattle.store.proofs.Records.{shaped}
+use Rattle.store.proofs.RecordBytes.{shaped}
 use Rattle.store.proofs.Codec.{sorted-inv, size-bytes}
 use Rattle.store.proofs.Order.{split-at}
 

@@ -10,12 +10,12 @@ use lib.ListN.{length, take, drop, length-drop, length-take}
 use lib.Seq.{drop-drop}
 use lib.Dec.{eqb, leb, ltb}
 use borrow.Author.Tests.{eqb-true, ltb-true, le-leb, lt-leb, eq-eqb}
-use Rattle.store.specs.Layout.{keyOf}
+use Rattle.store.specs.Layout.{keyOf, characterRecord, lastFont}
 use Rattle.store.specs.Num.{_&_, field, allZero}
 use Rattle.store.specs.Model.{Rec, font, character, Under, under, allowed, sorted, unfinished, opened, number, place, key, headRec, sizeOf, total, consTo, andThen, split}
 use Rattle.store.specs.Order.{keep, below}
 use Rattle.store.specs.Calls.{charactersOf}
-use Rattle.store.specs.Walk.{itemOf, seen, headOf, standing, countIf, behind, passed, placesFrom, walked, outcome, Within, Ahead}
+use Rattle.store.specs.Walk.{itemOf, seen, headOf, standing, countIf, behind, passed, placesFrom, walked, walkAfter, Within, Ahead}
 use Rattle.store.specs.declared.walk.Query.{Query}
 use Rattle.store.specs.declared.walk.Item.{Item}
 use Rattle.store.specs.declared.walk.Pos.{Pos}
@@ -23,7 +23,7 @@ use Rattle.store.specs.declared.walk.Head.the-variants.{End, Rec as Head
 use Rattle.store.specs.declared.walk.Walk.the-variants.{Run, Broken}
 use Rattle.store.specs.declared.walk.Step.the-variants.{Go, Stop}
 use Rattle.store.proofs.Numbers.{zeros-field}
-use Rattle.store.proofs.Records.{cond-same, shaped, allowed-char, zero-head, head-nonzero, Headed, is-font, is-character, head-inv}
+use Rattle.store.proofs.RecordBytes.{cond-same, shaped, allowed-char, zero-head, head-nonzero, Headed, is-font, is-character, head-inv}
 use Rattle.store.proofs.Codec.{split-eq}
 
 -- ── what headOf tells
@@ -47,7 +47,7 @@ seen-rec u s i e = go (headRec s) refl e
 
 pub looked-rec : (u : Under) (s : List ℕ) (i : Item) → headOf u s ≡ HeadRec i → Seen u s i
 unfolding headOf
-looked-rec u s i e = go (ltb (length s) 26) (eqb (field 4 0 s) 0) e
+looked-rec u s i e = go (ltb (length s) characterRecord) (eqb (field 4 0 s) 0) e
   where
     go : (a b : Bool) → cond a End (cond b End (seen u (headRec s))) ≡ HeadRec i → Seen u s i
     go true b e' = let z : _≡_ {A = ℕ} 0 1 = cc in absurd (omega arith)
@@ -56,14 +56,14 @@ looked-rec u s i e = go (ltb (length s) 26) (eqb (field 4 0 s) 0) e
 
 -- a record that is read has numbers in range and lies within the bytes
 abbrev InRange : ℕ → Item → Type 0
-InRange n i = (i .font ≤ 32767) × (i .place ≤ 256) × (26 ≤ i .len) × (i .len ≤ n)
+InRange n i = (i .font ≤ lastFont) × (i .place ≤ 256) × (characterRecord ≤ i .len) × (i .len ≤ n)
 
 headed-item : (u : Under) (s : List ℕ) (r : Rec) → Headed s r → allowed u r ≡ true → InRange (length s) (itemOf u r)
 unfolding number place sizeOf
-headed-item u s r (is-font f k l) o = let p = shaped u r o in omega arith
+headed-item u s r (is-font x) o = let p = shaped u r o in omega arith
 headed-item u s r (is-character f k l) o =
     let p = shaped u r o in
-    let m : length (take (field 4 0 s - 26) (drop 26 s)) ≡ field 4 0 s - 26 = simp (length-take, length-drop) (omega arith) in
+    let m : length (take (field 4 0 s - characterRecord) (drop characterRecord s)) ≡ field 4 0 s - characterRecord = simp (length-take, length-drop) (omega arith) in
     omega arith
 
 pub looked-item : (u : Under) (s : List ℕ) (i : Item) → headOf u s ≡ HeadRec i → InRange (length s) i
@@ -73,7 +73,7 @@ looked-item u s i e =
 
 -- ── one record more
 -- an allowed record stands under its own font
-under-is : (u : Under) (r : Rec) → allowed u r ≡ true → under u r ≡ record { owner = number r + 1; turn = under u r .turn }
+under-is : (u : Under) (r : Rec) → allowed u r ≡ true → under u r ≡ record { owner = number r + 1; orientation = under u r .orientation }
 unfolding under number
 under-is u (font n h) e = refl
 under-is u (character n c h d) e = let p = allowed-char u n c h d e in rw (p .owner)
@@ -149,11 +149,11 @@ seen-not-end u (some r) e = go (allowed u r) e
     go true e' = let z : _≡_ {A = ℕ} 0 1 = cc in omega arith
     go false e' = let z : _≡_ {A = ℕ} 0 1 = cc in omega arith
 
-headed-least : (s : List ℕ) (r : Rec) → Headed s r → 26 ≤ length s
-headed-least s r (is-font f k l) = omega arith
+headed-least : (s : List ℕ) (r : Rec) → Headed s r → characterRecord ≤ length s
+headed-least s r (is-font x) = omega arith
 headed-least s r (is-character f k l) = omega arith
 
-short-none : (s : List ℕ) → length s < 26 → headRec s ≡ none
+short-none : (s : List ℕ) → length s < characterRecord → headRec s ≡ none
 short-none s h = go (headRec s) refl
   where
     go : (o : Option Rec) → headRec s ≡ o → headRec s ≡ none
@@ -162,9 +162,9 @@ short-none s h = go (headRec s) refl
 
 end-none : (u : Under) (s : List ℕ) → headOf u s ≡ End → headRec s ≡ none
 unfolding headOf
-end-none u s e = go (ltb (length s) 26) refl (eqb (field 4 0 s) 0) refl e
+end-none u s e = go (ltb (length s) characterRecord) refl (eqb (field 4 0 s) 0) refl e
   where
-    go : (a : Bool) → ltb (length s) 26 ≡ a → (b : Bool) → eqb (field 4 0 s) 0 ≡ b → cond a End (cond b End (seen u (headRec s))) ≡ End → headRec s ≡ none
+    go : (a : Bool) → ltb (length s) characterRecord ≡ a → (b : Bool) → eqb (field 4 0 s) 0 ≡ b → cond a End (cond b End (seen u (headRec s))) ≡ End → headRec s ≡ none
     go true p b q e' = short-none s (ltb-true _ _ p)
     go false p true q e' = zero-head s (eqb-true _ _ q)
     go false p false q e' = absurd (seen-not-end u (headRec s) e')
@@ -190,7 +190,7 @@ split-none s h z = split-eq s ∙ rw (z, h)
 
 bad-seen : (u : Under) (s : List ℕ) → headOf u s ≡ Bad → seen u (headRec s) ≡ Bad
 unfolding headOf
-bad-seen u s e = go (ltb (length s) 26) (eqb (field 4 0 s) 0) e
+bad-seen u s e = go (ltb (length s) characterRecord) (eqb (field 4 0 s) 0) e
   where
     go : (a b : Bool) → cond a End (cond b End (seen u (headRec s))) ≡ Bad → seen u (headRec s) ≡ Bad
     go true b e' = cc
@@ -229,19 +229,19 @@ module _ (q : Query) (p : Pos) where
       go none h = rw (split-none s h (not-zero (standing p) s (λ x. let z : _≡_ {A = ℕ} 0 1 = cc in omega arith)))
       go (some r) h = unsound r h (allowed (standing p) r) refl
 
-  pass-rec : (r : Rec) (s : List ℕ) → headRec (drop (p .at) s) ≡ some r → allowed (standing p) r ≡ true → outcome q s (passed q p (itemOf (standing p) r)) ≡ walked q p (split (drop (p .at) s))
-  unfolding passed outcome
+  pass-rec : (r : Rec) (s : List ℕ) → headRec (drop (p .at) s) ≡ some r → allowed (standing p) r ≡ true → walkAfter q s (passed q p (itemOf (standing p) r)) ≡ walked q p (split (drop (p .at) s))
+  unfolding passed walkAfter
   pass-rec r s h o =
       go (leb (p .key) (key r)) ∙ sym (walked-cons q p r (split (drop (sizeOf r) (drop (p .at) s))) o) ∙ ap (walked q p) (sym (split-cons (drop (p .at) s) r h))
     where
-      go : (b : Bool) → outcome q s (cond b (Go (behind q p (itemOf (standing p) r))) (Stop Broken)) ≡ cond b (walked q (behind q p (itemOf (standing p) r)) (split (drop (sizeOf r) (drop (p .at) s)))) Broken
+      go : (b : Bool) → walkAfter q s (cond b (Go (behind q p (itemOf (standing p) r))) (Stop Broken)) ≡ cond b (walked q (behind q p (itemOf (standing p) r)) (split (drop (sizeOf r) (drop (p .at) s)))) Broken
       go true = rw (drop-drop (sizeOf r) (p .at) s)
       go false = refl
 
-  pub walked-pass : (i : Item) (s : List ℕ) → headOf (standing p) (drop (p .at) s) ≡ HeadRec i → outcome q s (passed q p i) ≡ walked q p (split (drop (p .at) s))
+  pub walked-pass : (i : Item) (s : List ℕ) → headOf (standing p) (drop (p .at) s) ≡ HeadRec i → walkAfter q s (passed q p i) ≡ walked q p (split (drop (p .at) s))
   walked-pass i s e =
       let w = looked-rec (standing p) (drop (p .at) s) i e in
-      subst (λ (j : Item). outcome q s (passed q p j) ≡ walked q p (split (drop (p .at) s))) (w .item) (pass-rec (w .rec) s (w .head) (w .ok))
+      subst (λ (j : Item). walkAfter q s (passed q p j) ≡ walked q p (split (drop (p .at) s))) (w .item) (pass-rec (w .rec) s (w .head) (w .ok))
 
   pub ahead-pass : (i : Item) (s : List ℕ) → headOf (standing p) (drop (p .at) s) ≡ HeadRec i → Within (length s) p → Ahead (length s) p (passed q p i)
   unfolding passed Ahead

@@ -5,51 +5,54 @@ use Prim.Native.Nat.{ℕ, _+_, _-_, _/_, _<_, _≤_}
 use native.Mathlib.Omega.{arith}
 use lib.ListN.{length}
 use borrow.Rule.Slice.PartMut.{putMid, post-is}
-use Rattle.store.specs.Num.{le}
-use Rattle.store.specs.Model.{font, character, Mark, bytesOf}
-use Rattle.store.specs.Change.{put, remarked, headBytes}
+use Rattle.blocks.specs.Header.{headerBytes}
+use Rattle.blocks.specs.Character.{descriptorBytes}
+use Rattle.store.specs.Layout.{characterKeptAt, characterKind, characterRecord, codeAt, fontKeptAt, fontKind, fontRecord, kindAt, leastStore, markCodeAt, markFontAt, markOnAt, numberAt}
+use Rattle.store.specs.Num.{le, wordEnd}
+use Rattle.store.specs.Model.{font, character, Mark, fontHead, characterHead, bytesOf}
+use Rattle.store.specs.Change.{withBytes, remarked}
 use Rattle.store.proofs.Puts.{put-put}
 
-pub remark-put : (s : List ℕ) (m : Mark) → 12 ≤ length s → put (put (put s 6 (le 2 (m .on))) 8 (le 2 (m .fontOf))) 10 (le 2 (m .codeOf)) ≡ remarked m s
+pub remark-put : (s : List ℕ) (m : Mark) → leastStore ≤ length s → withBytes (withBytes (withBytes s markOnAt (le 2 (m .on))) markFontAt (le 2 (m .fontOf))) markCodeAt (le 2 (m .codeOf)) ≡ remarked m s
 unfolding remarked le
 remark-put s m h =
-    rw (put-put s 6 (le 2 (m .on)) (le 2 (m .fontOf)) 8 (omega arith) (omega arith), put-put s 6 (le 2 (m .on) ++ le 2 (m .fontOf)) (le 2 (m .codeOf)) 10 (omega arith) (omega arith))
+    rw (put-put s markOnAt (le 2 (m .on)) (le 2 (m .fontOf)) markFontAt (omega arith) (omega arith), put-put s markOnAt (le 2 (m .on) ++ le 2 (m .fontOf)) (le 2 (m .codeOf)) markCodeAt (omega arith) (omega arith))
 
 -- a part that was lent and came back
-pub mid-put : (s : List ℕ) (a e : ℕ) (b : List ℕ) → a ≤ e → length b ≡ e - a → putMid a (e - a) s b ≡ put s a b
-unfolding put
+pub mid-put : (s : List ℕ) (a e : ℕ) (b : List ℕ) → a ≤ e → length b ≡ e - a → putMid a (e - a) s b ≡ withBytes s a b
+unfolding withBytes
 mid-put s a e b l q = let i : a + length b ≡ e = omega arith in rw (post-is a e s l, i)
 
-pub font-put : (s : List ℕ) (at n : ℕ) (h : List ℕ) → length h ≡ 64 → at + 72 ≤ length s
-    → put (put (put (put (put s at (le 2 72)) (at + 2) (le 2 0)) (at + 4) (le 2 2)) (at + 6) (le 2 n)) (at + 8) h ≡ put s at (bytesOf (font n h))
-unfolding bytesOf le
+pub font-put : (s : List ℕ) (at n : ℕ) (h : List ℕ) → length h ≡ headerBytes → at + fontRecord ≤ length s
+    → withBytes (withBytes (withBytes (withBytes (withBytes s at (le 2 fontRecord)) (at + 2) (le 2 0)) (at + kindAt) (le 2 fontKind)) (at + numberAt) (le 2 n)) (at + fontKeptAt) h ≡ withBytes s at (bytesOf (font n h))
+unfolding bytesOf fontHead le
 font-put s at n h l e =
     rw (
-      put-put s at (le 2 72) (le 2 0) (at + 2) (omega arith) (omega arith),
-      put-put s at (le 2 72 ++ le 2 0) (le 2 2) (at + 4) (omega arith) (omega arith),
-      put-put s at ((le 2 72 ++ le 2 0) ++ le 2 2) (le 2 n) (at + 6) (omega arith) (omega arith),
-      put-put s at (((le 2 72 ++ le 2 0) ++ le 2 2) ++ le 2 n) h (at + 8) (omega arith) (omega arith),
+      put-put s at (le 2 fontRecord) (le 2 0) (at + 2) (omega arith) (omega arith),
+      put-put s at (le 2 fontRecord ++ le 2 0) (le 2 fontKind) (at + kindAt) (omega arith) (omega arith),
+      put-put s at ((le 2 fontRecord ++ le 2 0) ++ le 2 fontKind) (le 2 n) (at + numberAt) (omega arith) (omega arith),
+      put-put s at (((le 2 fontRecord ++ le 2 0) ++ le 2 fontKind) ++ le 2 n) h (at + fontKeptAt) (omega arith) (omega arith),
     )
 
 -- ── a character's record
-pub head-put : (s : List ℕ) (at len n c : ℕ) → at + 10 ≤ length s → len < 65536
-    → put (put (put (put (put s at (le 2 len)) (at + 2) (le 2 0)) (at + 4) (le 2 3)) (at + 6) (le 2 n)) (at + 8) (le 2 c) ≡ put s at (headBytes len n c)
-unfolding headBytes le
+pub head-put : (s : List ℕ) (at len n c : ℕ) → at + characterKeptAt ≤ length s → len < wordEnd
+    → withBytes (withBytes (withBytes (withBytes (withBytes s at (le 2 len)) (at + 2) (le 2 0)) (at + kindAt) (le 2 characterKind)) (at + numberAt) (le 2 n)) (at + codeAt) (le 2 c) ≡ withBytes s at (characterHead len n c)
+unfolding characterHead le
 head-put s at len n c h l =
     let q : len / 256 / 256 ≡ 0 = omega arith in
     rw (
       put-put s at (le 2 len) (le 2 0) (at + 2) (omega arith) (omega arith),
-      put-put s at (le 2 len ++ le 2 0) (le 2 3) (at + 4) (omega arith) (omega arith),
-      put-put s at ((le 2 len ++ le 2 0) ++ le 2 3) (le 2 n) (at + 6) (omega arith) (omega arith),
-      put-put s at (((le 2 len ++ le 2 0) ++ le 2 3) ++ le 2 n) (le 2 c) (at + 8) (omega arith) (omega arith),
+      put-put s at (le 2 len ++ le 2 0) (le 2 characterKind) (at + kindAt) (omega arith) (omega arith),
+      put-put s at ((le 2 len ++ le 2 0) ++ le 2 characterKind) (le 2 n) (at + numberAt) (omega arith) (omega arith),
+      put-put s at (((le 2 len ++ le 2 0) ++ le 2 characterKind) ++ le 2 n) (le 2 c) (at + codeAt) (omega arith) (omega arith),
       q,
     )
 
-pub char-put : (s : List ℕ) (at n c : ℕ) (h d : List ℕ) → length h ≡ 16 → at + 26 + length d ≤ length s
-    → put (put (put s at (headBytes (26 + length d) n c)) (at + 10) h) (at + 26) d ≡ put s at (bytesOf (character n c h d))
-unfolding headBytes bytesOf le
+pub char-put : (s : List ℕ) (at n c : ℕ) (h d : List ℕ) → length h ≡ descriptorBytes → at + characterRecord + length d ≤ length s
+    → withBytes (withBytes (withBytes s at (characterHead (characterRecord + length d) n c)) (at + characterKeptAt) h) (at + characterRecord) d ≡ withBytes s at (bytesOf (character n c h d))
+unfolding characterHead bytesOf le
 char-put s at n c h d l e =
     rw (
-      put-put s at (headBytes (26 + length d) n c) h (at + 10) (omega arith) (omega arith),
-      put-put s at (headBytes (26 + length d) n c ++ h) d (at + 26) (omega (arith, l)) (omega (arith, l)),
+      put-put s at (characterHead (characterRecord + length d) n c) h (at + characterKeptAt) (omega arith) (omega arith),
+      put-put s at (characterHead (characterRecord + length d) n c ++ h) d (at + characterRecord) (omega (arith, l)) (omega (arith, l)),
     )

@@ -47,19 +47,17 @@ putFont n h st = withFont n (font n h ∷ []) st
 unfoldable pub removingFont : ℕ → List ℕ → After
 removingFont n s = onFont (refuse s) n s (λ st r. done (removeFont n st))
 
--- an accepted block: "It is refused with 10 exactly if the records would then not fit."
-unfoldable pub puttingFont : ℕ → List ℕ → List ℕ → After
-puttingFont n b s =
-    onStore (refuse s) (decode s)
-    (λ st.
-    checked (refuse s) (leb (used (putFont n (keptHeader b) st)) (st .size)) 10
-    (done (putFont n (keptHeader b) st)))
-
--- 1, 2, the block's 3, 4 and 5, then 10
 unfoldable pub downloadingFont : ℕ → List ℕ → List ℕ → After
 downloadingFont n b s =
+    -- "store first, then number ranges": 1, 2
     onStore (refuse s) (decode s)
-    (λ st. checked (refuse s) (leb n lastFont) 2 (taking (refuse s) (readHeader b) (puttingFont n b s)))
+    (λ st.
+    checked (refuse s) (leb n lastFont) 2
+    -- "The font block": 3, 4, 5
+    (taking (refuse s) (readHeader b)
+    -- "It is refused with 10 exactly if the records would then not fit."
+    (checked (refuse s) (leb (used (putFont n (keptHeader b) st)) (st .size)) 10
+    (done (putFont n (keptHeader b) st)))))
 
 -- ── characters
 

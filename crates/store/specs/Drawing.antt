@@ -9,15 +9,15 @@ use Rattle.store.specs.Answer.{checked, onCharacter, After, refuse}
 use Rattle.store.specs.Calls.{keptOf, dataOf, onto}
 
 -- an output that must hold n bytes, else 12; its later bytes stay
-abbrev pub drawn : List ℕ → ℕ → List ℕ → After
-drawn out n b = checked (refuse out) (leb n (length out)) 12 (record { answer = 0; bytes = onto b out })
+abbrev pub drawnOnto : List ℕ → ℕ → List ℕ → After
+drawnOnto out n b = checked (refuse out) (leb n (length out)) 12 (record { answer = 0; bytes = onto b out })
 
 -- a row of the character with this descriptor and data; a row not below the height is 2
 unfoldable pub rowOf : List ℕ → List ℕ → ℕ → List ℕ → After
-rowOf h d row out = checked (refuse out) (ltb row (height h)) 2 (drawn out (rowSize (width h)) (rowBytes (class h) (width h) d row))
+rowOf h d row out = checked (refuse out) (ltb row (height h)) 2 (drawnOnto out (rowSize (width h)) (rowBytes (class h) (width h) d row))
 
 unfoldable pub pictureOf : List ℕ → List ℕ → List ℕ → After
-pictureOf h d out = drawn out (pictureSize (width h) (height h)) (picture (class h) (width h) d (height h))
+pictureOf h d out = drawnOnto out (pictureSize (width h) (height h)) (picture (class h) (width h) d (height h))
 
 -- 1, 2, 6, 7, then 2 for the row, then 12
 unfoldable pub drawingRow : ℕ → ℕ → ℕ → List ℕ → List ℕ → After

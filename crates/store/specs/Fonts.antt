@@ -2,15 +2,13 @@
 use Prim.Native.Nat.{ℕ, suc, _+_, _≤_, _<_}
 use mathlib.Core.Path.{_≡_}
 use mathlib.Core.List.{List, [], _∷_, _++_}
-use mathlib.Core.Bool.{Bool, true, false, cond}
+use mathlib.Core.Bool.{cond}
 use lib.Dec.{eqb, ltb}
-use mathlib.Core.Option.{Option, none, some}
 use lib.ListN.{length, take, drop}
 use Rattle.blocks.specs.Header.{headerBytes}
 use Rattle.store.specs.Layout.{lastFont}
-use Rattle.store.specs.Model.{Rec, font, character, Store, Under, sorted, split, decode}
-use Rattle.store.specs.declared.kept_fonts.Begin.{Begin}
-use Rattle.store.specs.declared.kept_fonts.Begin.the-variants.{At, NotStore}
+use Rattle.store.specs.Model.{Rec, font, character}
+use Rattle.store.specs.Records.{recordsIn, recordsAt, Place}
 use Rattle.store.specs.declared.kept_fonts.Next.{Next}
 use Rattle.store.specs.declared.kept_fonts.Next.the-variants.{Font as found, End}
 
@@ -25,21 +23,9 @@ fontsIn [] = []
 fontsIn (font n h ∷ rs) = record { number = n; kept = h } ∷ fontsIn rs
 fontsIn (character n c h d ∷ rs) = fontsIn rs
 
-abbrev pub isSome : Option Store → Bool
-isSome none = false
-isSome (some st) = true
-
--- the buffer is a store
-unfoldable pub isStore : List ℕ → Bool
-isStore s = isSome (decode s)
-
-abbrev pub fontsBy : Option Store → List Font
-fontsBy none = []
-fontsBy (some st) = fontsIn (st .recs)
-
 -- the kept fonts of a buffer, by rising number; none, if it is no store
 unfoldable pub fontsOf : List ℕ → List Font
-fontsOf s = fontsBy (decode s)
+fontsOf s = fontsIn (recordsIn s)
 
 -- ── what the calls leave of them
 -- those with a number below n, and above
@@ -61,31 +47,13 @@ fontsAfter k n new answer l = cond (eqb answer k) (fontsWith n new l) l
 
 -- ── one after the other
 -- those from a place of the run of records on
-abbrev pub fontsAmong : Option (List Rec) → List Font
-fontsAmong none = []
-fontsAmong (some rs) = fontsIn rs
-
 unfoldable pub fontsAt : List ℕ → ℕ → List Font
-fontsAt s at = fontsAmong (split (drop at s))
-
--- `at` is a place of the run: records that a store may hold stand from there on
-pub record Place (s : List ℕ) (at : ℕ) : Type 0 where
-  pub within : at ≤ length s
-  pub recs : List Rec
-  pub is : split (drop at s) ≡ some recs
-  pub least : ℕ
-  pub behind : Under
-  pub order : sorted least behind recs ≡ true
+fontsAt s at = fontsIn (recordsAt s at)
 
 -- the numbers rise, the first at least n
 abbrev pub RisingFrom : ℕ → List Font → Type 0
 RisingFrom n [] = Unit {0}
 RisingFrom n (f ∷ l) = (n ≤ f .number) × RisingFrom (suc (f .number)) l
-
--- where the run begins, if the buffer is a store
-abbrev pub Begun : List ℕ → Begin → Type 0
-Begun s NotStore = isStore s ≡ false
-Begun s (At p) = (isStore s ≡ true) × Place s p × (fontsAt s p ≡ fontsOf s) × RisingFrom 0 (fontsOf s)
 
 -- none, or the font at a place of the run or after it, and then those from the next place
 abbrev pub Onward : List ℕ → ℕ → Next → Type 0

@@ -5,8 +5,10 @@ pub mod Order
 pub mod Answer
 pub mod Calls
 pub mod Download
+pub mod Putting
 pub mod Drawing
 pub mod Change
 pub mod Walk
 pub mod Cursor
+pub mod Records
 pub mod Fonts

@@ -11,7 +11,7 @@ use Rattle.blocks.specs.Character.{descriptorBytes, class, width, height, isKep
 use Rattle.blocks.specs.Picture.{held}
 use Rattle.blocks.specs.declared.picture.Held.{Held}
 use Rattle.blocks.specs.declared.picture.Held.the-variants.{Whole, Unfinished, Foreign}
-use Rattle.store.specs.Layout.{leastStore, mostStore, markRecord, markKind, fontRecord, fontKind, characterRecord, characterKind, lastFont, lastCode, keyOf}
+use Rattle.store.specs.Layout.{leastStore, mostStore, markRecord, markKind, fontRecord, fontKind, characterRecord, characterKind, lastFont, lastCode, keyOf, characterKeptAt, codeAt, fontKeptAt, kindAt, markCodeAt, markFontAt, markOnAt, numberAt}
 use Rattle.store.specs.Num.{_&_, le, field, allZero}
 
 -- a record: a font (number, kept bytes), or a character (font number, code, kept bytes, data)
@@ -32,10 +32,23 @@ pub record Store : Type 0 where
 
 -- ── bytes: "low byte first: length of the whole record (4 bytes), kind (2), body"
 
--- "Kind 2, 72 bytes: font number, 64 kept bytes. Kind 3, 26 bytes and the data: font number, code, 16 kept bytes, data."
+-- "Kind 2, 72 bytes: font number, 64 kept bytes.": what stands before the kept bytes, and a font read at the front of s
+unfoldable pub fontHead : ℕ → List ℕ
+fontHead n = le 4 fontRecord ++ (le 2 fontKind ++ le 2 n)
+
+abbrev pub fontIn : List ℕ → Rec
+fontIn s = font (field 2 numberAt s) (take headerBytes (drop fontKeptAt s))
+
+-- "Kind 3, 26 bytes and the data: font number, code, 16 kept bytes, data.": the same of a character whose record has len bytes
+unfoldable pub characterHead : ℕ → ℕ → ℕ → List ℕ
+characterHead len n c = le 4 len ++ (le 2 characterKind ++ (le 2 n ++ le 2 c))
+
+abbrev pub characterIn : List ℕ → Rec
+characterIn s = character (field 2 numberAt s) (field 2 codeAt s) (take descriptorBytes (drop characterKeptAt s)) (take (field 4 0 s - characterRecord) (drop characterRecord s))
+
 unfoldable pub bytesOf : Rec → List ℕ
-bytesOf (font n h) = le 4 fontRecord ++ (le 2 fontKind ++ (le 2 n ++ h))
-bytesOf (character n c h d) = le 4 (characterRecord + length d) ++ (le 2 characterKind ++ (le 2 n ++ (le 2 c ++ (h ++ d))))
+bytesOf (font n h) = fontHead n ++ h
+bytesOf (character n c h d) = characterHead (characterRecord + length d) n c ++ (h ++ d)
 
 unfoldable pub run : List Rec → List ℕ
 run [] = []
@@ -46,11 +59,11 @@ unfoldable pub markBytes : Mark → List ℕ
 markBytes m = le 4 markRecord ++ (le 2 markKind ++ (le 2 (m .on) ++ (le 2 (m .fontOf) ++ le 2 (m .codeOf))))
 
 -- "All remaining bytes are 0."
-abbrev pub padded : ℕ → List ℕ → List ℕ
-padded n l = l ++ replicate (n - length l) 0
+abbrev pub withZeros : ℕ → List ℕ → List ℕ
+withZeros n l = l ++ replicate (n - length l) 0
 
 unfoldable pub encode : Store → List ℕ
-encode st = padded (st .size) (markBytes (st .mark) ++ run (st .recs))
+encode st = withZeros (st .size) (markBytes (st .mark) ++ run (st .recs))
 
 -- ── what a store may hold: "numbers are in range, every kept field is as the rules above leave it, every character could have been accepted"
 
@@ -68,13 +81,13 @@ key r = keyOf (number r) (place r)
 -- the font whose characters may stand next: its number and 1 (0 where there is none), and its orientation
 pub record Under : Type 0 where
   pub owner : ℕ
-  pub turn : ℕ
+  pub orientation : ℕ
 
 abbrev pub alone : Under
-alone = record { owner = 0; turn = 0 }
+alone = record { owner = 0; orientation = 0 }
 
 unfoldable pub under : Under → Rec → Under
-under u (font n h) = record { owner = n + 1; turn = orientation h }
+under u (font n h) = record { owner = n + 1; orientation = orientation h }
 under u (character n c h d) = u
 
 -- a character's data, by its descriptor
@@ -93,12 +106,12 @@ isUnfinished Foreign = false
 
 -- the same, where the descriptor must be a kept one of a font of this orientation
 unfoldable pub heldUnder : ℕ → List ℕ → List ℕ → Held
-heldUnder turn h d = cond (isKeptFirst h turn) (heldOf h d) Foreign
+heldUnder o h d = cond (isKeptFirst h o) (heldOf h d) Foreign
 
 -- a record that may stand behind the font u
 unfoldable pub allowed : Under → Rec → Bool
 allowed u (font n h) = leb n lastFont & isKeptHeader h
-allowed u (character n c h d) = eqb (u .owner) (n + 1) & leb n lastFont & leb c lastCode & isKept (heldUnder (u .turn) h d)
+allowed u (character n c h d) = eqb (u .owner) (n + 1) & leb n lastFont & leb c lastCode & isKept (heldUnder (u .orientation) h d)
 
 -- "Fonts stand by rising number, each followed by its characters by rising code." The first key is at least k.
 unfoldable pub sorted : ℕ → Under → List Rec → Bool
@@ -131,10 +144,9 @@ guard false o = none
 unfoldable pub headRec : List ℕ → Option Rec
 headRec s =
     guard (leb (field 4 0 s) (length s))
-    (cond (eqb (field 2 4 s) fontKind)
-    (guard (eqb (field 4 0 s) fontRecord) (some (font (field 2 6 s) (take headerBytes (drop 8 s)))))
-    (guard (eqb (field 2 4 s) characterKind)
-    (guard (leb characterRecord (field 4 0 s)) (some (character (field 2 6 s) (field 2 8 s) (take descriptorBytes (drop 10 s)) (take (field 4 0 s - characterRecord) (drop characterRecord s)))))))
+    (cond (eqb (field 2 kindAt s) fontKind)
+    (guard (eqb (field 4 0 s) fontRecord) (some (fontIn s)))
+    (guard (eqb (field 2 kindAt s) characterKind) (guard (leb characterRecord (field 4 0 s)) (some (characterIn s)))))
 
 -- the length of a record, and of a run of records
 unfoldable pub sizeOf : Rec → ℕ
@@ -163,11 +175,11 @@ split s = splitIn (suc (length s)) s
 
 -- the open mark in the first record
 abbrev pub markIn : List ℕ → Mark
-markIn s = record { on = field 2 6 s; fontOf = field 2 8 s; codeOf = field 2 10 s }
+markIn s = record { on = field 2 markOnAt s; fontOf = field 2 markFontAt s; codeOf = field 2 markCodeAt s }
 
 -- 12..65,536 bytes, and the first record
 unfoldable pub begins : List ℕ → Bool
-begins s = leb leastStore (length s) & leb (length s) mostStore & eqb (field 4 0 s) markRecord & eqb (field 2 4 s) markKind
+begins s = leb leastStore (length s) & leb (length s) mostStore & eqb (field 4 0 s) markRecord & eqb (field 2 kindAt s) markKind
 
 unfoldable pub validOr : ℕ → Mark → Option (List Rec) → Option Store
 validOr n m none = none

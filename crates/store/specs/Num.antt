@@ -11,6 +11,10 @@ unfoldable pub _&_ : Bool → Bool → Bool
 true & b = b
 false & b = false
 
+-- two bytes spell the numbers below this one
+abbrev pub wordEnd : ℕ
+wordEnd = 65536
+
 -- the number that bytes spell
 unfoldable pub num : List ℕ → ℕ
 num [] = 0

@@ -1,4 +1,5 @@
--- What the walk over the records answers, record by record: the contracts of the code that checks a buffer and finds places in it.
+-- For the code alone: what the walk over the records answers, record by record, as the functions that check a buffer and find places in it
+-- state it.
 use Prim.Native.Nat.{ℕ, _+_, _-_, _≤_, _<_}
 use mathlib.Core.Path.{_≡_}
 use mathlib.Core.List.{List, _++_}
@@ -7,10 +8,10 @@ use mathlib.Core.Option.{Option, none, some}
 use lib.ListN.{length, getD, take, drop}
 use lib.Dec.{eqb, leb, ltb}
 use Rattle.blocks.specs.Header.{orientation}
-use Rattle.blocks.specs.Character.{class, width, height}
+use Rattle.blocks.specs.Character.{class, width, height, descriptorBytes, continuationBytes}
 use Rattle.blocks.specs.Picture.{judge}
 use Rattle.blocks.specs.declared.picture.Judged.the-variants.{Complete, Incomplete}
-use Rattle.store.specs.Layout.{lastFont, lastCode, keyOf}
+use Rattle.store.specs.Layout.{lastFont, lastCode, keyOf, characterKeptAt, characterRecord, fontOrientationAt, markRecord}
 use Rattle.store.specs.Num.{_&_, field}
 use Rattle.store.specs.Model.{Rec, font, character, isKept, heldUnder, Mark, Store, Under, under, alone, allowed, sorted, unfinished, opened, number, place, headRec, sizeOf, total, split, decode}
 use Rattle.store.specs.Order.{below, find}
@@ -39,7 +40,7 @@ use Rattle.store.specs.declared.walk.Inspected.the-variants.{Found, NotS
 
 -- the numbers of a record behind the font u
 abbrev pub itemOf : Under → Rec → Item
-itemOf u r = record { font = number r; place = place r; len = sizeOf r; turn = under u r .turn; unfinished = unfinished r }
+itemOf u r = record { font = number r; place = place r; len = sizeOf r; orientation = under u r .orientation; unfinished = unfinished r }
 
 -- the record at the front, if it may stand behind the font u
 unfoldable pub seen : Under → Option Rec → Head
@@ -47,28 +48,28 @@ seen u none = Bad
 seen u (some r) = cond (allowed u r) (HeadRec (itemOf u r)) Bad
 
 unfoldable pub headOf : Under → List ℕ → Head
-headOf u s = cond (ltb (length s) 26) End (cond (eqb (field 4 0 s) 0) End (seen u (headRec s)))
+headOf u s = cond (ltb (length s) characterRecord) End (cond (eqb (field 4 0 s) 0) End (seen u (headRec s)))
 
 -- a record's length and more stand at a place of s
 pub record Heading (s : List ℕ) (at len : ℕ) : Type 0 where
   pub is : field 4 at s ≡ len
   pub some : 0 < len
-  pub room : at + 26 ≤ length s
+  pub room : at + characterRecord ≤ length s
   pub fits : at + len ≤ length s
 
 -- ── the walk
 
 -- where a walk begins: behind the first record
-abbrev pub start : Pos
-start =
-    record { at = 12; lo = 12; from = 12; to = 12; hi = 12; chars = 0; marked = false; key = 0; owner = 0; turn = 0 }
+abbrev pub walkStart : Pos
+walkStart =
+    record { at = markRecord; lo = markRecord; from = markRecord; to = markRecord; hi = markRecord; chars = 0; marked = false; key = 0; owner = 0; orientation = 0 }
 
 abbrev pub standing : Pos → Under
-standing p = record { owner = p .owner; turn = p .turn }
+standing p = record { owner = p .owner; orientation = p .orientation }
 
 -- what is asked for of font n and its place p, where m is the key of the open character
-abbrev pub asking : ℕ → ℕ → ℕ → Query
-asking n p m = record { font = n; lo = keyOf n 0; from = keyOf n p; to = keyOf n p + 1; hi = keyOf (n + 1) 0; mark = m }
+abbrev pub queryFor : ℕ → ℕ → ℕ → Query
+queryFor n p m = record { font = n; lo = keyOf n 0; from = keyOf n p; to = keyOf n p + 1; hi = keyOf (n + 1) 0; mark = m }
 
 -- n, if the test holds
 unfoldable pub countIf : Bool → ℕ → ℕ
@@ -87,7 +88,7 @@ behind q p i =
       marked = p .marked || (eqb (keyOf (i .font) (i .place)) (q .mark) && i .unfinished);
       key = keyOf (i .font) (i .place) + 1;
       owner = i .font + 1;
-      turn = i .turn;
+      orientation = i .orientation;
     }
 
 -- a record's key rises
@@ -112,9 +113,9 @@ walked q p none = Broken
 walked q p (some rs) = cond (sorted (p .key) (standing p) rs) (Run (placesFrom q p rs) (p .marked || opened (q .mark) rs)) Broken
 
 -- the answer after a step
-unfoldable pub outcome : Query → List ℕ → Step → Walk
-outcome q s (Go p) = walked q p (split (drop (p .at) s))
-outcome q s (Stop w) = w
+unfoldable pub walkAfter : Query → List ℕ → Step → Walk
+walkAfter q s (Go p) = walked q p (split (drop (p .at) s))
+walkAfter q s (Stop w) = w
 
 -- the sums of a walk stay within what it passed
 pub record Within (n : ℕ) (p : Pos) : Type 0 where
@@ -134,11 +135,11 @@ Ahead n p (Stop w) = Unit {0}
 abbrev pub placesWith : ℕ → ℕ → ℕ → List Rec → Places
 placesWith n p k rs =
     record {
-      used = 12 + total rs;
-      lo = 12 + total (below (keyOf n 0) rs);
-      from = 12 + total (below (keyOf n p) rs);
-      to = 12 + total (below (keyOf n p + 1) rs);
-      hi = 12 + total (below (keyOf (n + 1) 0) rs);
+      used = markRecord + total rs;
+      lo = markRecord + total (below (keyOf n 0) rs);
+      from = markRecord + total (below (keyOf n p) rs);
+      to = markRecord + total (below (keyOf n p + 1) rs);
+      hi = markRecord + total (below (keyOf (n + 1) 0) rs);
       chars = k;
     }
 
@@ -168,9 +169,12 @@ pub record Stands (n p : ℕ) (s : List ℕ) (w : Places) : Type 0 where
   pub is : decode s ≡ some store
   pub at : placesWith n p (w .chars) (store .recs) ≡ w
 
--- a record, or a font with its characters, stands from one place to another, if these differ
-abbrev pub lookedUp : ℕ → ℕ → Lookup
-lookedUp from to = cond (ltb from to) (At from) Missing
+-- a font with its characters, or one record, stands from one place to another, if these differ
+abbrev pub fontLookup : Places → Lookup
+fontLookup w = cond (ltb (w .lo) (w .hi)) (At w) Missing
+
+abbrev pub characterLookup : Places → Lookup
+characterLookup w = cond (ltb (w .from) (w .to)) (At w) Missing
 
 -- what seeking a font, or a character, answers: its places, or the refusal
 unfoldable pub soughtFont : ℕ → List ℕ → Sought
@@ -179,7 +183,8 @@ soughtFont n s = onFont Refused n s (λ st r. Here (placesOf n 0 (st .recs)))
 unfoldable pub soughtCharacter : ℕ → ℕ → List ℕ → Sought
 soughtCharacter n c s = onCharacter Refused n c s (λ st r. Here (placesOf n (c + 1) (st .recs)))
 
--- ── a character that comes to a store that stands: its numbers are in range, and its font is there
+-- ── a character block for font n and code c, whose places w are known
+-- the numbers are in range, and the font is there, with this header
 pub record Arriving (n c : ℕ) (s : List ℕ) (w : Places) : Type 0 where
   pub stands : Stands n (c + 1) s w
   pub low : n ≤ lastFont
@@ -187,33 +192,30 @@ pub record Arriving (n c : ℕ) (s : List ℕ) (w : Places) : Type 0 where
   pub header : List ℕ
   pub font-there : find (keyOf n 0) (stands .store .recs) ≡ some (font n header)
 
--- and the character may stand behind it
+-- and a character with the descriptor h and the data d may stand behind that font
 pub record Fitting (n c : ℕ) (h d s : List ℕ) (w : Places) : Type 0 where
-  pub stands : Stands n (c + 1) s w
-  pub low : n ≤ lastFont
-  pub code : c ≤ lastCode
-  pub header : List ℕ
-  pub font-there : find (keyOf n 0) (stands .store .recs) ≡ some (font n header)
-  pub ok : isKept (heldUnder (orientation header) h d) ≡ true
+  pub arrives : Arriving n c s w
+  pub ok : isKept (heldUnder (orientation (arrives .header)) h d) ≡ true
 
 -- the descriptor and the data of the character at its places
 abbrev pub keptAt : List ℕ → Places → List ℕ
-keptAt s w = take 16 (drop (w .from + 10) s)
+keptAt s w = take descriptorBytes (drop (w .from + characterKeptAt) s)
 
 abbrev pub dataAt : List ℕ → Places → List ℕ
-dataAt s w = take (w .to - (w .from + 26)) (drop (w .from + 26) s)
+dataAt s w = take (w .to - (w .from + characterRecord)) (drop (w .from + characterRecord) s)
 
--- the same of a character that is there already and grows by t
+-- the character is there already, and may stand there with t behind its data
 pub record Growing (n c : ℕ) (t s : List ℕ) (w : Places) : Type 0 where
   pub fits : Fitting n c (keptAt s w) (dataAt s w ++ t) s w
-  pub there : find (keyOf n (c + 1)) (fits .stands .store .recs) ≡ some (character n c (keptAt s w) (dataAt s w))
+  pub there : find (keyOf n (c + 1)) (fits .arrives .stands .store .recs) ≡ some (character n c (keptAt s w) (dataAt s w))
 
 -- the orientation of the font at its place
-abbrev pub fontTurn : List ℕ → Places → ℕ
-fontTurn s w = getD s (w .lo + 20) 0
+abbrev pub fontOrientation : List ℕ → Places → ℕ
+fontOrientation s w = getD s (w .lo + fontOrientationAt) 0
 
--- what is kept of the character's data with a continuation's is its data and n bytes of the continuation; marked, if that is incomplete
+-- the character's data and then the continuation b: n bytes of b are kept, all of them where the picture stays incomplete, which `marked` says,
+-- else those that complete it
 abbrev pub Continued : List ℕ → Places → List ℕ → ℕ → Bool → Type 0
-Continued s w b n true = (judge (class (keptAt s w)) (width (keptAt s w)) (height (keptAt s w)) (dataAt s w ++ drop 2 b) ≡ Incomplete) × (n ≡ length b - 2)
+Continued s w b n true = (judge (class (keptAt s w)) (width (keptAt s w)) (height (keptAt s w)) (dataAt s w ++ drop continuationBytes b) ≡ Incomplete) × (n ≡ length b - continuationBytes)
 Continued s w b n false =
-    judge (class (keptAt s w)) (width (keptAt s w)) (height (keptAt s w)) (dataAt s w ++ drop 2 b) ≡ Complete (length (dataAt s w) + n)
+    judge (class (keptAt s w)) (width (keptAt s w)) (height (keptAt s w)) (dataAt s w ++ drop continuationBytes b) ≡ Complete (length (dataAt s w) + n)

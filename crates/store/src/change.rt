@@ -1,39 +1,53 @@
 // Changes of a buffer: moving, clearing and writing bytes, and the one splice that every change of the record run is made of.
 ghost use mathlib.Core.Path.{_≡_};
-ghost use mathlib.Core.List.{_∷_, []};
-ghost use Prim.Native.Nat.{_+_, _-_, _*_, _≤_, _<_};
+ghost use Prim.Native.Nat.{_+_, _-_, _≤_, _<_};
 ghost use lib.ListN.{length, take, drop, replicate};
 ghost use lib.Seq.{paste};
 ghost use mathlib.Core.Bool.{cond};
-ghost use Rattle.blocks.specs.Header.{keptHeader};
-ghost use Rattle.blocks.specs.Character.{keptFirst};
-ghost use Rattle.store.specs.Num.{le};
-ghost use Rattle.store.specs.Model.{bytesOf, font, character, Mark};
-ghost use Rattle.store.specs.Change.{moved, put, remarked, unmarkedFor, unmarkedAt, headBytes};
+ghost use Rattle.blocks.specs.Header.{keptHeader, headerBytes};
+ghost use Rattle.blocks.specs.Character.{keptFirst, continuationBytes, dataLimit, descriptorBytes};
+ghost use Rattle.store.specs.Layout.{characterKeptAt, characterRecord, fontRecord, leastStore, markRecord};
+ghost use Rattle.store.specs.Num.{le, wordEnd};
+ghost use Rattle.store.specs.Model.{bytesOf, font, character, characterHead};
+ghost use Rattle.store.specs.Change.{splicedAt, withBytes, remarked, unmarkedFor, unmarkedAt};
 ghost use Rattle.store.specs.Calls.{shut};
+use crate::layout::CHARACTER_KEPT_AT;
+use crate::layout::CHARACTER_KIND;
+use crate::layout::CHARACTER_RECORD;
+use crate::layout::CODE_AT;
+use crate::layout::CONTINUATION_BYTES;
+use crate::layout::DESCRIPTOR_BYTES;
+use crate::layout::FONT_KEPT_AT;
+use crate::layout::FONT_KIND;
+use crate::layout::FONT_RECORD;
+use crate::layout::KIND_AT;
+use crate::layout::MARK_CODE_AT;
+use crate::layout::MARK_FONT_AT;
+use crate::layout::MARK_ON_AT;
+use crate::layout::NUMBER_AT;
 use crate::number;
 
 // Moves n bytes down by a font record's length. The distance is a constant, of which the compiler makes one block move.
 fn font_down(s: &mut [u8], to: usize, n: usize)
-    requires { ⌜ to + 72 + n ≤ length (now s) ⌝ }
-    ensures { λ _. ⌜ now (s .exit) ≡ paste (now (s .entry)) to (drop (to + 72) (now (s .entry))) n ⌝ }
+    requires { ⌜ to + fontRecord + n ≤ length (now s) ⌝ }
+    ensures { λ _. ⌜ now (s .exit) ≡ paste (now (s .entry)) to (drop (to + fontRecord) (now (s .entry))) n ⌝ }
 {
     let mut i = 0;
     while i < n {
-        s[to + i] = s[to + 72 + i];
+        s[to + i] = s[to + FONT_RECORD + i];
         i += 1;
     }
 }
 
 // Moves n bytes up by a font record's length.
 fn font_up(s: &mut [u8], from: usize, n: usize)
-    requires { ⌜ from + 72 + n ≤ length (now s) ⌝ }
-    ensures { λ _. ⌜ now (s .exit) ≡ paste (now (s .entry)) (from + 72) (drop from (now (s .entry))) n ⌝ }
+    requires { ⌜ from + fontRecord + n ≤ length (now s) ⌝ }
+    ensures { λ _. ⌜ now (s .exit) ≡ paste (now (s .entry)) (from + fontRecord) (drop from (now (s .entry))) n ⌝ }
 {
     let mut i = n;
     while 0 < i {
         i -= 1;
-        s[from + 72 + i] = s[from + i];
+        s[from + FONT_RECORD + i] = s[from + i];
     }
 }
 
@@ -66,7 +80,7 @@ fn shift_down(s: &mut [u8], to: usize, from: usize, n: usize)
     requires { ⌜ (to ≤ from) × (from + n ≤ length (now s)) ⌝ }
     ensures { λ _. ⌜ now (s .exit) ≡ paste (now (s .entry)) to (drop from (now (s .entry))) n ⌝ }
 {
-    if from - to == 72 {
+    if from - to == FONT_RECORD {
         font_down(s, to, n);
     } else {
         move_down(s, to, from, n);
@@ -78,7 +92,7 @@ fn shift_up(s: &mut [u8], to: usize, from: usize, n: usize)
     requires { ⌜ (from ≤ to) × (to + n ≤ length (now s)) ⌝ }
     ensures { λ _. ⌜ now (s .exit) ≡ paste (now (s .entry)) to (drop from (now (s .entry))) n ⌝ }
 {
-    if to - from == 72 {
+    if to - from == FONT_RECORD {
         font_up(s, from, n);
     } else {
         move_up(s, to, from, n);
@@ -100,7 +114,7 @@ pub(crate) fn clear(s: &mut [u8], at: usize, n: usize)
 // Gives the old bytes at `at` the length new: what is behind them up to `used` moves, and what that frees is made 0.
 pub(crate) fn splice(s: &mut [u8], at: usize, old: usize, used: usize, new: usize)
     requires { ⌜ (at + old ≤ used) × (used ≤ length (now s)) × (used + new ≤ length (now s) + old) ⌝ }
-    ensures { λ _. ⌜ now (s .exit) ≡ moved at old used new (now (s .entry)) ⌝ }
+    ensures { λ _. ⌜ now (s .exit) ≡ splicedAt at old used new (now (s .entry)) ⌝ }
 {
     let n = used - (at + old);
     if new <= old {
@@ -113,8 +127,8 @@ pub(crate) fn splice(s: &mut [u8], at: usize, old: usize, used: usize, new: usiz
 
 // Writes a number of two bytes, low byte first.
 pub(crate) fn put16(s: &mut [u8], at: usize, v: usize)
-    requires { ⌜ (at + 2 ≤ length (now s)) × (v < 65536) ⌝ }
-    ensures { λ _. ⌜ now (s .exit) ≡ put (now (s .entry)) at (le 2 v) ⌝ }
+    requires { ⌜ (at + 2 ≤ length (now s)) × (v < wordEnd) ⌝ }
+    ensures { λ _. ⌜ now (s .exit) ≡ withBytes (now (s .entry)) at (le 2 v) ⌝ }
 {
     s[at] = (v % 256) as u8;
     s[at + 1] = (v / 256) as u8;
@@ -123,7 +137,7 @@ pub(crate) fn put16(s: &mut [u8], at: usize, v: usize)
 // Writes bytes.
 pub(crate) fn copy(s: &mut [u8], at: usize, b: &[u8])
     requires { ⌜ at + length (now b) ≤ length (now s) ⌝ }
-    ensures { λ _. ⌜ now (s .exit) ≡ put (now (s .entry)) at (now (b .entry)) ⌝ }
+    ensures { λ _. ⌜ now (s .exit) ≡ withBytes (now (s .entry)) at (now (b .entry)) ⌝ }
 {
     let mut i = 0;
     while i < b.len() {
@@ -134,23 +148,23 @@ pub(crate) fn copy(s: &mut [u8], at: usize, b: &[u8])
 
 // Makes the open mark this one.
 pub(crate) fn remark(s: &mut [u8], on: usize, font: usize, code: usize)
-    requires { ⌜ (12 ≤ length (now s)) × (on < 65536) × (font < 65536) × (code < 65536) ⌝ }
+    requires { ⌜ (leastStore ≤ length (now s)) × (on < wordEnd) × (font < wordEnd) × (code < wordEnd) ⌝ }
     ensures { λ _. ⌜ now (s .exit) ≡ remarked (record { on = on; fontOf = font; codeOf = code }) (now (s .entry)) ⌝ }
 {
-    put16(s, 6, on);
-    put16(s, 8, font);
-    put16(s, 10, code);
+    put16(s, MARK_ON_AT, on);
+    put16(s, MARK_FONT_AT, font);
+    put16(s, MARK_CODE_AT, code);
 }
 
 // Closes the open mark if it names a character of this font.
 pub(crate) fn unmark_font(s: &mut [u8], font: usize)
-    requires { ⌜ 12 ≤ length (now s) ⌝ }
+    requires { ⌜ markRecord ≤ length (now s) ⌝ }
     ensures { λ _. ⌜ now (s .exit) ≡ unmarkedFor font (now (s .entry)) ⌝ }
 {
-    if number::le16(s, 6) != 1 {
+    if number::le16(s, MARK_ON_AT) != 1 {
         return;
     }
-    if number::le16(s, 8) != font {
+    if number::le16(s, MARK_FONT_AT) != font {
         return;
     }
     remark(s, 0, 0, 0);
@@ -158,16 +172,16 @@ pub(crate) fn unmark_font(s: &mut [u8], font: usize)
 
 // Closes the open mark if it names this character.
 pub(crate) fn unmark_character(s: &mut [u8], font: usize, code: usize)
-    requires { ⌜ 12 ≤ length (now s) ⌝ }
+    requires { ⌜ markRecord ≤ length (now s) ⌝ }
     ensures { λ _. ⌜ now (s .exit) ≡ unmarkedAt font code (now (s .entry)) ⌝ }
 {
-    if number::le16(s, 6) != 1 {
+    if number::le16(s, MARK_ON_AT) != 1 {
         return;
     }
-    if number::le16(s, 8) != font {
+    if number::le16(s, MARK_FONT_AT) != font {
         return;
     }
-    if number::le16(s, 10) != code {
+    if number::le16(s, MARK_CODE_AT) != code {
         return;
     }
     remark(s, 0, 0, 0);
@@ -175,21 +189,21 @@ pub(crate) fn unmark_character(s: &mut [u8], font: usize, code: usize)
 
 // Writes a font's record: its head, and what is kept of an accepted block.
 pub(crate) fn write_font(s: &mut [u8], at: usize, n: usize, block: &[u8])
-    requires { ⌜ (at + 72 ≤ length (now s)) × (n < 65536) × (64 ≤ length (now block)) ⌝ }
-    ensures { λ _. ⌜ now (s .exit) ≡ put (now (s .entry)) at (bytesOf (font n (keptHeader (now (block .entry))))) ⌝ }
+    requires { ⌜ (at + fontRecord ≤ length (now s)) × (n < wordEnd) × (headerBytes ≤ length (now block)) ⌝ }
+    ensures { λ _. ⌜ now (s .exit) ≡ withBytes (now (s .entry)) at (bytesOf (font n (keptHeader (now (block .entry))))) ⌝ }
 {
-    put16(s, at, 72);
+    put16(s, at, FONT_RECORD);
     put16(s, at + 2, 0);
-    put16(s, at + 4, 2);
-    put16(s, at + 6, n);
-    let from = at + 8;
-    let to = at + 72;
+    put16(s, at + KIND_AT, FONT_KIND);
+    put16(s, at + NUMBER_AT, n);
+    let from = at + FONT_KEPT_AT;
+    let to = at + FONT_RECORD;
     blocks::header::keep_header(block, &mut s[from..to]);
 }
 
 // Makes the open mark name this character, or none.
 pub(crate) fn mark_character(s: &mut [u8], marked: bool, font: usize, code: usize)
-    requires { ⌜ (12 ≤ length (now s)) × (font < 65536) × (code < 65536) ⌝ }
+    requires { ⌜ (leastStore ≤ length (now s)) × (font < wordEnd) × (code < wordEnd) ⌝ }
     ensures { λ _. ⌜ now (s .exit) ≡ remarked (cond marked (record { on = 1; fontOf = font; codeOf = code }) shut) (now (s .entry)) ⌝ }
 {
     if marked {
@@ -201,8 +215,8 @@ pub(crate) fn mark_character(s: &mut [u8], marked: bool, font: usize, code: usiz
 
 // Takes a font with its characters, from lo to hi, out of the records.
 pub(crate) fn cut_font(s: &mut [u8], lo: usize, hi: usize, used: usize, font: usize)
-    requires { ⌜ (12 ≤ lo) × (lo ≤ hi) × (hi ≤ used) × (used ≤ length (now s)) ⌝ }
-    ensures { λ _. ⌜ now (s .exit) ≡ unmarkedFor font (moved lo (hi - lo) used 0 (now (s .entry))) ⌝ }
+    requires { ⌜ (markRecord ≤ lo) × (lo ≤ hi) × (hi ≤ used) × (used ≤ length (now s)) ⌝ }
+    ensures { λ _. ⌜ now (s .exit) ≡ unmarkedFor font (splicedAt lo (hi - lo) used 0 (now (s .entry))) ⌝ }
 {
     splice(s, lo, hi - lo, used, 0);
     unmark_font(s, font);
@@ -210,22 +224,22 @@ pub(crate) fn cut_font(s: &mut [u8], lo: usize, hi: usize, used: usize, font: us
 
 // Writes the head of a character's record.
 fn write_head(s: &mut [u8], at: usize, len: usize, font: usize, code: usize)
-    requires { ⌜ (at + 10 ≤ length (now s)) × (len < 65536) × (font < 65536) × (code < 65536) ⌝ }
-    ensures { λ _. ⌜ now (s .exit) ≡ put (now (s .entry)) at (headBytes len font code) ⌝ }
+    requires { ⌜ (at + characterKeptAt ≤ length (now s)) × (len < wordEnd) × (font < wordEnd) × (code < wordEnd) ⌝ }
+    ensures { λ _. ⌜ now (s .exit) ≡ withBytes (now (s .entry)) at (characterHead len font code) ⌝ }
 {
     put16(s, at, len);
     put16(s, at + 2, 0);
-    put16(s, at + 4, 3);
-    put16(s, at + 6, font);
-    put16(s, at + 8, code);
+    put16(s, at + KIND_AT, CHARACTER_KIND);
+    put16(s, at + NUMBER_AT, font);
+    put16(s, at + CODE_AT, code);
 }
 
 // Writes the kept bytes of an accepted first block's descriptor at a place.
 fn write_descriptor(s: &mut [u8], at: usize, block: &[u8])
-    requires { ⌜ (at + 16 ≤ length (now s)) × (16 ≤ length (now block)) ⌝ }
-    ensures { λ _. ⌜ now (s .exit) ≡ put (now (s .entry)) at (keptFirst (now (block .entry))) ⌝ }
+    requires { ⌜ (at + descriptorBytes ≤ length (now s)) × (descriptorBytes ≤ length (now block)) ⌝ }
+    ensures { λ _. ⌜ now (s .exit) ≡ withBytes (now (s .entry)) at (keptFirst (now (block .entry))) ⌝ }
 {
-    let to = at + 16;
+    let to = at + DESCRIPTOR_BYTES;
     blocks::character::keep_first(block, &mut s[at..to]);
 }
 
@@ -238,21 +252,21 @@ pub(crate) fn write_character(
     block: &[u8],
     n: usize,
 )
-    requires { ⌜ (at + 26 + n ≤ length (now s)) × (font < 65536) × (code < 65536) × (n ≤ 32768) × (16 + n ≤ length (now block)) ⌝ }
-    ensures { λ _. ⌜ now (s .exit) ≡ put (now (s .entry)) at (bytesOf (character font code (keptFirst (now (block .entry))) (take n (drop 16 (now (block .entry)))))) ⌝ }
+    requires { ⌜ (at + characterRecord + n ≤ length (now s)) × (font < wordEnd) × (code < wordEnd) × (n ≤ dataLimit) × (descriptorBytes + n ≤ length (now block)) ⌝ }
+    ensures { λ _. ⌜ now (s .exit) ≡ withBytes (now (s .entry)) at (bytesOf (character font code (keptFirst (now (block .entry))) (take n (drop descriptorBytes (now (block .entry)))))) ⌝ }
 {
-    write_head(s, at, 26 + n, font, code);
-    write_descriptor(s, at + 10, block);
-    let end = 16 + n;
-    copy(s, at + 26, &block[16..end]);
+    write_head(s, at, CHARACTER_RECORD + n, font, code);
+    write_descriptor(s, at + CHARACTER_KEPT_AT, block);
+    let end = DESCRIPTOR_BYTES + n;
+    copy(s, at + CHARACTER_RECORD, &block[DESCRIPTOR_BYTES..end]);
 }
 
 // Makes a character's record of old bytes longer by n bytes of a continuation.
 pub(crate) fn extend_character(s: &mut [u8], at: usize, old: usize, block: &[u8], n: usize)
-    requires { ⌜ (at + old + n ≤ length (now s)) × (2 ≤ old) × (old + n < 65536) × (2 + n ≤ length (now block)) ⌝ }
-    ensures { λ _. ⌜ now (s .exit) ≡ put (put (now (s .entry)) at (le 2 (old + n))) (at + old) (take n (drop 2 (now (block .entry)))) ⌝ }
+    requires { ⌜ (at + old + n ≤ length (now s)) × (2 ≤ old) × (old + n < wordEnd) × (continuationBytes + n ≤ length (now block)) ⌝ }
+    ensures { λ _. ⌜ now (s .exit) ≡ withBytes (withBytes (now (s .entry)) at (le 2 (old + n))) (at + old) (take n (drop continuationBytes (now (block .entry)))) ⌝ }
 {
     put16(s, at, old + n);
-    let end = 2 + n;
-    copy(s, at + old, &block[2..end]);
+    let end = CONTINUATION_BYTES + n;
+    copy(s, at + old, &block[CONTINUATION_BYTES..end]);
 }

@@ -3,6 +3,9 @@ ghost use mathlib.Core.Path.{_≡_};
 ghost use Rattle.store.specs.Answer.{toldOf};
 ghost use Rattle.store.specs.Calls.{removingCharacter, tellingCharacter};
 use crate::change;
+use crate::layout::CHARACTER_KEPT_AT;
+use crate::layout::CHARACTER_RECORD;
+use crate::layout::DESCRIPTOR_BYTES;
 use crate::seek;
 use crate::seek::Sought;
 use crate::telling;
@@ -31,14 +34,14 @@ pub fn tell_character(s: &[u8], out: &mut [u8], font: u32, code: u32) -> Told
     match seek::seek_character(s, font, code) {
         Sought::Refused(k) => telling::untold(k),
         Sought::Here(p) => {
-            if out.len() < 16 {
+            if out.len() < DESCRIPTOR_BYTES {
                 return telling::untold(12);
             }
             let at = p.from;
-            telling::copy_kept(s, at + 10, 16, out);
+            telling::copy_kept(s, at + CHARACTER_KEPT_AT, DESCRIPTOR_BYTES, out);
             Told {
                 refusal: 0,
-                count: (p.to - (at + 26)) as u32,
+                count: (p.to - (at + CHARACTER_RECORD)) as u32,
             }
         }
     }

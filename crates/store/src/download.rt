@@ -1,17 +1,28 @@
 // Downloading a character block: a first block replaces a character of its code, a continuation joins what is kept of the open one.
 ghost use mathlib.Core.Path.{_≡_};
-ghost use mathlib.Core.Bool.{Bool, true};
+ghost use mathlib.Core.Bool.{true};
 ghost use mathlib.Core.List.{_++_};
 ghost use Prim.Native.Nat.{_+_, _≤_, _<_};
 ghost use lib.ListN.{length, take, drop};
-ghost use Rattle.blocks.specs.Character.{class, width, height, keptFirst, characterLength, kindOf, readFirst};
-ghost use Rattle.blocks.specs.declared.character.Kind.the-variants.{First, Continuation};
+ghost use Rattle.blocks.specs.Character.{class, width, height, keptFirst, characterLength, kindOf, readFirst, continuationBytes, dataLimit, descriptorBytes};
+ghost use Rattle.blocks.specs.declared.character.Kind.the-variants.{First};
 ghost use Rattle.blocks.specs.declared.Verdict.the-variants.{Taken};
 ghost use Rattle.blocks.specs.Picture.{judge};
+ghost use Rattle.store.specs.Layout.{lastCode, lastFont, markRecord};
 ghost use Rattle.store.specs.Model.{heldOf, isUnfinished, markIn};
-ghost use Rattle.store.specs.Walk.{Stands, Arriving, Fitting, Growing, Continued, keptAt, dataAt, fontTurn};
-ghost use Rattle.store.specs.Download.{names, placed, puttingFirst, puttingMore, puttingBlock, downloadingCharacter};
+ghost use Rattle.store.specs.Walk.{Stands, Arriving, Fitting, Growing, Continued, keptAt, dataAt, fontOrientation};
+ghost use Rattle.store.specs.Download.{names, downloadingCharacter};
+ghost use Rattle.store.specs.Putting.{placed, puttingFirst, puttingMore, puttingBlock};
 use crate::change;
+use crate::layout::CHARACTER_KEPT_AT;
+use crate::layout::CHARACTER_RECORD;
+use crate::layout::CONTINUATION_BYTES;
+use crate::layout::DATA_LIMIT;
+use crate::layout::DESCRIPTOR_BYTES;
+use crate::layout::FONT_ORIENTATION_AT;
+use crate::layout::MARK_CODE_AT;
+use crate::layout::MARK_FONT_AT;
+use crate::layout::MARK_ON_AT;
 use crate::number;
 use crate::seek;
 use crate::walk;
@@ -21,34 +32,33 @@ use crate::walk::Places;
 use blocks::Verdict;
 use blocks::character;
 use blocks::character::Kind;
-use blocks::field;
 use blocks::picture;
 use blocks::picture::Judged;
 
 // The data of a first block.
 fn judge_block(block: &[u8]) -> Judged
-    requires { ⌜ 16 ≤ length (now block) ⌝ }
-    ensures { λ r. ⌜ r ≡ judge (class (now (block .entry))) (width (now (block .entry))) (height (now (block .entry))) (drop 16 (now (block .entry))) ⌝ }
+    requires { ⌜ descriptorBytes ≤ length (now block) ⌝ }
+    ensures { λ r. ⌜ r ≡ judge (class (now (block .entry))) (width (now (block .entry))) (height (now (block .entry))) (drop descriptorBytes (now (block .entry))) ⌝ }
 {
     picture::judge_first(
-        block[3],
-        field::word(block, 10),
-        field::word(block, 12),
-        &block[16..],
+        character::class(block),
+        character::width(block),
+        character::height(block),
+        &block[DESCRIPTOR_BYTES..],
     )
 }
 
 // The data kept of a character with the descriptor h, and then a continuation's.
 fn judge_more(h: &[u8], kept: &[u8], block: &[u8]) -> Judged
-    requires { ⌜ (length (now h) ≡ 16) × (2 ≤ length (now block)) ⌝ }
-    ensures { λ r. ⌜ r ≡ judge (class (now (h .entry))) (width (now (h .entry))) (height (now (h .entry))) (now (kept .entry) ++ drop 2 (now (block .entry))) ⌝ }
+    requires { ⌜ (length (now h) ≡ descriptorBytes) × (continuationBytes ≤ length (now block)) ⌝ }
+    ensures { λ r. ⌜ r ≡ judge (class (now (h .entry))) (width (now (h .entry))) (height (now (h .entry))) (now (kept .entry) ++ drop continuationBytes (now (block .entry))) ⌝ }
 {
     picture::judge_joined(
-        h[3],
-        field::word(h, 10),
-        field::word(h, 12),
+        character::class(h),
+        character::width(h),
+        character::height(h),
         kept,
-        &block[2..],
+        &block[CONTINUATION_BYTES..],
     )
 }
 
@@ -62,19 +72,19 @@ fn place_first(
     n: usize,
     marked: bool,
 ) -> u32
-    requires { ⌜ (n ≤ 32768) × (16 + n ≤ length (now block)) × Fitting font code (keptFirst (now block)) (take n (drop 16 (now block))) (now s) p ⌝ }
-    requires { ⌜ marked ≡ isUnfinished (heldOf (keptFirst (now block)) (take n (drop 16 (now block)))) ⌝ }
-    ensures { λ r. ⌜ r ≡ placed font code (keptFirst (now (block .entry))) (take n (drop 16 (now (block .entry)))) (now (s .entry)) .answer ⌝ }
-    ensures { λ _. ⌜ now (s .exit) ≡ placed font code (keptFirst (now (block .entry))) (take n (drop 16 (now (block .entry)))) (now (s .entry)) .bytes ⌝ }
+    requires { ⌜ (n ≤ dataLimit) × (descriptorBytes + n ≤ length (now block)) × Fitting font code (keptFirst (now block)) (take n (drop descriptorBytes (now block))) (now s) p ⌝ }
+    requires { ⌜ marked ≡ isUnfinished (heldOf (keptFirst (now block)) (take n (drop descriptorBytes (now block)))) ⌝ }
+    ensures { λ r. ⌜ r ≡ placed font code (keptFirst (now (block .entry))) (take n (drop descriptorBytes (now (block .entry)))) (now (s .entry)) .answer ⌝ }
+    ensures { λ _. ⌜ now (s .exit) ≡ placed font code (keptFirst (now (block .entry))) (take n (drop descriptorBytes (now (block .entry)))) (now (s .entry)) .bytes ⌝ }
 {
     let from = p.from;
     let old = p.to - from;
     let used = p.used;
-    if s.len() < used - old + (26 + n) {
+    if s.len() < used - old + (CHARACTER_RECORD + n) {
         change::cut_font(s, p.lo, p.hi, used, font);
         return 10;
     }
-    change::splice(s, from, old, used, 26 + n);
+    change::splice(s, from, old, used, CHARACTER_RECORD + n);
     change::write_character(s, from, font, code, block, n);
     change::mark_character(s, marked, font, code);
     0
@@ -90,10 +100,10 @@ fn place_more(
     n: usize,
     marked: bool,
 ) -> u32
-    requires { ⌜ (2 + n ≤ length (now block)) × Growing font code (take n (drop 2 (now block))) (now s) p ⌝ }
-    requires { ⌜ marked ≡ isUnfinished (heldOf (keptAt (now s) p) (dataAt (now s) p ++ take n (drop 2 (now block)))) ⌝ }
-    ensures { λ r. ⌜ r ≡ placed font code (keptAt (now (s .entry)) p) (dataAt (now (s .entry)) p ++ take n (drop 2 (now (block .entry)))) (now (s .entry)) .answer ⌝ }
-    ensures { λ _. ⌜ now (s .exit) ≡ placed font code (keptAt (now (s .entry)) p) (dataAt (now (s .entry)) p ++ take n (drop 2 (now (block .entry)))) (now (s .entry)) .bytes ⌝ }
+    requires { ⌜ (continuationBytes + n ≤ length (now block)) × Growing font code (take n (drop continuationBytes (now block))) (now s) p ⌝ }
+    requires { ⌜ marked ≡ isUnfinished (heldOf (keptAt (now s) p) (dataAt (now s) p ++ take n (drop continuationBytes (now block)))) ⌝ }
+    ensures { λ r. ⌜ r ≡ placed font code (keptAt (now (s .entry)) p) (dataAt (now (s .entry)) p ++ take n (drop continuationBytes (now (block .entry)))) (now (s .entry)) .answer ⌝ }
+    ensures { λ _. ⌜ now (s .exit) ≡ placed font code (keptAt (now (s .entry)) p) (dataAt (now (s .entry)) p ++ take n (drop continuationBytes (now (block .entry)))) (now (s .entry)) .bytes ⌝ }
 {
     let from = p.from;
     let old = p.to - from;
@@ -111,7 +121,7 @@ fn place_more(
 // An accepted first block: what is kept of its data goes into the store.
 fn receive_first(s: &mut [u8], p: Places, font: usize, code: usize, block: &[u8]) -> u32
     requires { ⌜ Arriving font code (now s) p × (characterLength (now block) ≡ true) × (kindOf (now block) ≡ First) ⌝ }
-    requires { ⌜ readFirst (now block) (fontTurn (now s) p) ≡ Taken ⌝ }
+    requires { ⌜ readFirst (now block) (fontOrientation (now s) p) ≡ Taken ⌝ }
     ensures { λ r. ⌜ r ≡ puttingFirst font code (now (block .entry)) (now (s .entry)) .answer ⌝ }
     ensures { λ _. ⌜ now (s .exit) ≡ puttingFirst font code (now (block .entry)) (now (s .entry)) .bytes ⌝ }
 {
@@ -122,7 +132,15 @@ fn receive_first(s: &mut [u8], p: Places, font: usize, code: usize, block: &[u8]
             run: _,
         } => 8,
         Judged::Complete(n) => place_first(s, p, font, code, block, n, false),
-        Judged::Incomplete => place_first(s, p, font, code, block, block.len() - 16, true),
+        Judged::Incomplete => place_first(
+            s,
+            p,
+            font,
+            code,
+            block,
+            block.len() - DESCRIPTOR_BYTES,
+            true,
+        ),
     }
 }
 
@@ -131,7 +149,7 @@ fn put_first(s: &mut [u8], p: Places, font: usize, code: usize, block: &[u8]) ->
     ensures { λ r. ⌜ r ≡ puttingFirst font code (now (block .entry)) (now (s .entry)) .answer ⌝ }
     ensures { λ _. ⌜ now (s .exit) ≡ puttingFirst font code (now (block .entry)) (now (s .entry)) .bytes ⌝ }
 {
-    let at = p.lo + 20;
+    let at = p.lo + FONT_ORIENTATION_AT;
     match character::read_first(block, s[at]) {
         Verdict::Refused(k) => k as u32,
         Verdict::Taken => receive_first(s, p, font, code, block),
@@ -140,16 +158,16 @@ fn put_first(s: &mut [u8], p: Places, font: usize, code: usize, block: &[u8]) ->
 
 // Whether the open mark names this character.
 fn is_open(s: &[u8], font: usize, code: usize) -> bool
-    requires { ⌜ 12 ≤ length (now s) ⌝ }
+    requires { ⌜ markRecord ≤ length (now s) ⌝ }
     ensures { λ r. ⌜ r ≡ names font code (markIn (now (s .entry))) ⌝ }
 {
-    if number::le16(s, 6) != 1 {
+    if number::le16(s, MARK_ON_AT) != 1 {
         return false;
     }
-    if number::le16(s, 8) != font {
+    if number::le16(s, MARK_FONT_AT) != font {
         return false;
     }
-    number::le16(s, 10) == code
+    number::le16(s, MARK_CODE_AT) == code
 }
 
 // n more bytes of a continuation, where a character's data may not pass 32,768 bytes.
@@ -162,12 +180,12 @@ fn receive_more(
     n: usize,
     marked: bool,
 ) -> u32
-    requires { ⌜ (2 + n ≤ length (now block)) × Arriving font code (now s) p × (names font code (markIn (now s)) ≡ true) ⌝ }
+    requires { ⌜ (continuationBytes + n ≤ length (now block)) × Arriving font code (now s) p × (names font code (markIn (now s)) ≡ true) ⌝ }
     requires { ⌜ Continued (now s) p (now block) n marked ⌝ }
     ensures { λ r. ⌜ r ≡ puttingMore font code (now (block .entry)) (now (s .entry)) .answer ⌝ }
     ensures { λ _. ⌜ now (s .exit) ≡ puttingMore font code (now (block .entry)) (now (s .entry)) .bytes ⌝ }
 {
-    if 32768 < p.to - (p.from + 26) + n {
+    if DATA_LIMIT < p.to - (p.from + CHARACTER_RECORD) + n {
         return 9;
     }
     place_more(s, p, font, code, block, n, marked)
@@ -181,8 +199,8 @@ fn put_more(s: &mut [u8], p: Places, font: usize, code: usize, block: &[u8]) -> 
     if !is_open(s, font, code) {
         return 7;
     }
-    let h = p.from + 10;
-    let d = p.from + 26;
+    let h = p.from + CHARACTER_KEPT_AT;
+    let d = p.from + CHARACTER_RECORD;
     let to = p.to;
     match judge_more(&s[h..d], &s[d..to], block) {
         Judged::PastWidth {
@@ -191,25 +209,33 @@ fn put_more(s: &mut [u8], p: Places, font: usize, code: usize, block: &[u8]) -> 
             run: _,
         } => 8,
         Judged::Complete(k) => receive_more(s, p, font, code, block, k - (to - d), false),
-        Judged::Incomplete => receive_more(s, p, font, code, block, block.len() - 2, true),
+        Judged::Incomplete => receive_more(
+            s,
+            p,
+            font,
+            code,
+            block,
+            block.len() - CONTINUATION_BYTES,
+            true,
+        ),
     }
 }
 
 // A block for a store that is one, with numbers in range and their places known.
 pub(crate) fn put_block(s: &mut [u8], p: Places, font: u32, code: u32, block: &[u8]) -> u32
-    requires { ⌜ Stands font (code + 1) (now s) p × (font ≤ 32767) × (code ≤ 255) ⌝ }
+    requires { ⌜ Stands font (code + 1) (now s) p × (font ≤ lastFont) × (code ≤ lastCode) ⌝ }
     ensures { λ r. ⌜ r ≡ puttingBlock font code (now (block .entry)) (now (s .entry)) .answer ⌝ }
     ensures { λ _. ⌜ now (s .exit) ≡ puttingBlock font code (now (block .entry)) (now (s .entry)) .bytes ⌝ }
 {
     if !character::length_allowed(block) {
         return 3;
     }
-    let Lookup::At(_) = walk::look_up(p.lo, p.hi) else {
+    let Lookup::At(at) = walk::look_up_font(p) else {
         return 6;
     };
     match character::kind_of(block) {
-        Kind::First => put_first(s, p, font as usize, code as usize, block),
-        Kind::Continuation => put_more(s, p, font as usize, code as usize, block),
+        Kind::First => put_first(s, at, font as usize, code as usize, block),
+        Kind::Continuation => put_more(s, at, font as usize, code as usize, block),
         Kind::Unknown => 4,
     }
 }

@@ -2,11 +2,22 @@
 ghost use mathlib.Core.Path.{_≡_};
 ghost use Prim.Native.Nat.{_≤_};
 ghost use Rattle.blocks.specs.declared.Verdict.the-variants.{Taken};
+ghost use Rattle.store.specs.Layout.{lastFont};
 ghost use Rattle.store.specs.Answer.{toldOf};
 ghost use Rattle.store.specs.Walk.{Stands};
 ghost use Rattle.blocks.specs.Header.{readHeader};
-ghost use Rattle.store.specs.Calls.{makingFresh, removingFont, puttingFont, downloadingFont, tellingFont};
+ghost use Rattle.store.specs.Calls.{makingFresh, removingFont, downloadingFont, tellingFont};
+ghost use Rattle.store.specs.Putting.{puttingFont};
 use crate::change;
+use crate::layout::FONT_KEPT_AT;
+use crate::layout::FONT_RECORD;
+use crate::layout::HEADER_BYTES;
+use crate::layout::KIND_AT;
+use crate::layout::LAST_FONT_ASKED;
+use crate::layout::LEAST_STORE;
+use crate::layout::MARK_KIND;
+use crate::layout::MARK_RECORD;
+use crate::layout::MOST_STORE;
 use crate::seek;
 use crate::seek::Sought;
 use crate::telling;
@@ -23,15 +34,15 @@ pub fn make_fresh(s: &mut [u8]) -> u32
     ensures { λ _. ⌜ now (s .exit) ≡ makingFresh (now (s .entry)) .bytes ⌝ }
 {
     let n = s.len();
-    if n < 12 {
+    if n < LEAST_STORE {
         return 1;
     }
-    if 65536 < n {
+    if MOST_STORE < n {
         return 1;
     }
     change::clear(s, 0, n);
-    change::put16(s, 0, 12);
-    change::put16(s, 4, 1);
+    change::put16(s, 0, MARK_RECORD);
+    change::put16(s, KIND_AT, MARK_KIND);
     0
 }
 
@@ -51,7 +62,7 @@ pub fn remove_font(s: &mut [u8], font: u32) -> u32
 
 // Puts an accepted block's font in the place of any of its number with its characters. Its places p are known.
 pub(crate) fn put_font(s: &mut [u8], p: Places, font: u32, block: &[u8]) -> u32
-    requires { ⌜ (font ≤ 32767) × (readHeader (now block) ≡ Taken) × Stands font 0 (now s) p ⌝ }
+    requires { ⌜ (font ≤ lastFont) × (readHeader (now block) ≡ Taken) × Stands font 0 (now s) p ⌝ }
     ensures { λ r. ⌜ r ≡ puttingFont font (now (block .entry)) (now (s .entry)) .answer ⌝ }
     ensures { λ _. ⌜ now (s .exit) ≡ puttingFont font (now (block .entry)) (now (s .entry)) .bytes ⌝ }
 {
@@ -59,10 +70,10 @@ pub(crate) fn put_font(s: &mut [u8], p: Places, font: u32, block: &[u8]) -> u32
     let lo = p.lo;
     let old = p.hi - lo;
     let used = p.used;
-    if s.len() < used - old + 72 {
+    if s.len() < used - old + FONT_RECORD {
         return 10;
     }
-    change::splice(s, lo, old, used, 72);
+    change::splice(s, lo, old, used, FONT_RECORD);
     change::write_font(s, lo, n, block);
     change::unmark_font(s, n);
     0
@@ -76,7 +87,7 @@ pub fn download_font(s: &mut [u8], block: &[u8], font: u32) -> u32
     let Inspected::Found(p) = walk::inspect(s, font as usize, 0) else {
         return 1;
     };
-    if 32767 < font {
+    if LAST_FONT_ASKED < font {
         return 2;
     }
     match header::read_header(block) {
@@ -92,11 +103,11 @@ pub fn tell_font(s: &[u8], out: &mut [u8], font: u32) -> Told
     match seek::seek_font(s, font) {
         Sought::Refused(k) => telling::untold(k),
         Sought::Here(p) => {
-            if out.len() < 64 {
+            if out.len() < HEADER_BYTES {
                 return telling::untold(12);
             }
             let at = p.lo;
-            telling::copy_kept(s, at + 8, 64, out);
+            telling::copy_kept(s, at + FONT_KEPT_AT, HEADER_BYTES, out);
             Told {
                 refusal: 0,
                 count: p.chars as u32,

@@ -1,17 +1,14 @@
 // The kept fonts of a store one after the other, by rising number, for callers that know nothing of its form.
-ghost use mathlib.Core.Path.{_≡_};
-ghost use Prim.Native.Nat.{_+_, _≤_};
-ghost use lib.ListN.{length, drop};
-ghost use Rattle.store.specs.Fonts.{Place, Begun, Onward, fontsAt};
+ghost use Prim.Native.Nat.{_+_};
+ghost use Rattle.store.specs.Records.{Place};
+ghost use Rattle.store.specs.Fonts.{Onward};
+use crate::layout::CHARACTER_RECORD;
+use crate::layout::FONT_KEPT_AT;
+use crate::layout::FONT_KIND;
+use crate::layout::FONT_RECORD;
+use crate::layout::KIND_AT;
+use crate::layout::NUMBER_AT;
 use crate::number;
-use crate::walk;
-use crate::walk::Inspected;
-
-// Where the run of records begins.
-pub enum Begin {
-    At(usize),
-    NotStore,
-}
 
 // A font met on the run: its number, where its kept bytes stand, and the place behind it.
 pub enum Next {
@@ -23,31 +20,22 @@ pub enum Next {
     End,
 }
 
-pub fn fonts_begin(s: &[u8]) -> Begin
-    ensures { λ b. ⌜ Begun (now (s .entry)) b ⌝ }
-{
-    let Inspected::Found(_) = walk::inspect(s, 0, 0) else {
-        return Begin::NotStore;
-    };
-    Begin::At(12)
-}
-
 pub fn next_font(s: &[u8], at: usize) -> Next
     requires { ⌜ Place (now s) at ⌝ }
     ensures { λ n. ⌜ Onward (now (s .entry)) at n ⌝ }
 {
     let mut p = at;
-    while 26 <= s.len() - p {
+    while CHARACTER_RECORD <= s.len() - p {
         let len = number::le32(s, p);
         if len == 0 {
             return Next::End;
         }
-        if number::le16(s, p + 4) == 2 {
-            let n = number::le16(s, p + 6);
+        if number::le16(s, p + KIND_AT) == FONT_KIND {
+            let n = number::le16(s, p + NUMBER_AT);
             return Next::Font {
                 number: n as u32,
-                kept: p + 8,
-                next: p + 72,
+                kept: p + FONT_KEPT_AT,
+                next: p + FONT_RECORD,
             };
         }
         p += len;

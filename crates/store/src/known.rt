@@ -2,11 +2,14 @@
 // one ended.
 ghost use mathlib.Core.Path.{_≡_};
 ghost use Prim.Native.Nat.{_+_, _≤_};
+ghost use Rattle.store.specs.Layout.{lastCode, lastFont, mostStore};
 ghost use Rattle.store.specs.Calls.{downloadingFont};
 ghost use Rattle.store.specs.Download.{downloadingCharacter};
 ghost use Rattle.store.specs.Cursor.{Points, Opening, fontEnd, Came};
 use crate::download;
 use crate::fonts;
+use crate::layout::FONT_RECORD;
+use crate::layout::KEYS_EACH;
 use crate::locate;
 use crate::locate::Cursor;
 use crate::number;
@@ -46,18 +49,18 @@ pub fn open_store(s: &[u8]) -> Opened
 
 // Where the records end behind a font block.
 fn font_end(p: Places, answer: u32) -> usize
-    requires { ⌜ (p .lo ≤ p .hi) × (p .hi ≤ p .used) × (p .used ≤ 65536) ⌝ }
+    requires { ⌜ (p .lo ≤ p .hi) × (p .hi ≤ p .used) × (p .used ≤ mostStore) ⌝ }
     ensures { λ r. ⌜ r ≡ fontEnd p answer ⌝ }
 {
     if answer == 0 {
-        return p.used - (p.hi - p.lo) + 72;
+        return p.used - (p.hi - p.lo) + FONT_RECORD;
     }
     p.used
 }
 
 // Downloads a font block.
 pub fn add_font(s: &mut [u8], c: Cursor, block: &[u8], font: u32) -> Added
-    requires { ⌜ Points (now s) c × (font ≤ 32767) ⌝ }
+    requires { ⌜ Points (now s) c × (font ≤ lastFont) ⌝ }
     ensures { λ r. ⌜ (r .answer ≡ downloadingFont font (now (block .entry)) (now (s .entry)) .answer) × Points (now (s .exit)) (r .cursor) ⌝ }
     ensures { λ _. ⌜ now (s .exit) ≡ downloadingFont font (now (block .entry)) (now (s .entry)) .bytes ⌝ }
 {
@@ -74,7 +77,7 @@ pub fn add_font(s: &mut [u8], c: Cursor, block: &[u8], font: u32) -> Added
                 used: font_end(p, answer),
                 font: n,
                 lo: p.lo,
-                key: n * 257 + 0,
+                key: n * KEYS_EACH + 0,
                 at: p.lo,
             };
             Added {
@@ -95,12 +98,12 @@ fn past_character(s: &[u8], p: Places, font: usize, code: usize, answer: u32) ->
             used: p.used - (p.hi - p.lo),
             font: font,
             lo: p.lo,
-            key: font * 257 + 0,
+            key: font * KEYS_EACH + 0,
             at: p.lo,
         };
     }
     let from = p.from;
-    let key = font * 257 + (code + 1);
+    let key = font * KEYS_EACH + (code + 1);
     if answer == 0 {
         return Cursor {
             used: p.used - (p.to - from) + number::le32(s, from),
@@ -121,7 +124,7 @@ fn past_character(s: &[u8], p: Places, font: usize, code: usize, answer: u32) ->
 
 // Downloads a character block.
 pub fn add_character(s: &mut [u8], c: Cursor, block: &[u8], font: u32, code: u32) -> Added
-    requires { ⌜ Points (now s) c × (font ≤ 32767) × (code ≤ 255) ⌝ }
+    requires { ⌜ Points (now s) c × (font ≤ lastFont) × (code ≤ lastCode) ⌝ }
     ensures { λ r. ⌜ (r .answer ≡ downloadingCharacter font code (now (block .entry)) (now (s .entry)) .answer) × Points (now (s .exit)) (r .cursor) ⌝ }
     ensures { λ _. ⌜ now (s .exit) ≡ downloadingCharacter font code (now (block .entry)) (now (s .entry)) .bytes ⌝ }
 {

@@ -3,9 +3,15 @@
 ghost use mathlib.Core.Path.{_≡_};
 ghost use Prim.Native.Nat.{_+_, _≤_};
 ghost use lib.ListN.{length};
-ghost use Rattle.store.specs.Layout.{keyOf};
+ghost use Rattle.store.specs.Layout.{keyOf, characterRecord, lastFont, lastCode};
 ghost use Rattle.store.specs.Walk.{Stands};
 ghost use Rattle.store.specs.Cursor.{keyAt, Seeking, Reaches, Points};
+use crate::layout::CODE_AT;
+use crate::layout::FONT_KIND;
+use crate::layout::KEYS_EACH;
+use crate::layout::KIND_AT;
+use crate::layout::MARK_RECORD;
+use crate::layout::NUMBER_AT;
 use crate::number;
 use crate::walk::Places;
 
@@ -20,14 +26,14 @@ pub struct Cursor {
 
 // The key of the record that begins at a place.
 fn key_at(s: &[u8], at: usize) -> usize
-    requires { ⌜ at + 26 ≤ length (now s) ⌝ }
+    requires { ⌜ at + characterRecord ≤ length (now s) ⌝ }
     ensures { λ r. ⌜ r ≡ keyAt (now (s .entry)) at ⌝ }
 {
-    let font = number::le16(s, at + 6);
-    if number::le16(s, at + 4) == 2 {
-        return font * 257 + 0;
+    let font = number::le16(s, at + NUMBER_AT);
+    if number::le16(s, at + KIND_AT) == FONT_KIND {
+        return font * KEYS_EACH + 0;
     }
-    font * 257 + (number::le16(s, at + 8) + 1)
+    font * KEYS_EACH + (number::le16(s, at + CODE_AT) + 1)
 }
 
 // The place of a key, by a search that begins at from.
@@ -53,10 +59,10 @@ fn seek_key(s: &[u8], c: Cursor, key: usize) -> usize
     if c.key <= key {
         return advance(s, c.used, c.at, key);
     }
-    if c.font * 257 + 0 <= key {
+    if c.font * KEYS_EACH + 0 <= key {
         return advance(s, c.used, c.lo, key);
     }
-    advance(s, c.used, 12, key)
+    advance(s, c.used, MARK_RECORD, key)
 }
 
 // The place of a key in a font whose place lo is known: from the cursor, if it is nearer.
@@ -75,14 +81,14 @@ fn seek_place(s: &[u8], c: Cursor, lo: usize, font: usize, key: usize) -> usize
 
 // Where font `font` stands in a store, and the record at a place of it: 0 the font itself, code + 1 a character. Its characters are not counted.
 pub(crate) fn locate(s: &[u8], c: Cursor, font: usize, place: usize) -> Places
-    requires { ⌜ Points (now s) c × (font ≤ 32767) × (place ≤ 256) ⌝ }
+    requires { ⌜ Points (now s) c × (font ≤ lastFont) × (place ≤ lastCode + 1) ⌝ }
     ensures { λ r. ⌜ Stands font place (now (s .entry)) r ⌝ }
 {
-    let key = font * 257 + place;
-    let lo = seek_key(s, c, font * 257 + 0);
+    let key = font * KEYS_EACH + place;
+    let lo = seek_key(s, c, font * KEYS_EACH + 0);
     let from = seek_place(s, c, lo, font, key);
     let to = advance(s, c.used, from, key + 1);
-    let hi = advance(s, c.used, to, (font + 1) * 257 + 0);
+    let hi = advance(s, c.used, to, (font + 1) * KEYS_EACH + 0);
     Places {
         used: c.used,
         lo: lo,

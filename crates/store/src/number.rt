@@ -2,7 +2,8 @@
 ghost use mathlib.Core.Path.{_≡_};
 ghost use Prim.Native.Nat.{_+_, _≤_, _<_};
 ghost use lib.ListN.{length, drop};
-ghost use Rattle.store.specs.Num.{field, allZero};
+ghost use Rattle.store.specs.Num.{wordEnd, field, allZero};
+use crate::layout::WORD_END;
 
 fn wide(x: u8) -> usize
     ensures { λ r. ⌜ r ≡ x ⌝ }
@@ -12,7 +13,7 @@ fn wide(x: u8) -> usize
 
 pub fn le16(s: &[u8], at: usize) -> usize
     requires { ⌜ at + 2 ≤ length (now s) ⌝ }
-    ensures { λ r. ⌜ (r ≡ field 2 at (now (s .entry))) × (r < 65536) ⌝ }
+    ensures { λ r. ⌜ (r ≡ field 2 at (now (s .entry))) × (r < wordEnd) ⌝ }
 {
     wide(s[at]) + 256 * wide(s[at + 1])
 }
@@ -21,7 +22,7 @@ pub fn le32(s: &[u8], at: usize) -> usize
     requires { ⌜ at + 4 ≤ length (now s) ⌝ }
     ensures { λ r. ⌜ r ≡ field 4 at (now (s .entry)) ⌝ }
 {
-    le16(s, at) + 65536 * le16(s, at + 2)
+    le16(s, at) + WORD_END * le16(s, at + 2)
 }
 
 // Whether all bytes from a place on are 0. It has no early end, so that many bytes are tested at a time.

@@ -2,6 +2,8 @@
 ghost use mathlib.Core.Path.{_≡_};
 ghost use Rattle.store.specs.Answer.{numbered};
 ghost use Rattle.store.specs.Walk.{soughtFont, soughtCharacter};
+use crate::layout::LAST_CODE_ASKED;
+use crate::layout::LAST_FONT_ASKED;
 use crate::walk;
 use crate::walk::Inspected;
 use crate::walk::Lookup;
@@ -19,20 +21,20 @@ pub fn seek_font(s: &[u8], font: u32) -> Sought
     let Inspected::Found(p) = walk::inspect(s, font as usize, 0) else {
         return Sought::Refused(1);
     };
-    if 32767 < font {
+    if LAST_FONT_ASKED < font {
         return Sought::Refused(2);
     }
-    let Lookup::At(_) = walk::look_up(p.lo, p.hi) else {
+    let Lookup::At(at) = walk::look_up_font(p) else {
         return Sought::Refused(6);
     };
-    Sought::Here(p)
+    Sought::Here(at)
 }
 
 // A font number and a code within range.
 pub(crate) fn in_range(font: u32, code: u32) -> bool
     ensures { λ r. ⌜ r ≡ numbered font code ⌝ }
 {
-    (font <= 32767) & (code <= 255)
+    (font <= LAST_FONT_ASKED) & (code <= LAST_CODE_ASKED)
 }
 
 // Checks 1, 2, 6, 7.
@@ -45,11 +47,11 @@ pub(crate) fn seek_character(s: &[u8], font: u32, code: u32) -> Sought
     if !in_range(font, code) {
         return Sought::Refused(2);
     }
-    let Lookup::At(_) = walk::look_up(p.lo, p.hi) else {
+    let Lookup::At(font_at) = walk::look_up_font(p) else {
         return Sought::Refused(6);
     };
-    let Lookup::At(_) = walk::look_up(p.from, p.to) else {
+    let Lookup::At(at) = walk::look_up_character(font_at) else {
         return Sought::Refused(7);
     };
-    Sought::Here(p)
+    Sought::Here(at)
 }

@@ -1,14 +1,35 @@
 // The walk over a buffer's records: whether it is a store, and the places that a call asks for. One pass over the bytes.
 ghost use mathlib.Core.Path.{_≡_};
-ghost use Prim.Native.Nat.{ℕ, _+_, _-_, _*_, _≤_, _<_, _^_};
-ghost use mathlib.Core.Bool.{Bool, true, false};
+ghost use Prim.Native.Nat.{_+_, _-_, _*_, _≤_, _<_};
+ghost use mathlib.Core.Bool.{true, false};
 ghost use lib.ListN.{length, take, drop};
+ghost use Rattle.blocks.specs.Character.{descriptorBytes};
+ghost use Rattle.store.specs.Layout.{characterKeptAt, characterRecord, kindAt, lastFont, leastStore, markRecord, mostStore, characterKind, fontKind, lastCode};
 ghost use Rattle.store.specs.Num.{field};
 ghost use Rattle.store.specs.Model.{Under, heldUnder, split, decode, begins, markIn};
-ghost use Rattle.store.specs.Walk.{headOf, Heading, passed, walked, outcome, Ahead, Within, start, standing, markSeen, surveyed, inspected, countIf, lookedUp};
+ghost use Rattle.store.specs.Walk.{headOf, Heading, passed, walked, walkAfter, Ahead, Within, walkStart, markSeen, surveyed, inspected, countIf, fontLookup, characterLookup};
+use crate::layout::CHARACTER_KEPT_AT;
+use crate::layout::CHARACTER_KIND;
+use crate::layout::CHARACTER_RECORD;
+use crate::layout::CODE_AT;
+use crate::layout::FONT_KEPT_AT;
+use crate::layout::FONT_KIND;
+use crate::layout::FONT_ORIENTATION_AT;
+use crate::layout::FONT_RECORD;
+use crate::layout::KEYS_EACH;
+use crate::layout::KIND_AT;
+use crate::layout::LAST_CODE;
+use crate::layout::LAST_FONT;
+use crate::layout::LEAST_STORE;
+use crate::layout::MARK_CODE_AT;
+use crate::layout::MARK_FONT_AT;
+use crate::layout::MARK_KIND;
+use crate::layout::MARK_ON_AT;
+use crate::layout::MARK_RECORD;
+use crate::layout::MOST_STORE;
+use crate::layout::NUMBER_AT;
 use crate::number;
 use blocks::character;
-use blocks::field;
 use blocks::header;
 use blocks::picture;
 use blocks::picture::Held;
@@ -29,7 +50,7 @@ pub struct Item {
     pub font: usize,
     pub place: usize,
     pub len: usize,
-    pub turn: u8,
+    pub orientation: u8,
     pub unfinished: bool,
 }
 
@@ -51,7 +72,7 @@ pub struct Pos {
     pub marked: bool,
     pub key: usize,
     pub owner: usize,
-    pub turn: u8,
+    pub orientation: u8,
 }
 
 // Where the records end; where a font with its characters starts and ends; where one record starts and ends; how many characters the font has.
@@ -81,9 +102,9 @@ pub enum MarkSeen {
     Wrong,
 }
 
-// A font or a character that was looked up: its place, or none.
+// A font or a character that was looked up: its places, or none.
 pub enum Lookup {
-    At(usize),
+    At(Places),
     Missing,
 }
 
@@ -93,83 +114,88 @@ pub enum Inspected {
 }
 
 // A character's data, by its descriptor, which must be a kept one of a font of this orientation.
-fn held_character(h: &[u8], turn: u8, d: &[u8]) -> Held
-    requires { ⌜ length (now h) ≡ 16 ⌝ }
-    ensures { λ r. ⌜ r ≡ heldUnder turn (now (h .entry)) (now (d .entry)) ⌝ }
+fn held_character(h: &[u8], orientation: u8, d: &[u8]) -> Held
+    requires { ⌜ length (now h) ≡ descriptorBytes ⌝ }
+    ensures { λ r. ⌜ r ≡ heldUnder orientation (now (h .entry)) (now (d .entry)) ⌝ }
 {
-    if !character::is_kept_first(h, turn) {
+    if !character::is_kept_first(h, orientation) {
         return Held::Foreign;
     }
-    picture::held_in(h[3], field::word(h, 10), field::word(h, 12), d)
+    picture::held_in(
+        character::class(h),
+        character::width(h),
+        character::height(h),
+        d,
+    )
 }
 
 // The data of a character record of len bytes.
-fn held_at(s: &[u8], at: usize, len: usize, turn: u8) -> Held
-    requires { ⌜ (26 ≤ len) × (at + len ≤ length (now s)) ⌝ }
-    ensures { λ r. ⌜ r ≡ heldUnder turn (take 16 (drop 10 (drop at (now (s .entry))))) (take (len - 26) (drop 26 (drop at (now (s .entry))))) ⌝ }
+fn held_at(s: &[u8], at: usize, len: usize, orientation: u8) -> Held
+    requires { ⌜ (characterRecord ≤ len) × (at + len ≤ length (now s)) ⌝ }
+    ensures { λ r. ⌜ r ≡ heldUnder orientation (take descriptorBytes (drop characterKeptAt (drop at (now (s .entry))))) (take (len - characterRecord) (drop characterRecord (drop at (now (s .entry))))) ⌝ }
 {
-    let from = at + 10;
-    let to = at + 26;
+    let from = at + CHARACTER_KEPT_AT;
+    let to = at + CHARACTER_RECORD;
     let end = at + len;
-    held_character(&s[from..to], turn, &s[to..end])
+    held_character(&s[from..to], orientation, &s[to..end])
 }
 
 fn look_font(s: &[u8], at: usize, len: usize) -> Head
-    requires { ⌜ Heading (now s) at len × (field 2 (at + 4) (now s) ≡ 2) ⌝ }
+    requires { ⌜ Heading (now s) at len × (field 2 (at + kindAt) (now s) ≡ fontKind) ⌝ }
     ensures { λ r. ⌜ ((u : Under) → r ≡ headOf u (drop at (now (s .entry)))) ⌝ }
 {
-    if len != 72 {
+    if len != FONT_RECORD {
         return Head::Bad;
     }
-    let font = number::le16(s, at + 6);
-    if 32767 < font {
+    let font = number::le16(s, at + NUMBER_AT);
+    if LAST_FONT < font {
         return Head::Bad;
     }
-    let from = at + 8;
-    let to = at + 72;
+    let from = at + FONT_KEPT_AT;
+    let to = at + FONT_RECORD;
     if !header::is_kept_header(&s[from..to]) {
         return Head::Bad;
     }
     Head::Rec(Item {
         font: font,
         place: 0,
-        len: 72,
-        turn: s[at + 20],
+        len: FONT_RECORD,
+        orientation: s[at + FONT_ORIENTATION_AT],
         unfinished: false,
     })
 }
 
-fn look_character(s: &[u8], at: usize, len: usize, owner: usize, turn: u8) -> Head
-    requires { ⌜ Heading (now s) at len × (field 2 (at + 4) (now s) ≡ 3) ⌝ }
-    ensures { λ r. ⌜ r ≡ headOf (record { owner = owner; turn = turn }) (drop at (now (s .entry))) ⌝ }
+fn look_character(s: &[u8], at: usize, len: usize, owner: usize, orientation: u8) -> Head
+    requires { ⌜ Heading (now s) at len × (field 2 (at + kindAt) (now s) ≡ characterKind) ⌝ }
+    ensures { λ r. ⌜ r ≡ headOf (record { owner = owner; orientation = orientation }) (drop at (now (s .entry))) ⌝ }
 {
-    if len < 26 {
+    if len < CHARACTER_RECORD {
         return Head::Bad;
     }
-    let font = number::le16(s, at + 6);
-    let code = number::le16(s, at + 8);
+    let font = number::le16(s, at + NUMBER_AT);
+    let code = number::le16(s, at + CODE_AT);
     if owner != font + 1 {
         return Head::Bad;
     }
-    if 32767 < font {
+    if LAST_FONT < font {
         return Head::Bad;
     }
-    if 255 < code {
+    if LAST_CODE < code {
         return Head::Bad;
     }
-    match held_at(s, at, len, turn) {
+    match held_at(s, at, len, orientation) {
         Held::Whole => Head::Rec(Item {
             font: font,
             place: code + 1,
             len: len,
-            turn: turn,
+            orientation: orientation,
             unfinished: false,
         }),
         Held::Unfinished => Head::Rec(Item {
             font: font,
             place: code + 1,
             len: len,
-            turn: turn,
+            orientation: orientation,
             unfinished: true,
         }),
         Held::Foreign => Head::Bad,
@@ -177,12 +203,12 @@ fn look_character(s: &[u8], at: usize, len: usize, owner: usize, turn: u8) -> He
 }
 
 // What stands at a place of the run, behind a font of this number and orientation.
-fn look(s: &[u8], at: usize, owner: usize, turn: u8) -> Head
+fn look(s: &[u8], at: usize, owner: usize, orientation: u8) -> Head
     requires { ⌜ at ≤ length (now s) ⌝ }
-    ensures { λ r. ⌜ r ≡ headOf (record { owner = owner; turn = turn }) (drop at (now (s .entry))) ⌝ }
+    ensures { λ r. ⌜ r ≡ headOf (record { owner = owner; orientation = orientation }) (drop at (now (s .entry))) ⌝ }
 {
     let left = s.len() - at;
-    if left < 26 {
+    if left < CHARACTER_RECORD {
         return Head::End;
     }
     let len = number::le32(s, at);
@@ -192,19 +218,19 @@ fn look(s: &[u8], at: usize, owner: usize, turn: u8) -> Head
     if left < len {
         return Head::Bad;
     }
-    let kind = number::le16(s, at + 4);
-    if kind == 2 {
+    let kind = number::le16(s, at + KIND_AT);
+    if kind == FONT_KIND {
         return look_font(s, at, len);
     }
-    if kind == 3 {
-        return look_character(s, at, len, owner, turn);
+    if kind == CHARACTER_KIND {
+        return look_character(s, at, len, owner, orientation);
     }
     Head::Bad
 }
 
 // n, and m more if the test holds.
 pub(crate) fn add_if(n: usize, test: bool, m: usize) -> usize
-    requires { ⌜ (n ≤ 65536) × (m ≤ 65536) ⌝ }
+    requires { ⌜ (n ≤ mostStore) × (m ≤ mostStore) ⌝ }
     ensures { λ r. ⌜ r ≡ n + countIf test m ⌝ }
 {
     if test { n + m } else { n }
@@ -212,10 +238,10 @@ pub(crate) fn add_if(n: usize, test: bool, m: usize) -> usize
 
 // A walk at p, over a record.
 fn pass(q: Query, p: Pos, i: Item) -> Step
-    requires { ⌜ (i .font ≤ 32767) × (i .place ≤ 256) × (i .len ≤ 65536) × Within 65536 p ⌝ }
+    requires { ⌜ (i .font ≤ lastFont) × (i .place ≤ lastCode + 1) × (i .len ≤ mostStore) × Within mostStore p ⌝ }
     ensures { λ r. ⌜ r ≡ passed q p i ⌝ }
 {
-    let key = i.font * 257 + i.place;
+    let key = i.font * KEYS_EACH + i.place;
     if key < p.key {
         return Step::Stop(Walk::Broken);
     }
@@ -229,16 +255,16 @@ fn pass(q: Query, p: Pos, i: Item) -> Step
         marked: p.marked | ((key == q.mark) & i.unfinished),
         key: key + 1,
         owner: i.font + 1,
-        turn: i.turn,
+        orientation: i.orientation,
     })
 }
 
-fn turn(s: &[u8], q: Query, p: Pos) -> Step
-    requires { ⌜ (length (now s) ≤ 65536) × Within (length (now s)) p ⌝ }
-    ensures { λ r. ⌜ (outcome q (now (s .entry)) r ≡ walked q p (split (drop (p .at) (now (s .entry))))) × Ahead (length (now (s .entry))) p r ⌝ }
+fn walk_one(s: &[u8], q: Query, p: Pos) -> Step
+    requires { ⌜ (length (now s) ≤ mostStore) × Within (length (now s)) p ⌝ }
+    ensures { λ r. ⌜ (walkAfter q (now (s .entry)) r ≡ walked q p (split (drop (p .at) (now (s .entry))))) × Ahead (length (now (s .entry))) p r ⌝ }
 {
     let at = p.at;
-    match look(s, at, p.owner, p.turn) {
+    match look(s, at, p.owner, p.orientation) {
         Head::End => {
             if number::zeros(s, at) {
                 let places = Places {
@@ -261,23 +287,23 @@ fn turn(s: &[u8], q: Query, p: Pos) -> Step
 
 // The whole run of a buffer, behind its first record.
 fn survey(s: &[u8], q: Query) -> Walk
-    requires { ⌜ (12 ≤ length (now s)) × (length (now s) ≤ 65536) ⌝ }
-    ensures { λ r. ⌜ r ≡ walked q start (split (drop 12 (now (s .entry)))) ⌝ }
+    requires { ⌜ (leastStore ≤ length (now s)) × (length (now s) ≤ mostStore) ⌝ }
+    ensures { λ r. ⌜ r ≡ walked q walkStart (split (drop markRecord (now (s .entry)))) ⌝ }
 {
     let mut p = Pos {
-        at: 12,
-        lo: 12,
-        from: 12,
-        to: 12,
-        hi: 12,
+        at: MARK_RECORD,
+        lo: MARK_RECORD,
+        from: MARK_RECORD,
+        to: MARK_RECORD,
+        hi: MARK_RECORD,
         chars: 0,
         marked: false,
         key: 0,
         owner: 0,
-        turn: 0,
+        orientation: 0,
     };
     loop {
-        match turn(s, q, p) {
+        match walk_one(s, q, p) {
             Step::Go(next) => {
                 p = next;
             }
@@ -292,25 +318,25 @@ fn survey(s: &[u8], q: Query) -> Walk
 fn begins_right(s: &[u8]) -> bool
     ensures { λ r. ⌜ r ≡ begins (now (s .entry)) ⌝ }
 {
-    if s.len() < 12 {
+    if s.len() < LEAST_STORE {
         return false;
     }
-    if 65536 < s.len() {
+    if MOST_STORE < s.len() {
         return false;
     }
-    if number::le32(s, 0) != 12 {
+    if number::le32(s, 0) != MARK_RECORD {
         return false;
     }
-    number::le16(s, 4) == 1
+    number::le16(s, KIND_AT) == MARK_KIND
 }
 
 fn see_mark(s: &[u8]) -> MarkSeen
-    requires { ⌜ 12 ≤ length (now s) ⌝ }
+    requires { ⌜ markRecord ≤ length (now s) ⌝ }
     ensures { λ r. ⌜ r ≡ markSeen (markIn (now (s .entry))) ⌝ }
 {
-    let on = number::le16(s, 6);
-    let font = number::le16(s, 8);
-    let code = number::le16(s, 10);
+    let on = number::le16(s, MARK_ON_AT);
+    let font = number::le16(s, MARK_FONT_AT);
+    let code = number::le16(s, MARK_CODE_AT);
     if on == 0 {
         if font + code == 0 {
             return MarkSeen::Shut;
@@ -320,27 +346,27 @@ fn see_mark(s: &[u8]) -> MarkSeen
     if on != 1 {
         return MarkSeen::Wrong;
     }
-    if 32767 < font {
+    if LAST_FONT < font {
         return MarkSeen::Wrong;
     }
-    if 255 < code {
+    if LAST_CODE < code {
         return MarkSeen::Wrong;
     }
-    MarkSeen::Open(font * 257 + (code + 1))
+    MarkSeen::Open(font * KEYS_EACH + (code + 1))
 }
 
 // The records of a buffer whose first record is right: with must, the character with the key mark must be there and incomplete.
 fn inspect_records(s: &[u8], font: usize, place: usize, mark: usize, must: bool) -> Inspected
-    requires { ⌜ (12 ≤ length (now s)) × (length (now s) ≤ 65536) × (font ≤ 4294967296) × (place ≤ 4294967296) ⌝ }
-    ensures { λ r. ⌜ r ≡ surveyed font place mark must (split (drop 12 (now (s .entry)))) ⌝ }
+    requires { ⌜ (leastStore ≤ length (now s)) × (length (now s) ≤ mostStore) × (font ≤ 4294967296) × (place ≤ 4294967296) ⌝ }
+    ensures { λ r. ⌜ r ≡ surveyed font place mark must (split (drop markRecord (now (s .entry)))) ⌝ }
 {
-    let key = font * 257 + place;
+    let key = font * KEYS_EACH + place;
     let q = Query {
         font: font,
-        lo: font * 257 + 0,
+        lo: font * KEYS_EACH + 0,
         from: key,
         to: key + 1,
-        hi: (font + 1) * 257 + 0,
+        hi: (font + 1) * KEYS_EACH + 0,
         mark: mark,
     };
     match survey(s, q) {
@@ -370,11 +396,23 @@ pub fn inspect(s: &[u8], font: usize, place: usize) -> Inspected
     }
 }
 
-pub fn look_up(from: usize, to: usize) -> Lookup
-    ensures { λ r. ⌜ r ≡ lookedUp from to ⌝ }
+// Whether the font stands there.
+pub(crate) fn look_up_font(p: Places) -> Lookup
+    ensures { λ r. ⌜ r ≡ fontLookup p ⌝ }
 {
-    if from < to {
-        Lookup::At(from)
+    if p.lo < p.hi {
+        Lookup::At(p)
+    } else {
+        Lookup::Missing
+    }
+}
+
+// Whether the character stands there.
+pub(crate) fn look_up_character(p: Places) -> Lookup
+    ensures { λ r. ⌜ r ≡ characterLookup p ⌝ }
+{
+    if p.from < p.to {
+        Lookup::At(p)
     } else {
         Lookup::Missing
     }

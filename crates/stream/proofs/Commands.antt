@@ -11,7 +11,7 @@ use lib.Dec.{leb, eqb}
 use lib.ListN.{length, take, drop, drop-of-length-le, List·getD-eq-default, length-drop}
 use lib.Seq.{drop-cons, drop-append-seam, take-all}
 use Rattle.stream.proofs.Tests.{both, either}
-use Rattle.stream.specs.Command.{byte, isDigit, digits, spelled, numberOf, begins, numbered, isBlock, blockOf, command, Ends, moved, commandAt}
+use Rattle.stream.specs.Command.{streamByte, isDigit, digits, spelled, numberOf, startsWith, numberCommand, isBlock, blockOf, command, Ends, movedBy, commandAt}
 use Rattle.stream.specs.declared.command.Number.{Number}
 use Rattle.stream.specs.declared.command.Command.{Command}
 use Rattle.stream.specs.declared.command.Command.the-variants.{SetFont, SetCode, FontBlock, CharacterBlock, Broken, End}
@@ -23,15 +23,15 @@ digit-within b e =
     (leb-true 48 b (h .0), leb-true b 57 (h .1))
 
 -- the digits from place n on: the byte there, if it is one, and those behind it
-digits-turn : (k n : ℕ) (s : List ℕ) → digits (suc k) (drop n s) ≡ cond (isDigit (byte s n)) (byte s n ∷ digits k (drop (n + 1) s)) []
+digits-turn : (k n : ℕ) (s : List ℕ) → digits (suc k) (drop n s) ≡ cond (isDigit (streamByte s n)) (streamByte s n ∷ digits k (drop (n + 1) s)) []
 unfolding digits
 digits-turn k n s = go (leb (length s) n) refl
   where
-    go : (t : Bool) → leb (length s) n ≡ t → digits (suc k) (drop n s) ≡ cond (isDigit (byte s n)) (byte s n ∷ digits k (drop (n + 1) s)) []
+    go : (t : Bool) → leb (length s) n ≡ t → digits (suc k) (drop n s) ≡ cond (isDigit (streamByte s n)) (streamByte s n ∷ digits k (drop (n + 1) s)) []
     go true e = let h : length s ≤ n = leb-true (length s) n e in rw (drop-of-length-le s, List·getD-eq-default s 0)
     go false e = let h : n < length s = leb-false (length s) n e in rw (drop-cons s n 0, add-one n)
 
-digits-none : (k n : ℕ) (s : List ℕ) → isDigit (byte s n) ≡ false → digits k (drop n s) ≡ []
+digits-none : (k n : ℕ) (s : List ℕ) → isDigit (streamByte s n) ≡ false → digits k (drop n s) ≡ []
 unfolding digits
 digits-none zero n s e = refl
 digits-none (suc k) n s e = digits-turn k n s ∙ rw e
@@ -90,7 +90,7 @@ number-bound s n at e =
     let q : n ≤ numberOf s .value = rw (← e) (spelled-grows (digits (8 - at) (drop at s)) n) in
     omega (arith, number-small s)
 
-pub number-next : (s : List ℕ) (n at b : ℕ) → at < 8 → b ≡ byte s at → isDigit b ≡ true → numberFrom s n at ≡ numberFrom s (n * 10 + (b - 48)) (at + 1)
+pub number-next : (s : List ℕ) (n at b : ℕ) → at < 8 → b ≡ streamByte s at → isDigit b ≡ true → numberFrom s n at ≡ numberFrom s (n * 10 + (b - 48)) (at + 1)
 unfolding numberFrom spelled
 number-next s n at b h q e =
     let ds = digits (8 - (at + 1)) (drop (at + 1) s) in
@@ -99,7 +99,7 @@ number-next s n at b h q e =
     rw (k, digits-turn (8 - (at + 1)) at s, ← q, e, l)
 
 -- the digits end at a byte that is none, or with the fifth
-pub number-stop : (s : List ℕ) (n at b : ℕ) → b ≡ byte s at → isDigit b ≡ false → numberFrom s n at ≡ record { value = n; next = at }
+pub number-stop : (s : List ℕ) (n at b : ℕ) → b ≡ streamByte s at → isDigit b ≡ false → numberFrom s n at ≡ record { value = n; next = at }
 unfolding numberFrom spelled
 number-stop s n at b q e = rw (digits-none (8 - at) at s (rw (← q) e), add-zero at)
 
@@ -117,8 +117,8 @@ ends-fits at m n (CharacterBlock f e) h (p, q, r) = (p, q, omega arith)
 ends-fits at m n Broken h p = tt
 ends-fits at m n End h p = tt
 
-ends-moved : (at n : ℕ) (c : Command) → Ends 0 (n - at) c → Ends at n (moved at c)
-unfolding Ends moved
+ends-moved : (at n : ℕ) (c : Command) → Ends 0 (n - at) c → Ends at n (movedBy at c)
+unfolding Ends movedBy
 ends-moved at n (SetFont v e) (p, q) = (omega arith, omega arith)
 ends-moved at n (SetCode v e) (p, q) = (omega arith, omega arith)
 ends-moved at n (FontBlock f e) (p, q, r) = (omega arith, omega arith, omega arith)
@@ -127,20 +127,20 @@ ends-moved at n Broken p = tt
 ends-moved at n End p = tt
 
 -- a place where a byte other than 0 stands is in the list
-byte-there : (b : List ℕ) (n x : ℕ) → 0 < x → eqb (byte b n) x ≡ true → n < length b
+byte-there : (b : List ℕ) (n x : ℕ) → 0 < x → eqb (streamByte b n) x ≡ true → n < length b
 byte-there b n x h e = go (leb (length b) n) refl
   where
     go : (t : Bool) → leb (length b) n ≡ t → n < length b
-    go true q = absurd (omega (arith, List·getD-eq-default b 0 (leb-true (length b) n q), eqb-true (byte b n) x e))
+    go true q = absurd (omega (arith, List·getD-eq-default b 0 (leb-true (length b) n q), eqb-true (streamByte b n) x e))
     go false q = leb-false (length b) n q
 
-numbered-ends : (b : List ℕ) (d : Number) → Ends 0 (length b) (numbered b d)
-unfolding numbered Ends
+numbered-ends : (b : List ℕ) (d : Number) → Ends 0 (length b) (numberCommand b d)
+unfolding numberCommand Ends
 numbered-ends b d =
     either (Ends 0 (length b)) (leb 4 (d .next)) _ Broken
-    (λ _. either (Ends 0 (length b)) (eqb (byte b (d .next)) 68) (SetFont (d .value) (d .next + 1)) _
+    (λ _. either (Ends 0 (length b)) (eqb (streamByte b (d .next)) 68) (SetFont (d .value) (d .next + 1)) _
     (λ e. (omega arith, omega (arith, byte-there b (d .next) 68 (omega arith) e)))
-    (either (Ends 0 (length b)) (eqb (byte b (d .next)) 69) (SetCode (d .value) (d .next + 1)) Broken
+    (either (Ends 0 (length b)) (eqb (streamByte b (d .next)) 69) (SetCode (d .value) (d .next + 1)) Broken
     (λ e. (omega arith, omega (arith, byte-there b (d .next) 69 (omega arith) e)))
     tt))
     tt
@@ -150,7 +150,7 @@ block-whole : (b : List ℕ) (d : Number) → isBlock b d ≡ true → d .next +
 unfolding isBlock
 block-whole b d e =
     let p = both (leb 4 (d .next)) _ e .1 in
-    let q = both (eqb (byte b (d .next)) 87) _ p .1 in
+    let q = both (eqb (streamByte b (d .next)) 87) _ p .1 in
     leb-true (d .next + 1 + d .value) (length b) (both (leb (d .value) 32767) _ q .1)
 
 blocks-end : (block : ℕ → ℕ → Command) (b : List ℕ) (d : Number) → ((f e : ℕ) → 0 < f → f ≤ e → e ≤ length b → Ends 0 (length b) (block f e))
@@ -165,10 +165,10 @@ command-ends : (b : List ℕ) → Ends 0 (length b) (command b)
 unfolding command Ends
 command-ends b =
     either (Ends 0 (length b)) (eqb (length b) 0) End _ (λ _. tt)
-    (either (Ends 0 (length b)) (begins b 42 99) (numbered b (numberOf b)) _ (λ _. numbered-ends b (numberOf b))
-    (either (Ends 0 (length b)) (begins b 41 115) (blockOf FontBlock b (numberOf b)) _
+    (either (Ends 0 (length b)) (startsWith b 42 99) (numberCommand b (numberOf b)) _ (λ _. numbered-ends b (numberOf b))
+    (either (Ends 0 (length b)) (startsWith b 41 115) (blockOf FontBlock b (numberOf b)) _
     (λ _. blocks-end FontBlock b (numberOf b) (λ f e p q r. (p, q, r)))
-    (either (Ends 0 (length b)) (begins b 40 115) (blockOf CharacterBlock b (numberOf b)) Broken
+    (either (Ends 0 (length b)) (startsWith b 40 115) (blockOf CharacterBlock b (numberOf b)) Broken
     (λ _. blocks-end CharacterBlock b (numberOf b) (λ f e p q r. (p, q, r)))
     tt)))
 
@@ -178,16 +178,16 @@ unfolding commandAt
 command-at-ends s at = ends-moved at (length s) (command (drop at s)) (rw (← (length-drop at s)) (command-ends (drop at s)))
 
 -- ---- a command depends only on what stands from its place on
-pub command-seam : (a b : List ℕ) → commandAt (a ++ b) (length a) ≡ moved (length a) (command b)
+pub command-seam : (a b : List ℕ) → commandAt (a ++ b) (length a) ≡ movedBy (length a) (command b)
 unfolding commandAt
 command-seam a b = rw (drop-append-seam a b)
 
 pub command-past : (s : List ℕ) (at : ℕ) → length s ≤ at → commandAt s at ≡ End
-unfolding commandAt command moved
+unfolding commandAt command movedBy
 command-past s at h = rw (drop-of-length-le s)
 
 -- the command that the rest of a stream begins with, its places counted from the stream's start
-pub command-rest : (s : List ℕ) (at : ℕ) (c : Command) → c ≡ command (take (length s - at) (drop at s)) → moved at c ≡ commandAt s at
+pub command-rest : (s : List ℕ) (at : ℕ) (c : Command) → c ≡ command (take (length s - at) (drop at s)) → movedBy at c ≡ commandAt s at
 unfolding commandAt
 command-rest s at c e =
     let q : take (length s - at) (drop at s) ≡ drop at s = take-all (length s - at) (drop at s) (simp length-drop (omega arith)) in

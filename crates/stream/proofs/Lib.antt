@@ -4,7 +4,6 @@ pub mod Putting
 pub mod Decimals
 pub mod Spellings
 pub mod Readings
-pub mod FontRun
 pub mod Writes
 pub mod Words
 pub mod Refills

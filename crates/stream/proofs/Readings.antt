@@ -1,138 +1,200 @@
 -- Laws of reading a stream, command by command. Assumes nothing.
 use mathlib.Core.Path.{_≡_, refl, sym, ap, _∙_, subst}
-use mathlib.Core.List.{List}
+use mathlib.Core.List.{List, [], _∷_}
 use mathlib.Core.Bool.{Bool, true, false, cond}
-use mathlib.Core.Option.{none, some}
+use mathlib.Core.Option.{Option, none, some}
 use Prim.Native.Nat.{ℕ, zero, suc, _+_, _-_, _<_, _≤_}
 use native.Mathlib.Omega.{arith}
+use native.Mathlib.Nat.{zero-add}
 use lib.ListN.{length}
 use lib.Dec.{leb}
-use borrow.Author.Tests.{le-leb, lt-leb, leb-true}
+use borrow.Author.Tests.{le-leb, lt-leb, leb-true, leb-false}
 use Rattle.store.specs.Model.{Store, decode}
 use Rattle.store.specs.Answer.{onStore}
 use Rattle.store.specs.Calls.{downloadingFont}
 use Rattle.store.specs.Download.{downloadingCharacter}
 use Rattle.store.specs.Cursor.{Points}
+use Rattle.store.specs.declared.locate.Cursor.{Cursor}
 use Rattle.stream.specs.Command.{commandAt, Ends}
-use Rattle.stream.specs.Reading.{Spelled, spell, onward, spelledIn, spelledFrom, Course, outset, counted, setFont, setCode, part, obey, obeyAll, Reading, answerOf, ended, readFrom, reading, Underway, resumed, Ahead, Pointing}
+use Rattle.stream.specs.Reading.{Download, font-block, character-block, Action, number-set, download, Spelled, spell, part, onward, spelledIn, spelledFrom, firstTarget, rangeAnswer, withNumber, withCode, Progress, noneCounted, countAnswer, making, obey, obeyAll, readFrom, Reading, endAnswer, readingOf, reading}
+use Rattle.stream.specs.Downloads.{downloadsIn, spelledDownloads, madeAll, DownloadsMade, CommandsCounted}
+use Rattle.stream.specs.Underway.{readOn, Underway, stateBehind, readAfter, EndsWithin, Leads}
 use Rattle.stream.specs.declared.command.Command.{Command}
 use Rattle.stream.specs.declared.command.Command.the-variants.{SetFont, SetCode, FontBlock, CharacterBlock, Broken, End}
-use Rattle.stream.specs.declared.reading.Progress.{Progress}
-use Rattle.stream.specs.declared.reading.Stage.{Stage}
-use Rattle.stream.specs.declared.reading.StreamRead.{StreamRead}
-use Rattle.stream.specs.declared.reading.Turned.{Turned}
-use Rattle.stream.specs.declared.reading.Turned.the-variants.{Go, Stop}
-use Rattle.stream.proofs.Commands.{command-at-ends}
+use Rattle.stream.specs.declared.reading.CommandCounts.{CommandCounts}
+use Rattle.stream.specs.declared.reading.Ending.{Ending}
+use Rattle.stream.specs.declared.reading.Ending.the-variants.{AtEnd, BrokenAt}
+use Rattle.stream.specs.declared.reading.Obeyed.{Obeyed}
+use Rattle.stream.specs.declared.reading.Obeyed.the-variants.{On, Stop}
+use Rattle.stream.specs.declared.reading.State.{State}
+use Rattle.stream.specs.declared.reading.Target.{Target}
+use Rattle.stream.proofs.Commands.{command-at-ends, command-past}
 
 -- ── more fuel changes nothing
-same-onward : (f g : ℕ → Spelled) (n at : ℕ) (c : Command) → Ends at n c → ((e : ℕ) → at < e → e ≤ n → f e ≡ g e) → onward f at c ≡ onward g at c
+same-onward : (b : List ℕ) (f g : ℕ → Target → Spelled) (n at : ℕ) (t : Target) (c : Command) → Ends at n c
+    → ((e : ℕ) (u : Target) → at < e → e ≤ n → f e u ≡ g e u) → onward b f at t c ≡ onward b g at t c
 unfolding onward Ends
-same-onward f g n at (SetFont v e) h i = ap (spell (SetFont v e)) (i e (h .0) (h .1))
-same-onward f g n at (SetCode v e) h i = ap (spell (SetCode v e)) (i e (h .0) (h .1))
-same-onward f g n at (FontBlock b e) h i = ap (spell (FontBlock b e)) (i e (omega (arith, h .0, h .1)) (h .2))
-same-onward f g n at (CharacterBlock b e) h i = ap (spell (CharacterBlock b e)) (i e (omega (arith, h .0, h .1)) (h .2))
-same-onward f g n at Broken h i = refl
-same-onward f g n at End h i = refl
+same-onward b f g n at t (SetFont v e) h i = ap (spell (number-set (rangeAnswer 32767 v))) (i e (withNumber v t) (h .0) (h .1))
+same-onward b f g n at t (SetCode v e) h i = ap (spell (number-set (rangeAnswer 255 v))) (i e (withCode v t) (h .0) (h .1))
+same-onward b f g n at t (FontBlock a e) h i = ap (spell (download (font-block (t .font) (part b a e)))) (i e t (omega (arith, h .0, h .1)) (h .2))
+same-onward b f g n at t (CharacterBlock a e) h i = ap (spell (download (character-block (t .font) (t .code) (part b a e)))) (i e t (omega (arith, h .0, h .1)) (h .2))
+same-onward b f g n at t Broken h i = refl
+same-onward b f g n at t End h i = refl
 
-enough : (k m : ℕ) (b : List ℕ) (at : ℕ) → length b - at < k → length b - at < m → spelledIn k b at ≡ spelledIn m b at
+enough : (k m : ℕ) (b : List ℕ) (at : ℕ) (t : Target) → length b - at < k → length b - at < m → spelledIn k b at t ≡ spelledIn m b at t
 unfolding spelledIn
-enough zero m b at p q = absurd (omega arith)
-enough (suc k) zero b at p q = absurd (omega arith)
-enough (suc k) (suc m) b at p q =
-    same-onward (spelledIn k b) (spelledIn m b) (length b) at (commandAt b at) (command-at-ends b at) (λ e l r. enough k m b e (omega arith) (omega arith))
+enough zero m b at t p q = absurd (omega arith)
+enough (suc k) zero b at t p q = absurd (omega arith)
+enough (suc k) (suc m) b at t p q =
+    same-onward b (spelledIn k b) (spelledIn m b) (length b) at t (commandAt b at) (command-at-ends b at) (λ e u l r. enough k m b e u (omega arith) (omega arith))
 
-pub spelled-eq : (b : List ℕ) (at : ℕ) → spelledFrom b at ≡ onward (spelledFrom b) at (commandAt b at)
+spelled-eq : (b : List ℕ) (at : ℕ) (t : Target) → spelledFrom b at t ≡ onward b (spelledFrom b) at t (commandAt b at)
 unfolding spelledFrom spelledIn
-spelled-eq b at =
-    same-onward (spelledIn (length b - at) b) (λ e. spelledIn (suc (length b - e)) b e) (length b) at (commandAt b at) (command-at-ends b at)
-    (λ e l r. enough (length b - at) (suc (length b - e)) b e (omega arith) (omega arith))
+spelled-eq b at t =
+    same-onward b (spelledIn (length b - at) b) (λ e u. spelledIn (suc (length b - e)) b e u) (length b) at t (commandAt b at) (command-at-ends b at)
+    (λ e u l r. enough (length b - at) (suc (length b - e)) b e u (omega arith) (omega arith))
 
 -- ── a command, and the rest
-module _ (b : List ℕ) (at : ℕ) (y : Course) where
-  pub read-number : (n e : ℕ) → commandAt b at ≡ SetFont n e → readFrom b at y ≡ readFrom b e (obey b (SetFont n e) y)
+module _ (b : List ℕ) (at : ℕ) (t : Target) (x : Progress) where
+  pub read-number : (n e : ℕ) → commandAt b at ≡ SetFont n e → readFrom b at t x ≡ readFrom b e (withNumber n t) (obey (number-set (rangeAnswer 32767 n)) x)
   unfolding readFrom obeyAll onward
-  read-number n e q = rw (spelled-eq b at, q)
+  read-number n e q = rw (spelled-eq b at t, q)
 
-  pub read-code : (n e : ℕ) → commandAt b at ≡ SetCode n e → readFrom b at y ≡ readFrom b e (obey b (SetCode n e) y)
+  pub read-code : (n e : ℕ) → commandAt b at ≡ SetCode n e → readFrom b at t x ≡ readFrom b e (withCode n t) (obey (number-set (rangeAnswer 255 n)) x)
   unfolding readFrom obeyAll onward
-  read-code n e q = rw (spelled-eq b at, q)
+  read-code n e q = rw (spelled-eq b at t, q)
 
-  pub read-font : (f e : ℕ) → commandAt b at ≡ FontBlock f e → readFrom b at y ≡ readFrom b e (obey b (FontBlock f e) y)
+  pub read-font : (f e : ℕ) → commandAt b at ≡ FontBlock f e → readFrom b at t x ≡ readFrom b e t (obey (download (font-block (t .font) (part b f e))) x)
   unfolding readFrom obeyAll onward
-  read-font f e q = rw (spelled-eq b at, q)
+  read-font f e q = rw (spelled-eq b at t, q)
 
-  pub read-character : (f e : ℕ) → commandAt b at ≡ CharacterBlock f e → readFrom b at y ≡ readFrom b e (obey b (CharacterBlock f e) y)
+  pub read-character : (f e : ℕ) → commandAt b at ≡ CharacterBlock f e
+      → readFrom b at t x ≡ readFrom b e t (obey (download (character-block (t .font) (t .code) (part b f e))) x)
   unfolding readFrom obeyAll onward
-  read-character f e q = rw (spelled-eq b at, q)
+  read-character f e q = rw (spelled-eq b at t, q)
 
-  pub read-broken : commandAt b at ≡ Broken → readFrom b at y ≡ ended (some at) y
+  pub read-broken : commandAt b at ≡ Broken → readFrom b at t x ≡ record { ending = BrokenAt at; progress = x }
   unfolding readFrom obeyAll onward
-  read-broken q = rw (spelled-eq b at, q)
+  read-broken q = rw (spelled-eq b at t, q)
 
-  pub read-end : commandAt b at ≡ End → readFrom b at y ≡ ended none y
+  pub read-end : commandAt b at ≡ End → readFrom b at t x ≡ record { ending = AtEnd; progress = x }
   unfolding readFrom obeyAll onward
-  read-end q = rw (spelled-eq b at, q)
-
--- ── the numbers stay in range
-module _ (n at e : ℕ) (x : Progress) (u : Underway n at x) (l : at < e) (r : e ≤ n) where
-  counted-under : (k : ℕ) (y : Progress) → y .done ≡ x .done → y .refused ≡ x .refused → y .font ≤ 32767 → y .code ≤ 255 → Underway n e (counted k y)
-  unfolding counted
-  counted-under zero y i j a d = record { within = r; font = a; code = d; counts = omega (arith, u .counts) }
-  counted-under (suc k) y i j a d = record { within = r; font = a; code = d; counts = omega (arith, u .counts) }
-
-  pub under-block : (k : ℕ) → Underway n e (counted k x)
-  under-block k = counted-under k x refl refl (u .font) (u .code)
-
-  pub under-font : (v : ℕ) → Underway n e (setFont v x)
-  unfolding setFont
-  under-font v = go (leb v 32767) refl
-    where
-      go : (t : Bool) → leb v 32767 ≡ t → Underway n e (cond t (counted 0 (record { font = v; code = x .code; done = x .done; refused = x .refused })) (counted 2 x))
-      go true q = counted-under 0 (record { font = v; code = x .code; done = x .done; refused = x .refused }) refl refl (leb-true _ _ q) (u .code)
-      go false q = under-block 2
-
-  pub under-code : (v : ℕ) → Underway n e (setCode v x)
-  unfolding setCode
-  under-code v = go (leb v 255) refl
-    where
-      go : (t : Bool) → leb v 255 ≡ t → Underway n e (cond t (counted 0 (record { font = x .font; code = v; done = x .done; refused = x .refused })) (counted 2 x))
-      go true q = counted-under 0 (record { font = x .font; code = v; done = x .done; refused = x .refused }) refl refl (u .font) (leb-true _ _ q)
-      go false q = under-block 2
+  read-end q = rw (spelled-eq b at t, q)
 
 -- ── the whole
 pub read-not : (b s : List ℕ) → decode s ≡ none → reading b s ≡ record { answer = record { refusal = 1; done = 0; refused = 0; place = 0 }; bytes = s }
 unfolding reading onStore
 read-not b s e = rw e
 
-pub read-store : (b s : List ℕ) (st : Store) → decode s ≡ some st → reading b s ≡ readFrom b 0 (record { progress = outset; bytes = s })
+pub read-store : (b s : List ℕ) (st : Store) → decode s ≡ some st → reading b s ≡ readingOf (readFrom b 0 firstTarget (record { counts = noneCounted; bytes = s }))
 unfolding reading onStore
 read-store b s st e = rw e
 
--- ── the turns of the code, by what its calls answered
-pub counted-done : (x : Progress) → counted 0 x ≡ record { font = x .font; code = x .code; done = x .done + 1; refused = x .refused }
-unfolding counted
-counted-done x = refl
+-- ── a stream is a list of downloads
+obeyed-made : (rest : List Action) (x : Progress) → obeyAll rest x .bytes ≡ madeAll (downloadsIn rest) (x .bytes)
+unfolding obeyAll obey downloadsIn madeAll
+obeyed-made [] x = refl
+obeyed-made (number-set k ∷ rest) x = obeyed-made rest (obey (number-set k) x)
+obeyed-made (download d ∷ rest) x = obeyed-made rest (obey (download d) x)
 
-pub counted-refused : (k : ℕ) (x : Progress) → (k ≡ 0 → ⊥) → counted k x ≡ record { font = x .font; code = x .code; done = x .done; refused = x .refused + 1 }
-unfolding counted
-counted-refused zero x n = absurd (n refl)
-counted-refused (suc k) x n = refl
+-- each download on a buffer that is no store leaves it
+making-not : (d : Download) (s : List ℕ) → decode s ≡ none → making d s .bytes ≡ s
+unfolding making downloadingFont downloadingCharacter onStore
+making-not (font-block n b) s e = rw e
+making-not (character-block n c b) s e = rw e
 
-pub set-font-low : (n : ℕ) (x : Progress) → n ≤ 32767 → setFont n x ≡ counted 0 (record { font = n; code = x .code; done = x .done; refused = x .refused })
-unfolding setFont
-set-font-low n x l = rw (le-leb n 32767 l)
+made-not : (ds : List Download) (s : List ℕ) → decode s ≡ none → madeAll ds s ≡ s
+unfolding madeAll
+made-not [] s e = refl
+made-not (d ∷ ds) s e = ap (madeAll ds) (making-not d s e) ∙ made-not ds s e
 
-pub set-font-high : (n : ℕ) (x : Progress) → 32767 < n → setFont n x ≡ counted 2 x
-unfolding setFont
-set-font-high n x l = rw (lt-leb n 32767 l)
+pub downloads-made : DownloadsMade
+unfolding spelledDownloads readFrom
+downloads-made b s = go (decode s) refl
+  where
+    go : (o : Option Store) → decode s ≡ o → reading b s .bytes ≡ madeAll (downloadsIn (spelledFrom b 0 firstTarget .actions)) s
+    go none e = ap (λ (r : Reading). r .bytes) (read-not b s e) ∙ sym (made-not (downloadsIn (spelledFrom b 0 firstTarget .actions)) s e)
+    go (some st) e = ap (λ (r : Reading). r .bytes) (read-store b s st e) ∙ obeyed-made (spelledFrom b 0 firstTarget .actions) (record { counts = noneCounted; bytes = s })
 
-pub set-code-low : (n : ℕ) (x : Progress) → n ≤ 255 → setCode n x ≡ counted 0 (record { font = x .font; code = n; done = x .done; refused = x .refused })
-unfolding setCode
-set-code-low n x l = rw (le-leb n 255 l)
+count-more : (k : ℕ) (x : CommandCounts) → countAnswer k x .done + countAnswer k x .refused ≡ x .done + x .refused + 1
+unfolding countAnswer
+count-more zero x = omega arith
+count-more (suc k) x = omega arith
 
-pub set-code-high : (n : ℕ) (x : Progress) → 255 < n → setCode n x ≡ counted 2 x
-unfolding setCode
-set-code-high n x l = rw (lt-leb n 255 l)
+obeyed-counted : (rest : List Action) (x : Progress) → obeyAll rest x .counts .done + obeyAll rest x .counts .refused ≡ x .counts .done + x .counts .refused + length rest
+unfolding obeyAll obey
+obeyed-counted [] x = omega arith
+obeyed-counted (number-set k ∷ rest) x = obeyed-counted rest (obey (number-set k) x) ∙ omega (arith, count-more k (x .counts))
+obeyed-counted (download d ∷ rest) x = obeyed-counted rest (obey (download d) x) ∙ omega (arith, count-more (making d (x .bytes) .answer) (x .counts))
+
+end-counts : (e : Ending) (x : CommandCounts) → endAnswer e x .done + endAnswer e x .refused ≡ x .done + x .refused
+unfolding endAnswer
+end-counts AtEnd x = refl
+end-counts (BrokenAt at) x = refl
+
+pub commands-counted : CommandsCounted
+unfolding readFrom
+commands-counted b s st e =
+    let w = spelledFrom b 0 firstTarget in
+    ap (λ (r : Reading). r .answer .done + r .answer .refused) (read-store b s st e)
+    ∙ end-counts (w .ending) (obeyAll (w .actions) (record { counts = noneCounted; bytes = s }) .counts)
+    ∙ obeyed-counted (w .actions) (record { counts = noneCounted; bytes = s })
+    ∙ zero-add (length (w .actions))
+
+-- ── the numbers and the counts
+pub count-done : (x : CommandCounts) → countAnswer 0 x ≡ record { done = x .done + 1; refused = x .refused }
+unfolding countAnswer
+count-done x = refl
+
+pub count-refused : (k : ℕ) (x : CommandCounts) → (k ≡ 0 → ⊥) → countAnswer k x ≡ record { done = x .done; refused = x .refused + 1 }
+unfolding countAnswer
+count-refused zero x n = absurd (n refl)
+count-refused (suc k) x n = refl
+
+pub number-low : (n : ℕ) (t : Target) → n ≤ 32767 → withNumber n t ≡ record { font = n; code = t .code }
+unfolding withNumber
+number-low n t l = rw (le-leb n 32767 l)
+
+pub number-high : (n : ℕ) (t : Target) → 32767 < n → withNumber n t ≡ t
+unfolding withNumber
+number-high n t l = rw (lt-leb n 32767 l)
+
+pub code-low : (n : ℕ) (t : Target) → n ≤ 255 → withCode n t ≡ record { font = t .font; code = n }
+unfolding withCode
+code-low n t l = rw (le-leb n 255 l)
+
+pub code-high : (n : ℕ) (t : Target) → 255 < n → withCode n t ≡ t
+unfolding withCode
+code-high n t l = rw (lt-leb n 255 l)
+
+-- a target in range stays so
+abbrev InRange : Target → Type 0
+InRange t = (t .font ≤ 32767) × (t .code ≤ 255)
+
+number-range : (n : ℕ) (t : Target) → InRange t → InRange (withNumber n t)
+unfolding withNumber
+number-range n t h = go (leb n 32767) refl
+  where
+    go : (a : Bool) → leb n 32767 ≡ a → InRange (cond a (record { font = n; code = t .code }) t)
+    go true q = (leb-true _ _ q, h .1)
+    go false q = h
+
+code-range : (n : ℕ) (t : Target) → InRange t → InRange (withCode n t)
+unfolding withCode
+code-range n t h = go (leb n 255) refl
+  where
+    go : (a : Bool) → leb n 255 ≡ a → InRange (cond a (record { font = t .font; code = n }) t)
+    go true q = (h .0, leb-true _ _ q)
+    go false q = h
+
+-- ── where a command ends
+abbrev Goes : Command → Type 0
+Goes (SetFont n e) = Unit {0}
+Goes (SetCode n e) = Unit {0}
+Goes (FontBlock f e) = Unit {0}
+Goes (CharacterBlock f e) = Unit {0}
+Goes Broken = Unit {0}
+Goes End = ⊥
 
 module _ (b : List ℕ) (at : ℕ) where
   pub ends-number : (n e : ℕ) → commandAt b at ≡ SetFont n e → (at < e) × (e ≤ length b)
@@ -151,68 +213,80 @@ module _ (b : List ℕ) (at : ℕ) where
   unfolding Ends
   ends-character f e q = subst (Ends at (length b)) q (command-at-ends b at)
 
-abbrev course : Progress → List ℕ → Course
-course x s = record { progress = x; bytes = s }
+  -- a 13 stands before the end
+  broken-within : commandAt b at ≡ Broken → at < length b
+  broken-within q = go (leb (length b) at) refl
+    where
+      go : (a : Bool) → leb (length b) at ≡ a → at < length b
+      go true h = absurd (subst Goes (sym q ∙ command-past b at (leb-true _ _ h)) tt)
+      go false h = leb-false _ _ h
 
--- what a turn's contract says
-abbrev Turns : List ℕ → List ℕ → ℕ → Progress → List ℕ → Turned → Type 0
-Turns b s at x t r = (resumed b t r ≡ readFrom b at (course x s)) × (Pointing t r × Ahead (length b) at r)
+-- ── one command of the code, by what its calls answered: what its contract says
+abbrev Obeys : List ℕ → List ℕ → State → List ℕ → Obeyed → Type 0
+Obeys b s x u r = (readAfter b u x r ≡ readOn b s x) × Leads (length b) u x r
 
-module _ (b s : List ℕ) (at : ℕ) (x : Progress) (u : Underway (length b) at x) (y : Stage) where
-  pub turn-number : (n e : ℕ) → commandAt b at ≡ SetFont n e → y .progress ≡ setFont n x → Points s (y .cursor) → Turns b s at x s (Go y e)
-  unfolding resumed Ahead Pointing obey
-  turn-number n e q i k =
-      let h = ends-number b at n e q in
-      rw i (sym (read-number b at (course x s) n e q), (k, (h .0, under-font (length b) at e x u (h .0) (h .1) n)))
+module _ (b s : List ℕ) (x : State) (h : Underway (length b) s x) where
+  under : (u : List ℕ) (t : Target) (k e : ℕ) (c : Cursor) → x .at < e → e ≤ length b → InRange t → Points u c → Underway (length b) u (stateBehind x e t k c)
+  under u t k e c l r i p = record { within = r; font = i .0; code = i .1; counts = omega (arith, h .counts, count-more k (x .counts)); points = p }
 
-  pub turn-code : (n e : ℕ) → commandAt b at ≡ SetCode n e → y .progress ≡ setCode n x → Points s (y .cursor) → Turns b s at x s (Go y e)
-  unfolding resumed Ahead Pointing obey
-  turn-code n e q i k =
-      let h = ends-code b at n e q in
-      rw i (sym (read-code b at (course x s) n e q), (k, (h .0, under-code (length b) at e x u (h .0) (h .1) n)))
+  in-range : InRange (x .target)
+  in-range = (h .font, h .code)
 
-  pub turn-font : (f e : ℕ) (t : List ℕ) → commandAt b at ≡ FontBlock f e → y .progress ≡ counted (downloadingFont (x .font) (part b f e) s .answer) x → t ≡ downloadingFont (x .font) (part b f e) s .bytes → Points t (y .cursor) → Turns b s at x t (Go y e)
-  unfolding resumed Ahead Pointing obey
-  turn-font f e t q i j m =
-      let h = ends-font b at f e q in
-      let l : at < e = omega (arith, h .0, h .1) in
-      let z : readFrom b e (course (y .progress) t) ≡ readFrom b at (course x s) = ap (λ (p : Progress). readFrom b e (course p t)) i ∙ ap (λ (p : List ℕ). readFrom b e (course (counted (downloadingFont (x .font) (part b f e) s .answer) x) p)) j ∙ sym (read-font b at (course x s) f e q) in
-      (z, (m, (l, rw i (under-block (length b) at e x u l (h .2) (downloadingFont (x .font) (part b f e) s .answer)))))
+  pub obey-number : (n e : ℕ) (y : State) → commandAt b (x .at) ≡ SetFont n e → y ≡ stateBehind x e (withNumber n (x .target)) (rangeAnswer 32767 n) (x .cursor) → Obeys b s x s (On y)
+  unfolding readAfter Leads obey
+  obey-number n e y q i =
+      let w = ends-number b (x .at) n e q in
+      rw i (sym (read-number b (x .at) (x .target) (record { counts = x .counts; bytes = s }) n e q), (w .0, under s _ _ e _ (w .0) (w .1) (number-range n (x .target) in-range) (h .points)))
 
-  pub turn-character : (f e : ℕ) (t : List ℕ) → commandAt b at ≡ CharacterBlock f e → y .progress ≡ counted (downloadingCharacter (x .font) (x .code) (part b f e) s .answer) x → t ≡ downloadingCharacter (x .font) (x .code) (part b f e) s .bytes → Points t (y .cursor)
-      → Turns b s at x t (Go y e)
-  unfolding resumed Ahead Pointing obey
-  turn-character f e t q i j m =
-      let h = ends-character b at f e q in
-      let l : at < e = omega (arith, h .0, h .1) in
-      let z : readFrom b e (course (y .progress) t) ≡ readFrom b at (course x s) = ap (λ (p : Progress). readFrom b e (course p t)) i ∙ ap (λ (p : List ℕ). readFrom b e (course (counted (downloadingCharacter (x .font) (x .code) (part b f e) s .answer) x) p)) j ∙ sym (read-character b at (course x s) f e q) in
-      (z, (m, (l, rw i (under-block (length b) at e x u l (h .2) (downloadingCharacter (x .font) (x .code) (part b f e) s .answer)))))
+  pub obey-code : (n e : ℕ) (y : State) → commandAt b (x .at) ≡ SetCode n e → y ≡ stateBehind x e (withCode n (x .target)) (rangeAnswer 255 n) (x .cursor) → Obeys b s x s (On y)
+  unfolding readAfter Leads obey
+  obey-code n e y q i =
+      let w = ends-code b (x .at) n e q in
+      rw i (sym (read-code b (x .at) (x .target) (record { counts = x .counts; bytes = s }) n e q), (w .0, under s _ _ e _ (w .0) (w .1) (code-range n (x .target) in-range) (h .points)))
 
-pub turn-broken : (b s : List ℕ) (at : ℕ) (x : Progress) → commandAt b at ≡ Broken → Turns b s at x s (Stop (record { refusal = 13; done = x .done; refused = x .refused; place = at }))
-unfolding resumed Ahead Pointing answerOf
-turn-broken b s at x q = (sym (read-broken b at (course x s) q), (tt, tt))
+  pub obey-font : (f e : ℕ) (y : State) (u : List ℕ) → commandAt b (x .at) ≡ FontBlock f e
+      → y ≡ stateBehind x e (x .target) (downloadingFont (x .target .font) (part b f e) s .answer) (y .cursor) → u ≡ downloadingFont (x .target .font) (part b f e) s .bytes
+      → Points u (y .cursor) → Obeys b s x u (On y)
+  unfolding readAfter Leads obey making
+  obey-font f e y u q i j p =
+      let w = ends-font b (x .at) f e q in
+      let l : x .at < e = omega (arith, w .0, w .1) in
+      let k = downloadingFont (x .target .font) (part b f e) s .answer in (
+        ap (readOn b u) i ∙ ap (λ (m : List ℕ). readOn b m (stateBehind x e (x .target) k (y .cursor))) j
+            ∙ sym (read-font b (x .at) (x .target) (record { counts = x .counts; bytes = s }) f e q),
+        subst (λ (z : State). (x .at < z .at) × Underway (length b) u z) (sym i) (l, under u (x .target) k e (y .cursor) l (w .2) in-range p),
+      )
 
-pub turn-end : (b s : List ℕ) (at : ℕ) (x : Progress) → commandAt b at ≡ End → Turns b s at x s (Stop (record { refusal = 0; done = x .done; refused = x .refused; place = 0 }))
-unfolding resumed Ahead Pointing answerOf
-turn-end b s at x q = (sym (read-end b at (course x s) q), (tt, tt))
+  pub obey-character : (f e : ℕ) (y : State) (u : List ℕ) → commandAt b (x .at) ≡ CharacterBlock f e
+      → y ≡ stateBehind x e (x .target) (downloadingCharacter (x .target .font) (x .target .code) (part b f e) s .answer) (y .cursor)
+      → u ≡ downloadingCharacter (x .target .font) (x .target .code) (part b f e) s .bytes → Points u (y .cursor) → Obeys b s x u (On y)
+  unfolding readAfter Leads obey making
+  obey-character f e y u q i j p =
+      let w = ends-character b (x .at) f e q in
+      let l : x .at < e = omega (arith, w .0, w .1) in
+      let k = downloadingCharacter (x .target .font) (x .target .code) (part b f e) s .answer in (
+        ap (readOn b u) i ∙ ap (λ (m : List ℕ). readOn b m (stateBehind x e (x .target) k (y .cursor))) j
+            ∙ sym (read-character b (x .at) (x .target) (record { counts = x .counts; bytes = s }) f e q),
+        subst (λ (z : State). (x .at < z .at) × Underway (length b) u z) (sym i) (l, under u (x .target) k e (y .cursor) l (w .2) in-range p),
+      )
+
+  pub obey-broken : commandAt b (x .at) ≡ Broken → Obeys b s x s (Stop (BrokenAt (x .at)))
+  unfolding readAfter Leads EndsWithin
+  obey-broken q = (sym (read-broken b (x .at) (x .target) (record { counts = x .counts; bytes = s }) q), ((h .counts, broken-within b (x .at) q), h .points))
+
+  pub obey-end : commandAt b (x .at) ≡ End → Obeys b s x s (Stop AtEnd)
+  unfolding readAfter Leads EndsWithin
+  obey-end q = (sym (read-end b (x .at) (x .target) (record { counts = x .counts; bytes = s }) q), (omega (arith, h .counts, h .within), h .points))
 
 -- ── the loop
-pub pointing : (t : List ℕ) (r : Turned) (y : Stage) (e : ℕ) → r ≡ Go y e → Pointing t r → Points t (y .cursor)
-unfolding Pointing
-pointing t r y e q h = subst (Pointing t) q h
+module _ (b s u : List ℕ) (x : State) (r : Obeyed) (h : Obeys b s x u r) where
+  pub went-on : (y : State) → r ≡ On y → (readOn b u y ≡ readOn b s x) × ((x .at < y .at) × Underway (length b) u y)
+  unfolding readAfter Leads
+  went-on y q = subst (Obeys b s x u) q h
 
-pub went : (n at : ℕ) (r : Turned) (y : Stage) (e : ℕ) → r ≡ Go y e → Ahead n at r → (at < e) × Underway n e (y .progress)
-unfolding Ahead
-went n at r y e q h = subst (Ahead n at) q h
-
-module _ (b s t : List ℕ) (at : ℕ) (x : Progress) (r : Turned) where
-  pub went-on : (y : Stage) (e : ℕ) → r ≡ Go y e → resumed b t r ≡ readFrom b at (course x s) → readFrom b e (course (y .progress) t) ≡ readFrom b at (course x s)
-  unfolding resumed
-  went-on y e q h = sym (ap (resumed b t) q) ∙ h
-
-  pub stopped : (a : StreamRead) → r ≡ Stop a → resumed b t r ≡ readFrom b at (course x s) → record { answer = a; bytes = t } ≡ readFrom b at (course x s)
-  unfolding resumed
-  stopped a q h = sym (ap (resumed b t) q) ∙ h
+  pub went-last : (e : Ending) → r ≡ Stop e → (record { ending = e; progress = record { counts = x .counts; bytes = u } } ≡ readOn b s x) × (EndsWithin (length b) (x .counts) e × Points u (x .cursor))
+  unfolding readAfter Leads
+  went-last e q = subst (Obeys b s x u) q h
 
 pub answered : {a b : Reading} → a ≡ b → (a .answer ≡ b .answer) × (a .bytes ≡ b .bytes)
 answered e = (ap (λ (x : Reading). x .answer) e, ap (λ (x : Reading). x .bytes) e)

@@ -14,29 +14,24 @@ use Rattle.blocks.specs.Character.{class, width, height, isKeptFirst}
 use Rattle.blocks.specs.declared.picture.Held.the-variants.{Unfinished}
 use Rattle.blocks.proofs.KeptFirst.{is-kept-length}
 use Rattle.store.specs.Layout.{keyOf}
-use Rattle.store.specs.Model.{Rec, font, character, Store, place, heldOf, heldUnder, isKept, isUnfinished, encode, total, sizeOf}
-use Rattle.store.specs.Answer.{done}
-use Rattle.store.specs.Order.{from}
+use Rattle.store.specs.Model.{Rec, font, character, Store, heldOf, heldUnder, isKept, isUnfinished, encode, total, sizeOf}
 use Rattle.store.specs.Download.{markFor}
 use Rattle.store.proofs.Changed.{changed}
 use Rattle.store.proofs.Totals.{total-append}
-use Rattle.store.proofs.Records.{held-kept, kept-small}
+use Rattle.store.proofs.RecordBytes.{held-kept, kept-small}
 use Rattle.store.proofs.Appends.{low-more, Laid, lastStore, first-laid, more-laid, part-waits}
 use Rattle.store.proofs.Codec.{Valid}
 use Rattle.stream.specs.RoundTrip.{commandsOf, commandsIn, markAfter}
-use Rattle.stream.specs.Written.{continuation, writtenRecord, writtenRun, written}
+use Rattle.stream.specs.Written.{continuation, writtenRecord, writtenRun}
 use Rattle.stream.specs.Writing.{setCode, characterBlock}
-use Rattle.stream.specs.Reading.{Reading, part, answerOf, reading}
-use Rattle.stream.proofs.Words.{reads, course, on-code, on-character, on-end}
+use Rattle.stream.specs.Reading.{Ended}
+use Rattle.stream.specs.declared.reading.Ending.the-variants.{AtEnd}
+use Rattle.stream.proofs.Writes.{continued}
+use Rattle.stream.proofs.Words.{reads, target, allDone, on-code, on-character, on-end}
 
 -- ── a character's words: its code, a first block, perhaps a continuation
 words : (a b c rest : List ℕ) → (a ++ (b ++ c)) ++ rest ≡ a ++ (b ++ (c ++ rest))
 words a b c rest = append-assoc a (b ++ c) rest ∙ ap (λ (l : List ℕ). a ++ l) (append-assoc b c rest)
-
-continued : (d : List ℕ) → 0 < length d → continuation d ≡ characterBlock (4 ∷ 1 ∷ d)
-unfolding continuation
-continued [] l = absurd (omega arith)
-continued (x ∷ d) l = refl
 
 module _ (n c : ℕ) (g h d : List ℕ) (low : n ≤ 32767) (code : c ≤ 255) (ok : isKept (heldUnder (orientation g) h d) ≡ true) (st : Store) (w : Laid n (keyOf n (c + 1)) g st)
     (room : 12 + total (st .recs) + 26 + length d ≤ st .size) (pre rest : List ℕ) (m k : ℕ) where
@@ -54,7 +49,7 @@ module _ (n c : ℕ) (g h d : List ℕ) (low : n ≤ 32767) (code : c ≤ 255) (
   abbrev Onward : Type 0
   Onward =
       (p : List ℕ)
-      × (reads pre (writtenRecord (character n c h d) ++ rest) (course n m k (encode st)) ≡ reads p rest (course n c (k + commandsOf (character n c h d)) (encode (lastStore n c h d (st .recs) st))))
+      × (reads pre (writtenRecord (character n c h d) ++ rest) (target n m) (allDone k (encode st)) ≡ reads p rest (target n c) (allDone (k + commandsOf (character n c h d)) (encode (lastStore n c h d (st .recs) st))))
       × Laid n (keyOf n (c + 1) + 1) g (lastStore n c h d (st .recs) st)
 
   in-one : length d ≤ 32751 → Onward
@@ -65,7 +60,7 @@ module _ (n c : ℕ) (g h d : List ℕ) (low : n ≤ 32767) (code : c ≤ 255) (
       let r : drop 32751 d ≡ [] = drop-of-length-le d l in
       let q : k + 1 + 1 ≡ k + 2 = omega arith in (
         (pre ++ setCode c) ++ characterBlock (h ++ d),
-        rw (le-leb (length d) 32751 l, t, r, ← q) (ap (λ (l : List ℕ). reads pre l (course n m k (encode st))) (words (setCode c) (characterBlock (h ++ d)) [] rest)
+        rw (le-leb (length d) 32751 l, t, r, ← q) (ap (λ (l : List ℕ). reads pre l (target n m) (allDone k (encode st))) (words (setCode c) (characterBlock (h ++ d)) [] rest)
             ∙ on-code pre (characterBlock (h ++ d) ++ rest) n m k (encode st) c code
             ∙ on-character (pre ++ setCode c) rest n c (k + 1) (encode st) (h ++ d) (lastStore n c h d (st .recs) st) (omega (arith, block-length d)) (z .0)),
         z .1,
@@ -88,13 +83,13 @@ module _ (n c : ℕ) (g h d : List ℕ) (low : n ≤ 32767) (code : c ≤ 255) (
       let q : k + 1 + 1 + 1 ≡ k + 3 = omega arith in
       let s1 = lastStore n c h a (st .recs) st in
       let s2 = lastStore n c h (a ++ b) (st .recs) st in
-      let x : reads pre ((setCode c ++ (characterBlock (h ++ a) ++ characterBlock (4 ∷ 1 ∷ b))) ++ rest) (course n m k (encode st)) ≡ reads (((pre ++ setCode c) ++ characterBlock (h ++ a)) ++ characterBlock (4 ∷ 1 ∷ b)) rest (course n c (k + 1 + 1 + 1) (encode s2)) =
-      ap (λ (l : List ℕ). reads pre l (course n m k (encode st))) (words (setCode c) (characterBlock (h ++ a)) (characterBlock (4 ∷ 1 ∷ b)) rest)
+      let x : reads pre ((setCode c ++ (characterBlock (h ++ a) ++ characterBlock (4 ∷ 1 ∷ b))) ++ rest) (target n m) (allDone k (encode st)) ≡ reads (((pre ++ setCode c) ++ characterBlock (h ++ a)) ++ characterBlock (4 ∷ 1 ∷ b)) rest (target n c) (allDone (k + 1 + 1 + 1) (encode s2)) =
+      ap (λ (l : List ℕ). reads pre l (target n m) (allDone k (encode st))) (words (setCode c) (characterBlock (h ++ a)) (characterBlock (4 ∷ 1 ∷ b)) rest)
       ∙ on-code pre (characterBlock (h ++ a) ++ (characterBlock (4 ∷ 1 ∷ b) ++ rest)) n m k (encode st) c code
       ∙ on-character (pre ++ setCode c) (characterBlock (4 ∷ 1 ∷ b) ++ rest) n c (k + 1) (encode st) (h ++ a) s1 (omega (arith, block-length a)) (z .0)
       ∙ on-character ((pre ++ setCode c) ++ characterBlock (h ++ a)) rest n c (k + 1 + 1) (encode s1) (4 ∷ 1 ∷ b) s2 (omega arith) (y .0) in (
         ((pre ++ setCode c) ++ characterBlock (h ++ a)) ++ characterBlock (4 ∷ 1 ∷ b),
-        rw (lt-leb (length d) 32751 l, continued b (omega arith), ← q) (subst (λ (f : List ℕ). reads pre ((setCode c ++ (characterBlock (h ++ a) ++ characterBlock (4 ∷ 1 ∷ b))) ++ rest) (course n m k (encode st)) ≡ reads (((pre ++ setCode c) ++ characterBlock (h ++ a)) ++ characterBlock (4 ∷ 1 ∷ b)) rest (course n c (k + 1 + 1 + 1) (encode (lastStore n c h f (st .recs) st)))) e x),
+        rw (lt-leb (length d) 32751 l, continued b (omega arith), ← q) (subst (λ (f : List ℕ). reads pre ((setCode c ++ (characterBlock (h ++ a) ++ characterBlock (4 ∷ 1 ∷ b))) ++ rest) (target n m) (allDone k (encode st)) ≡ reads (((pre ++ setCode c) ++ characterBlock (h ++ a)) ++ characterBlock (4 ∷ 1 ∷ b)) rest (target n c) (allDone (k + 1 + 1 + 1) (encode (lastStore n c h f (st .recs) st)))) e x),
         subst (λ (f : List ℕ). Laid n (keyOf n (c + 1) + 1) g (lastStore n c h f (st .recs) st)) e (y .1),
       )
 
@@ -113,15 +108,15 @@ Chars n g k (font m h ∷ rs) = ⊥
 Chars n g k (character m c h d ∷ rs) = (m ≡ n) × (c ≤ 255) × (k ≤ keyOf n (c + 1)) × (isKept (heldUnder (orientation g) h d) ≡ true) × Chars n g (keyOf n (c + 1) + 1) rs
 
 -- what reading ends with, all done
-abbrev pub finished : ℕ → Store → Reading
-finished k st = record { answer = record { refusal = 0; done = k; refused = 0; place = 0 }; bytes = encode st }
+abbrev pub finished : ℕ → Store → Ended
+finished k st = record { ending = AtEnd; progress = allDone k (encode st) }
 
 -- what reading records into a store leaves: a store where they stand behind the others
 abbrev pub filled : List Rec → Store → Store
 filled rs st = changed (markAfter (st .mark) rs) (st .recs ++ rs) st
 
 abbrev pub Fills : ℕ → List Rec → Store → Type 0
-Fills n rs st = (pre : List ℕ) (m j : ℕ) → (reads pre (writtenRun rs) (course n m j (encode st)) ≡ finished (j + commandsIn rs) (filled rs st)) × Valid (filled rs st)
+Fills n rs st = (pre : List ℕ) (m j : ℕ) → (reads pre (writtenRun rs) (target n m) (allDone j (encode st)) ≡ finished (j + commandsIn rs) (filled rs st)) × Valid (filled rs st)
 
 module _ (n : ℕ) (g : List ℕ) (low : n ≤ 32767) where
   -- a character read, and what follows it
@@ -140,8 +135,8 @@ module _ (n : ℕ) (g : List ℕ) (low : n ≤ 32767) where
       (x .1 ∙ y .0 ∙ rw (i, q), subst (λ (l : List Rec). Valid (changed (markAfter (markFor n c h d) rs) l st)) i (y .1))
 
   pub run-read : (rs : List Rec) (k : ℕ) → Chars n g k rs → (st : Store) → Laid n k g st → 12 + total (st .recs) + total rs ≤ st .size → Fills n rs st
-  run-read [] k a st w room = λ pre m j. unfold writtenRun commandsIn markAfter answerOf in
-      (on-end pre (course n m j (encode st)) ∙ rw (append-nil (st .recs), add-zero j), subst (λ (l : List Rec). Valid (changed (st .mark) l st)) (sym (append-nil (st .recs))) (w .valid))
+  run-read [] k a st w room = λ pre m j. unfold writtenRun commandsIn markAfter in
+      (on-end pre (target n m) (allDone j (encode st)) ∙ rw (append-nil (st .recs), add-zero j), subst (λ (l : List Rec). Valid (changed (st .mark) l st)) (sym (append-nil (st .recs))) (w .valid))
   run-read (font i h ∷ rs) k a st w room = absurd a
   run-read (character i c h d ∷ rs) k a st w room =
       let is : i ≡ n = a .0 in

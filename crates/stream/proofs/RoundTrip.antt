@@ -2,11 +2,10 @@
 use Prim.Native.Nat.{ℕ, _+_, _≤_, _<_}
 use mathlib.Core.Path.{_≡_, refl, sym, ap, _∙_, subst}
 use mathlib.Core.List.{List, [], _∷_, _++_, append-assoc}
-use mathlib.Core.Option.{none, some}
+use mathlib.Core.Option.{some}
 use mathlib.Core.Bool.{Bool, true, false, cond}
 use native.Mathlib.Omega.{arith}
 use borrow.Author.Tests.{leb-false}
-use lib.ListN.{length}
 use lib.Dec.{leb, eqb}
 use Rattle.blocks.specs.Header.{orientation, isKeptHeader}
 use Rattle.blocks.specs.Character.{isKeptFirst}
@@ -15,21 +14,22 @@ use Rattle.store.specs.Layout.{keyOf}
 use Rattle.store.specs.Model.{Rec, font, character, Store, Under, number, place, key, under, alone, sorted, heldOf, heldUnder, isKept, allowed, encode, decode, total, sizeOf}
 use Rattle.store.specs.Answer.{onStore}
 use Rattle.store.specs.Order.{keep, below, from, after, find}
+use Rattle.store.specs.Records.{recordsOf}
 use Rattle.store.specs.Calls.{fresh}
 use Rattle.store.proofs.Holds.{valid-decode}
 use Rattle.store.proofs.Totals.{length-run}
-use Rattle.store.proofs.Records.{allowed-char, allowed-font}
+use Rattle.store.proofs.RecordBytes.{allowed-char, allowed-font}
 use Rattle.store.proofs.Appends.{fresh-valid, first-store, font-laid}
 use Rattle.store.proofs.Codec.{Valid, decode-encode, sorted-inv}
 use Rattle.store.proofs.Order.{sorted-from}
 use Rattle.store.proofs.Lookup.{found, font-at}
-use Rattle.stream.specs.RoundTrip.{commandsOf, commandsIn, markAfter, onlyFont, restored, RoundTrip}
-use Rattle.stream.specs.Written.{writtenRecord, writtenRun, recordsOf, written}
+use Rattle.stream.specs.RoundTrip.{commandsOf, commandsIn, markAfter, onlyFont, restored, FontComesBack}
+use Rattle.stream.specs.Written.{writtenRecord, writtenRun, written}
 use Rattle.stream.specs.Writing.{setFont, fontBlock}
-use Rattle.stream.specs.Reading.{reading}
-use Rattle.stream.proofs.Words.{reads, course, on-number, on-font}
+use Rattle.stream.specs.Reading.{Ended, readingOf, endAnswer, reading}
+use Rattle.stream.proofs.Words.{reads, target, allDone, on-number, on-font}
 use Rattle.stream.proofs.Refills.{Chars, finished, filled, run-read}
-use Rattle.stream.proofs.FontRun.{of-in, of-out, none-of}
+use Rattle.store.proofs.FontRecords.{of-in, of-out, none-of}
 
 -- ── the records of a font in a store
 kept-at : (t o : ℕ) → t ≡ o → (h d : List ℕ) → isKeptFirst h t ≡ true → isKept (heldOf h d) ≡ true → isKept (heldUnder o h d) ≡ true
@@ -37,7 +37,7 @@ unfolding heldUnder
 kept-at t o e h d a b = rw (← e, a) b
 
 -- behind a font its own characters stand first, and none of its number comes later
-chars-of : (ts : List Rec) (n : ℕ) (g : List ℕ) (k : ℕ) (u : Under) → sorted k u ts ≡ true → u .owner ≡ n + 1 → u .turn ≡ orientation g → keyOf n 0 < k → Chars n g k (recordsOf n ts)
+chars-of : (ts : List Rec) (n : ℕ) (g : List ℕ) (k : ℕ) (u : Under) → sorted k u ts ≡ true → u .owner ≡ n + 1 → u .orientation ≡ orientation g → keyOf n 0 < k → Chars n g k (recordsOf n ts)
 unfolding number place under
 chars-of [] n g k u o p q l = subst (Chars n g k) (sym (none-of [] n (keyOf (n + 1) 0) u (unfold sorted in refl) (omega arith))) tt
 chars-of (font m h ∷ ts) n g k u o p q l =
@@ -50,7 +50,7 @@ chars-of (character m c h d ∷ ts) n g k u o p q l =
     let a = allowed-char u m c h d (w .ok) in
     let is : m ≡ n = omega (arith, a .owner) in
     let rest = chars-of ts n g (keyOf n (c + 1) + 1) u (subst (λ (x : ℕ). sorted (keyOf x (c + 1) + 1) u ts ≡ true) is (w .rest)) p q (omega arith) in
-    subst (Chars n g k) (sym (of-in n (character m c h d) ts is)) (is, a .code, omega (arith, w .least), kept-at (u .turn) (orientation g) q h d (a .kept) (a .whole), rest)
+    subst (Chars n g k) (sym (of-in n (character m c h d) ts is)) (is, a .code, omega (arith, w .least), kept-at (u .orientation) (orientation g) q h d (a .kept) (a .whole), rest)
 
 of-same : (n : ℕ) (r : Rec) (a b : List Rec) → recordsOf n a ≡ recordsOf n b → recordsOf n (r ∷ a) ≡ recordsOf n (r ∷ b)
 unfolding recordsOf keep
@@ -102,13 +102,13 @@ module _ (n : ℕ) (g : List ℕ) (st : Store) (v : Valid st) (low : n ≤ 32767
       let t : total (font n g ∷ w .rest) ≤ total (st .recs) = subst (λ (l : List Rec). total l ≤ total (st .recs)) (w .are) (total-of (st .recs) n) in
       omega (arith, v .room, length-run 0 alone (st .recs) (v .order))
 
-  font-read : (reads [] (writtenRun (font n g ∷ w .rest)) (course 0 0 0 (encode (fresh (st .size)))) ≡ finished (commandsIn (font n g ∷ w .rest)) (filled (font n g ∷ w .rest) (fresh (st .size)))) × Valid (filled (font n g ∷ w .rest) (fresh (st .size)))
+  font-read : (reads [] (writtenRun (font n g ∷ w .rest)) (target 0 0) (allDone 0 (encode (fresh (st .size)))) ≡ finished (commandsIn (font n g ∷ w .rest)) (filled (font n g ∷ w .rest) (fresh (st .size)))) × Valid (filled (font n g ∷ w .rest) (fresh (st .size)))
   unfolding writtenRun writtenRecord commandsIn commandsOf markAfter total sizeOf
   font-read =
       let z = font-laid n g (st .size) low ok (omega (arith, fits)) (v .small) in
       let s1 = first-store n g (st .size) in
       let y = run-read n g low (w .rest) (keyOf n 0 + 1) (w .chars) s1 (z .1) (omega (arith, fits)) (setFont n ++ fontBlock g) 0 2 in (
-        ap (λ (l : List ℕ). reads [] l (course 0 0 0 (encode (fresh (st .size))))) (append-assoc (setFont n) (fontBlock g) (writtenRun (w .rest)))
+        ap (λ (l : List ℕ). reads [] l (target 0 0) (allDone 0 (encode (fresh (st .size))))) (append-assoc (setFont n) (fontBlock g) (writtenRun (w .rest)))
             ∙ on-number [] (fontBlock g ++ writtenRun (w .rest)) 0 0 0 (encode (fresh (st .size))) n low
             ∙ on-font (setFont n) (writtenRun (w .rest)) n 0 1 (encode (fresh (st .size))) g s1 (omega (arith, header-length g ok)) (z .0)
             ∙ y .0,
@@ -116,12 +116,12 @@ module _ (n : ℕ) (g : List ℕ) (st : Store) (v : Valid st) (low : n ≤ 32767
       )
 
   restores : (reading (written n (st .recs)) (encode (fresh (st .size))) ≡ restored n st) × (decode (encode (onlyFont n st)) ≡ some (onlyFont n st))
-  unfolding reading onStore written
+  unfolding reading onStore written endAnswer
   restores =
       let f : Valid (fresh (st .size)) = fresh-valid (st .size) (omega (arith, fits)) (v .small) in
-      rw (decode-encode (fresh (st .size)) f, w .are) (font-read .0, decode-encode (filled (font n g ∷ w .rest) (fresh (st .size))) (font-read .1))
+      rw (decode-encode (fresh (st .size)) f, w .are) (ap (λ (x : Ended). readingOf x) (font-read .0), decode-encode (filled (font n g ∷ w .rest) (fresh (st .size))) (font-read .1))
 
-pub round-trip : RoundTrip
+pub round-trip : FontComesBack
 round-trip s st e n r f =
     let v = valid-decode s st e in
     let x = found (keyOf n 0) 0 alone r (st .recs) (v .order) f in

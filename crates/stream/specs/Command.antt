@@ -10,8 +10,8 @@ use Rattle.stream.specs.declared.command.Command.the-variants.{SetFont, 
 use Rattle.stream.specs.declared.command.Number.{Number}
 
 -- the byte at a place; past the end 0, which no command has, so that a command cut by the end has a wrong byte
-abbrev pub byte : List ℕ → ℕ → ℕ
-byte b at = getD b at 0
+abbrev pub streamByte : List ℕ → ℕ → ℕ
+streamByte b at = getD b at 0
 
 -- ---- "# is one to five digits"
 -- '0'..'9'
@@ -39,20 +39,20 @@ hasDigit d = leb 4 (d .next)
 -- ---- "ESC *c#D (font number), ESC *c#E (code), ESC )s#W and a font block, ESC (s#W and a character block"
 -- As bytes: ESC 27, ( 40, ) 41, * 42, D 68, E 69, W 87, c 99, s 115.
 -- ESC and two bytes
-unfoldable pub begins : List ℕ → ℕ → ℕ → Bool
-begins b second third = eqb (byte b 0) 27 && (eqb (byte b 1) second && eqb (byte b 2) third)
+unfoldable pub startsWith : List ℕ → ℕ → ℕ → Bool
+startsWith b second third = eqb (streamByte b 0) 27 && (eqb (streamByte b 1) second && eqb (streamByte b 2) third)
 
 -- a number, and D or E
-unfoldable pub numbered : List ℕ → Number → Command
-numbered b d =
+unfoldable pub numberCommand : List ℕ → Number → Command
+numberCommand b d =
     cond (hasDigit d)
-    (cond (eqb (byte b (d .next)) 68) (SetFont (d .value) (d .next + 1))
-    (cond (eqb (byte b (d .next)) 69) (SetCode (d .value) (d .next + 1)) Broken))
+    (cond (eqb (streamByte b (d .next)) 68) (SetFont (d .value) (d .next + 1))
+    (cond (eqb (streamByte b (d .next)) 69) (SetCode (d .value) (d .next + 1)) Broken))
     Broken
 
 -- a number and W, "at most 32,767", and as many bytes
 unfoldable pub isBlock : List ℕ → Number → Bool
-isBlock b d = hasDigit d && (eqb (byte b (d .next)) 87 && (leb (d .value) blockLimit && leb (d .next + 1 + d .value) (length b)))
+isBlock b d = hasDigit d && (eqb (streamByte b (d .next)) 87 && (leb (d .value) blockLimit && leb (d .next + 1 + d .value) (length b)))
 
 unfoldable pub blockOf : (ℕ → ℕ → Command) → List ℕ → Number → Command
 blockOf block b d = cond (isBlock b d) (block (d .next + 1) (d .next + 1 + d .value)) Broken
@@ -61,23 +61,23 @@ blockOf block b d = cond (isBlock b d) (block (d .next + 1) (d .next + 1 + d .va
 unfoldable pub command : List ℕ → Command
 command b =
     cond (eqb (length b) 0) End
-    (cond (begins b 42 99) (numbered b (numberOf b))
-    (cond (begins b 41 115) (blockOf FontBlock b (numberOf b))
-    (cond (begins b 40 115) (blockOf CharacterBlock b (numberOf b))
+    (cond (startsWith b 42 99) (numberCommand b (numberOf b))
+    (cond (startsWith b 41 115) (blockOf FontBlock b (numberOf b))
+    (cond (startsWith b 40 115) (blockOf CharacterBlock b (numberOf b))
     Broken)))
 
 -- the same command in a stream where at bytes stand before it
-unfoldable pub moved : ℕ → Command → Command
-moved at (SetFont n e) = SetFont n (at + e)
-moved at (SetCode n e) = SetCode n (at + e)
-moved at (FontBlock f e) = FontBlock (at + f) (at + e)
-moved at (CharacterBlock f e) = CharacterBlock (at + f) (at + e)
-moved at Broken = Broken
-moved at End = End
+unfoldable pub movedBy : ℕ → Command → Command
+movedBy at (SetFont n e) = SetFont n (at + e)
+movedBy at (SetCode n e) = SetCode n (at + e)
+movedBy at (FontBlock f e) = FontBlock (at + f) (at + e)
+movedBy at (CharacterBlock f e) = CharacterBlock (at + f) (at + e)
+movedBy at Broken = Broken
+movedBy at End = End
 
 -- the command at a place of a stream; Broken is 13 at that place
 unfoldable pub commandAt : List ℕ → ℕ → Command
-commandAt s at = moved at (command (drop at s))
+commandAt s at = movedBy at (command (drop at s))
 
 -- the places of a command lie behind at, in order, and within n bytes: so they do, where the command at at is read from n bytes
 unfoldable pub Ends : ℕ → ℕ → Command → Type 0

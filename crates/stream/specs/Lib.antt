@@ -1,8 +1,9 @@
 pub mod Command
-pub mod Put
 pub mod Digits
 pub mod Writing
 pub mod Reading
+pub mod Downloads
+pub mod Underway
 pub mod Written
 pub mod Run
 pub mod RoundTrip

@@ -9,9 +9,10 @@ use lib.Dec.{leb}
 use Rattle.store.specs.Layout.{keyOf}
 use Rattle.store.specs.Model.{Rec, font, character, Mark, Store, encode, decode}
 use Rattle.store.specs.Order.{find}
+use Rattle.store.specs.Records.{recordsOf}
 use Rattle.store.specs.Calls.{shut, fresh}
 use Rattle.store.specs.Download.{markFor}
-use Rattle.stream.specs.Written.{firstData, recordsOf, written}
+use Rattle.stream.specs.Written.{firstData, written}
 use Rattle.stream.specs.Reading.{Reading, reading}
 
 -- how many commands records are written as: D and a header; E, a first block and perhaps a continuation
@@ -38,7 +39,7 @@ abbrev pub restored : ℕ → Store → Reading
 restored n st = record { answer = record { refusal = 0; done = commandsIn (recordsOf n (st .recs)); refused = 0; place = 0 }; bytes = encode (onlyFont n st) }
 
 -- for every store and every font in it
-abbrev pub RoundTrip : Type 0
-RoundTrip =
+abbrev pub FontComesBack : Type 0
+FontComesBack =
     (s : List ℕ) (st : Store) → decode s ≡ some st → (n : ℕ) (r : Rec) → find (keyOf n 0) (st .recs) ≡ some r
     → (reading (written n (st .recs)) (encode (fresh (st .size))) ≡ restored n st) × (decode (encode (onlyFont n st)) ≡ some (onlyFont n st))

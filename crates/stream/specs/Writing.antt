@@ -17,15 +17,15 @@ unfoldable pub setCode : ℕ → List ℕ
 setCode n = spelling 42 99 n 69
 
 -- "ESC )s#W and a font block", of n bytes
-unfoldable pub fontHead : ℕ → List ℕ
-fontHead n = spelling 41 115 n 87
+unfoldable pub fontBlockHead : ℕ → List ℕ
+fontBlockHead n = spelling 41 115 n 87
 
 unfoldable pub fontBlock : List ℕ → List ℕ
-fontBlock b = fontHead (length b) ++ b
+fontBlock b = fontBlockHead (length b) ++ b
 
 -- "ESC (s#W and a character block", of n bytes
-unfoldable pub characterHead : ℕ → List ℕ
-characterHead n = spelling 40 115 n 87
+unfoldable pub characterBlockHead : ℕ → List ℕ
+characterBlockHead n = spelling 40 115 n 87
 
 unfoldable pub characterBlock : List ℕ → List ℕ
-characterBlock b = characterHead (length b) ++ b
+characterBlock b = characterBlockHead (length b) ++ b

@@ -1,10 +1,10 @@
 -- Document 01, "The stream", "Writing a font": the stream that a kept font is written as, and the whole call.
 use Prim.Native.Nat.{ℕ, _+_}
 use mathlib.Core.List.{List, [], _∷_, _++_}
-use lib.Dec.{eqb, leb}
+use lib.Dec.{leb}
 use lib.ListN.{length, take, drop}
-use Rattle.store.specs.Model.{Rec, font, character, number}
-use Rattle.store.specs.Order.{keep}
+use Rattle.store.specs.Model.{Rec, font, character}
+use Rattle.store.specs.Records.{recordsOf}
 use Rattle.store.specs.Answer.{checked, onFont}
 use Rattle.store.specs.Calls.{onto}
 use Rattle.stream.specs.Writing.{setFont, setCode, fontBlock, characterBlock}
@@ -28,10 +28,7 @@ unfoldable pub writtenRun : List Rec → List ℕ
 writtenRun [] = []
 writtenRun (r ∷ rs) = writtenRecord r ++ writtenRun rs
 
--- the records of font n, in the order of the store: the font itself, then its characters by rising code
-unfoldable pub recordsOf : ℕ → List Rec → List Rec
-recordsOf n rs = keep (λ r. eqb (number r) n) rs
-
+-- the font itself, then its characters by rising code, as the store has them
 unfoldable pub written : ℕ → List Rec → List ℕ
 written n rs = writtenRun (recordsOf n rs)
 
@@ -51,7 +48,7 @@ unwritten out k = record { refusal = k; count = 0; out = out }
 
 -- "Write-out checks 1, 2, 6, 12 and answers its length."
 unfoldable pub writingFont : ℕ → List ℕ → List ℕ → WriteOut
-writingFont n out s =
+writingFont n s out =
     onFont (unwritten out) n s
     (λ st r.
     checked (unwritten out) (leb (length (written n (st .recs))) (length out)) 12

@@ -2,7 +2,7 @@
 ghost use mathlib.Core.Path.{_≡_};
 ghost use mathlib.Core.Bool.{cond};
 ghost use Prim.Native.Nat.{_^_, _-_, _≤_, _<_};
-ghost use Rattle.stream.specs.Command.{byte, begins, isDigit, numberOf, numbered, isBlock, blockOf, command, Ends, moved, commandAt};
+ghost use Rattle.stream.specs.Command.{streamByte, startsWith, isDigit, numberOf, numberCommand, isBlock, blockOf, command, Ends, movedBy, commandAt};
 ghost use Rattle.stream.specs.declared.command.Command.the-variants.{FontBlock, CharacterBlock};
 
 // A command and the place behind it, for a block the place where it begins too; no command; or the end of the stream.
@@ -25,7 +25,7 @@ pub(crate) const ESC: u8 = 27;
 
 // The byte at a place, 0 past the end.
 fn byte_at(s: &[u8], at: usize) -> u8
-    ensures { λ r. ⌜ r ≡ byte (now (s .entry)) at ⌝ }
+    ensures { λ r. ⌜ r ≡ streamByte (now (s .entry)) at ⌝ }
 {
     if at < s.len() {
         return s[at];
@@ -35,7 +35,7 @@ fn byte_at(s: &[u8], at: usize) -> u8
 
 // Whether a command begins with ESC and these two bytes.
 fn begins(s: &[u8], second: u8, third: u8) -> bool
-    ensures { λ r. ⌜ r ≡ begins (now (s .entry)) second third ⌝ }
+    ensures { λ r. ⌜ r ≡ startsWith (now (s .entry)) second third ⌝ }
 {
     (byte_at(s, 0) == ESC) & ((byte_at(s, 1) == second) & (byte_at(s, 2) == third))
 }
@@ -71,7 +71,7 @@ fn read_number(s: &[u8]) -> Number
 
 // A font number or a code.
 fn read_numbered(s: &[u8]) -> Command
-    ensures { λ r. ⌜ r ≡ numbered (now (s .entry)) (numberOf (now (s .entry))) ⌝ }
+    ensures { λ r. ⌜ r ≡ numberCommand (now (s .entry)) (numberOf (now (s .entry))) ⌝ }
 {
     let d = read_number(s);
     let next = d.next;
@@ -141,8 +141,8 @@ fn read_front(s: &[u8]) -> Command
 
 // A command whose places count from a place further back.
 fn move_by(at: usize, c: Command) -> Command
-    requires { ⌜ Ends at (2 ^ 64 - 1) (moved at c) ⌝ }
-    ensures { λ r. ⌜ r ≡ moved at c ⌝ }
+    requires { ⌜ Ends at (2 ^ 64 - 1) (movedBy at c) ⌝ }
+    ensures { λ r. ⌜ r ≡ movedBy at c ⌝ }
 {
     match c {
         Command::SetFont { number, next } => Command::SetFont {

@@ -1,12 +1,13 @@
 // Writes numbers in decimal.
 ghost use mathlib.Core.Path.{_≡_};
-ghost use Prim.Native.Nat.{_+_, _≤_};
+ghost use Prim.Native.Nat.{_+_, _≤_, _<_};
 ghost use lib.ListN.{length};
 ghost use Rattle.stream.specs.Digits.{decimal};
-ghost use Rattle.stream.specs.Put.{put};
+ghost use Rattle.store.specs.Change.{withBytes};
 
-// How many digits a number up to 99,999 has.
-pub fn digit_count(n: usize) -> usize
+// How many digits a number below 10,000 has.
+fn short_count(n: usize) -> usize
+    requires { ⌜ n < 10000 ⌝ }
     ensures { λ r. ⌜ r ≡ length (decimal n) ⌝ }
 {
     if n < 10 {
@@ -18,16 +19,26 @@ pub fn digit_count(n: usize) -> usize
     if n < 1000 {
         return 3;
     }
-    if n < 10000 {
-        return 4;
-    }
-    5
+    4
 }
 
-// Writes a number up to 99,999 at a place, the last digit first, and returns the place behind it.
+// How many digits a number has.
+pub fn digit_count(n: usize) -> usize
+    ensures { λ r. ⌜ r ≡ length (decimal n) ⌝ }
+{
+    let mut rest = n;
+    let mut behind = 0;
+    while 10000 <= rest {
+        rest = rest / 10000;
+        behind += 4;
+    }
+    behind + short_count(rest)
+}
+
+// Writes a number at a place, the last digit first, and returns the place behind it.
 pub fn write_digits(out: &mut [u8], at: usize, n: usize) -> usize
     requires { ⌜ at + length (decimal n) ≤ length (now out) ⌝ }
-    ensures { λ r. ⌜ (r ≡ at + length (decimal n)) × (now (out .exit) ≡ put (now (out .entry)) at (decimal n)) ⌝ }
+    ensures { λ r. ⌜ (r ≡ at + length (decimal n)) × (now (out .exit) ≡ withBytes (now (out .entry)) at (decimal n)) ⌝ }
 {
     let end = at + digit_count(n);
     let mut i = end;

@@ -6,19 +6,34 @@ ghost use lib.ListN.{length};
 ghost use Rattle.store.specs.Calls.{downloadingFont};
 ghost use Rattle.store.specs.Download.{downloadingCharacter};
 ghost use Rattle.store.specs.Cursor.{Points};
-ghost use Rattle.stream.specs.Reading.{counted, setFont, setCode, Underway, Pointing, Ahead, resumed, readFrom, reading};
+ghost use Rattle.stream.specs.Reading.{rangeAnswer, withNumber, withCode, countAnswer, endAnswer, reading};
+ghost use Rattle.stream.specs.Underway.{readOn, stateBehind, Underway, readAfter, endedOf, EndsWithin, Leads};
 use crate::command;
 use crate::command::Command;
 use store::known;
 use store::known::Opened;
 use store::locate::Cursor;
 
-// The font number and the code that the next block is for, and the commands done and refused so far.
-pub struct Progress {
+const LAST_FONT: u32 = 32767;
+
+const LAST_CODE: u32 = 255;
+
+// The font number and the code that the next block is for.
+pub struct Target {
     pub font: u32,
     pub code: u32,
+}
+
+// The commands done and refused so far.
+pub struct CommandCounts {
     pub done: u64,
     pub refused: u64,
+}
+
+// How a reading ended: with the stream, or with a 13 at a place.
+pub enum Ending {
+    AtEnd,
+    BrokenAt(usize),
 }
 
 // The refusal, the commands done and refused, and the place of a 13.
@@ -30,134 +45,196 @@ pub struct StreamRead {
     pub place: u64,
 }
 
-// How far a reading is, and the cursor in the store.
-pub struct Stage {
-    pub progress: Progress,
+// A reading under way: its place in the stream, and the cursor in the store.
+pub struct State {
+    pub at: usize,
+    pub target: Target,
+    pub counts: CommandCounts,
     pub cursor: Cursor,
 }
 
-// After a command: the place behind it, or the end of the reading.
-pub enum Turned {
-    Go(Stage, usize),
-    Stop(StreamRead),
+// A reading that has ended.
+pub struct Stopped {
+    pub ending: Ending,
+    pub counts: CommandCounts,
+    pub cursor: Cursor,
+}
+
+// After a command: the state behind it, or the end of the reading.
+pub enum Obeyed {
+    On(State),
+    Stop(Ending),
 }
 
 // One more command, by its answer.
-fn count(x: Progress, answer: u32) -> Progress
+fn count(x: CommandCounts, answer: u32) -> CommandCounts
     requires { ⌜ x .done + x .refused < 18446744073709551615 ⌝ }
-    ensures { λ r. ⌜ r ≡ counted answer x ⌝ }
+    ensures { λ r. ⌜ r ≡ countAnswer answer x ⌝ }
 {
     if answer == 0 {
-        return Progress {
-            font: x.font,
-            code: x.code,
+        return CommandCounts {
             done: x.done + 1,
             refused: x.refused,
         };
     }
-    Progress {
-        font: x.font,
-        code: x.code,
+    CommandCounts {
         done: x.done,
         refused: x.refused + 1,
     }
 }
 
-fn set_font(x: Progress, n: u32) -> Progress
-    requires { ⌜ x .done + x .refused < 18446744073709551615 ⌝ }
-    ensures { λ r. ⌜ r ≡ setFont n x ⌝ }
+// The answer to a font number or a code, by the last one allowed.
+fn range_answer(last: u32, n: u32) -> u32
+    ensures { λ r. ⌜ r ≡ rangeAnswer last n ⌝ }
 {
-    if 32767 < n {
-        return count(x, 2);
+    if n <= last {
+        return 0;
     }
-    let y = Progress {
-        font: n,
-        code: x.code,
-        done: x.done,
-        refused: x.refused,
-    };
-    count(y, 0)
+    2
 }
 
-fn set_code(x: Progress, n: u32) -> Progress
-    requires { ⌜ x .done + x .refused < 18446744073709551615 ⌝ }
-    ensures { λ r. ⌜ r ≡ setCode n x ⌝ }
+fn with_number(t: Target, n: u32) -> Target
+    ensures { λ r. ⌜ r ≡ withNumber n t ⌝ }
 {
-    if 255 < n {
-        return count(x, 2);
+    if n <= LAST_FONT {
+        return Target {
+            font: n,
+            code: t.code,
+        };
     }
-    let y = Progress {
-        font: x.font,
-        code: n,
-        done: x.done,
-        refused: x.refused,
-    };
-    count(y, 0)
+    t
 }
 
-fn take_font(s: &mut [u8], c: Cursor, x: Progress, block: &[u8]) -> Stage
-    requires { ⌜ Points (now s) c × (x .font ≤ 32767) × (x .done + x .refused < 18446744073709551615) ⌝ }
-    ensures { λ r. ⌜ (r .progress ≡ counted (downloadingFont (x .font) (now (block .entry)) (now (s .entry)) .answer) x) × Points (now (s .exit)) (r .cursor) ⌝ }
-    ensures { λ _. ⌜ now (s .exit) ≡ downloadingFont (x .font) (now (block .entry)) (now (s .entry)) .bytes ⌝ }
+fn with_code(t: Target, n: u32) -> Target
+    ensures { λ r. ⌜ r ≡ withCode n t ⌝ }
 {
-    let a = known::add_font(s, c, block, x.font);
-    let behind = a.cursor;
-    Stage {
-        progress: count(x, a.answer),
-        cursor: behind,
+    if n <= LAST_CODE {
+        return Target {
+            font: t.font,
+            code: n,
+        };
     }
+    t
 }
 
-fn take_character(s: &mut [u8], c: Cursor, x: Progress, block: &[u8]) -> Stage
-    requires { ⌜ Points (now s) c × (x .font ≤ 32767) × (x .code ≤ 255) × (x .done + x .refused < 18446744073709551615) ⌝ }
-    ensures { λ r. ⌜ (r .progress ≡ counted (downloadingCharacter (x .font) (x .code) (now (block .entry)) (now (s .entry)) .answer) x) × Points (now (s .exit)) (r .cursor) ⌝ }
-    ensures { λ _. ⌜ now (s .exit) ≡ downloadingCharacter (x .font) (x .code) (now (block .entry)) (now (s .entry)) .bytes ⌝ }
+// The state behind a number or a code, which makes a new target.
+fn set_target(x: State, target: Target, answer: u32, next: usize) -> State
+    requires { ⌜ x .counts .done + x .counts .refused < 18446744073709551615 ⌝ }
+    ensures { λ r. ⌜ r ≡ stateBehind x next target answer (x .cursor) ⌝ }
 {
-    let a = known::add_character(s, c, block, x.font, x.code);
-    let behind = a.cursor;
-    Stage {
-        progress: count(x, a.answer),
-        cursor: behind,
+    let counts = count(x.counts, answer);
+    let cursor = x.cursor;
+    State {
+        at: next,
+        target: target,
+        counts: counts,
+        cursor: cursor,
     }
 }
 
-// Carries out the command at a place of a stream.
-fn turn(s: &mut [u8], stream: &[u8], at: usize, c: Cursor, x: Progress) -> Turned
-    requires { ⌜ Points (now s) c × Underway (length (now stream)) at x ⌝ }
-    ensures { λ r. ⌜ resumed (now (stream .entry)) (now (s .exit)) r ≡ readFrom (now (stream .entry)) at (record { progress = x; bytes = now (s .entry) }) ⌝ }
-    ensures { λ r. ⌜ Pointing (now (s .exit)) r × Ahead (length (now (stream .entry))) at r ⌝ }
+// The state behind a font block.
+fn take_font(s: &mut [u8], x: State, block: &[u8], next: usize) -> State
+    requires { ⌜ Points (now s) (x .cursor) × (x .target .font ≤ 32767) × (x .counts .done + x .counts .refused < 18446744073709551615) ⌝ }
+    ensures { λ r. ⌜ (r ≡ stateBehind x next (x .target) (downloadingFont (x .target .font) (now (block .entry)) (now (s .entry)) .answer) (r .cursor)) × Points (now (s .exit)) (r .cursor) ⌝ }
+    ensures { λ _. ⌜ now (s .exit) ≡ downloadingFont (x .target .font) (now (block .entry)) (now (s .entry)) .bytes ⌝ }
 {
+    let target = x.target;
+    let a = known::add_font(s, x.cursor, block, target.font);
+    let counts = count(x.counts, a.answer);
+    let cursor = a.cursor;
+    State {
+        at: next,
+        target: target,
+        counts: counts,
+        cursor: cursor,
+    }
+}
+
+// The state behind a character block.
+fn take_character(s: &mut [u8], x: State, block: &[u8], next: usize) -> State
+    requires { ⌜ Points (now s) (x .cursor) × (x .target .font ≤ 32767) × (x .target .code ≤ 255) × (x .counts .done + x .counts .refused < 18446744073709551615) ⌝ }
+    ensures { λ r. ⌜ (r ≡ stateBehind x next (x .target) (downloadingCharacter (x .target .font) (x .target .code) (now (block .entry)) (now (s .entry)) .answer) (r .cursor)) × Points (now (s .exit)) (r .cursor) ⌝ }
+    ensures { λ _. ⌜ now (s .exit) ≡ downloadingCharacter (x .target .font) (x .target .code) (now (block .entry)) (now (s .entry)) .bytes ⌝ }
+{
+    let target = x.target;
+    let a = known::add_character(s, x.cursor, block, target.font, target.code);
+    let counts = count(x.counts, a.answer);
+    let cursor = a.cursor;
+    State {
+        at: next,
+        target: target,
+        counts: counts,
+        cursor: cursor,
+    }
+}
+
+// Carries out the command at the place of a state.
+fn obey(s: &mut [u8], stream: &[u8], x: State) -> Obeyed
+    requires { ⌜ Underway (length (now stream)) (now s) x ⌝ }
+    ensures { λ r. ⌜ readAfter (now (stream .entry)) (now (s .exit)) x r ≡ readOn (now (stream .entry)) (now (s .entry)) x ⌝ }
+    ensures { λ r. ⌜ Leads (length (now (stream .entry))) (now (s .exit)) x r ⌝ }
+{
+    let at = x.at;
+    let target = x.target;
     match command::read_command(stream, at) {
-        Command::SetFont { number, next } => Turned::Go(
-            Stage {
-                progress: set_font(x, number),
-                cursor: c,
-            },
-            next,
-        ),
-        Command::SetCode { number, next } => Turned::Go(
-            Stage {
-                progress: set_code(x, number),
-                cursor: c,
-            },
-            next,
-        ),
-        Command::FontBlock { from, to } => Turned::Go(take_font(s, c, x, &stream[from..to]), to),
-        Command::CharacterBlock { from, to } => {
-            Turned::Go(take_character(s, c, x, &stream[from..to]), to)
+        Command::SetFont { number, next } => {
+            let answer = range_answer(LAST_FONT, number);
+            Obeyed::On(set_target(x, with_number(target, number), answer, next))
         }
-        Command::Broken => Turned::Stop(StreamRead {
-            refusal: 13,
-            done: x.done,
-            refused: x.refused,
-            place: at as u64,
-        }),
-        Command::End => Turned::Stop(StreamRead {
+        Command::SetCode { number, next } => {
+            let answer = range_answer(LAST_CODE, number);
+            Obeyed::On(set_target(x, with_code(target, number), answer, next))
+        }
+        Command::FontBlock { from, to } => Obeyed::On(take_font(s, x, &stream[from..to], to)),
+        Command::CharacterBlock { from, to } => {
+            Obeyed::On(take_character(s, x, &stream[from..to], to))
+        }
+        Command::Broken => Obeyed::Stop(Ending::BrokenAt(at)),
+        Command::End => Obeyed::Stop(Ending::AtEnd),
+    }
+}
+
+// Reads on from a state, up to the end of the stream or a 13.
+pub fn read_from(s: &mut [u8], stream: &[u8], from: State) -> Stopped
+    requires { ⌜ Underway (length (now stream)) (now s) from ⌝ }
+    ensures { λ r. ⌜ endedOf r (now (s .exit)) ≡ readOn (now (stream .entry)) (now (s .entry)) from ⌝ }
+    ensures { λ r. ⌜ EndsWithin (length (now (stream .entry))) (r .counts) (r .ending) × Points (now (s .exit)) (r .cursor) ⌝ }
+{
+    let mut x = from;
+    loop {
+        match obey(s, stream, x) {
+            Obeyed::On(behind) => {
+                x = behind;
+            }
+            Obeyed::Stop(ending) => {
+                let counts = x.counts;
+                let cursor = x.cursor;
+                return Stopped {
+                    ending: ending,
+                    counts: counts,
+                    cursor: cursor,
+                };
+            }
+        }
+    }
+}
+
+fn end_answer(ending: Ending, x: CommandCounts) -> StreamRead
+    ensures { λ r. ⌜ r ≡ endAnswer ending x ⌝ }
+{
+    match ending {
+        Ending::AtEnd => StreamRead {
             refusal: 0,
             done: x.done,
             refused: x.refused,
             place: 0,
-        }),
+        },
+        Ending::BrokenAt(at) => StreamRead {
+            refusal: 13,
+            done: x.done,
+            refused: x.refused,
+            place: at as u64,
+        },
     }
 }
 
@@ -166,7 +243,7 @@ pub fn read_stream(s: &mut [u8], stream: &[u8]) -> StreamRead
     ensures { λ r. ⌜ r ≡ reading (now (stream .entry)) (now (s .entry)) .answer ⌝ }
     ensures { λ _. ⌜ now (s .exit) ≡ reading (now (stream .entry)) (now (s .entry)) .bytes ⌝ }
 {
-    let Opened::At(front) = known::open_store(s) else {
+    let Opened::At(cursor) = known::open_store(s) else {
         return StreamRead {
             refusal: 1,
             done: 0,
@@ -174,24 +251,18 @@ pub fn read_stream(s: &mut [u8], stream: &[u8]) -> StreamRead
             place: 0,
         };
     };
-    let mut x = Progress {
-        font: 0,
-        code: 0,
+    let target = Target { font: 0, code: 0 };
+    let none = CommandCounts {
         done: 0,
         refused: 0,
     };
-    let mut c = front;
-    let mut at = 0;
-    loop {
-        match turn(s, stream, at, c, x) {
-            Turned::Go(next, behind) => {
-                x = next.progress;
-                c = next.cursor;
-                at = behind;
-            }
-            Turned::Stop(answer) => {
-                return answer;
-            }
-        }
-    }
+    let first = State {
+        at: 0,
+        target: target,
+        counts: none,
+        cursor: cursor,
+    };
+    let last = read_from(s, stream, first);
+    let ending = last.ending;
+    end_answer(ending, last.counts)
 }

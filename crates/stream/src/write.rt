@@ -1,19 +1,24 @@
 // Writes a kept font as a stream: its length first, so that an output that is too short is left as it was.
 ghost use mathlib.Core.Path.{_≡_};
-ghost use mathlib.Core.List.{List, _∷_};
-ghost use mathlib.Core.Option.{some};
-ghost use Prim.Native.Nat.{ℕ, _+_, _*_, _≤_};
-ghost use lib.ListN.{length, drop};
-ghost use Rattle.store.specs.Model.{Rec, headRec};
-ghost use Rattle.store.specs.Num.{field};
+ghost use mathlib.Core.List.{List, [], _∷_};
+ghost use Prim.Native.Nat.{ℕ, _+_, _*_, _≤_, _<_};
+ghost use lib.ListN.{length};
+ghost use Rattle.blocks.specs.Header.{headerBytes};
+ghost use Rattle.store.specs.Layout.{mostStore, lastFont, lastCode};
+ghost use Rattle.store.specs.Model.{Rec, font, sizeOf};
+ghost use Rattle.store.specs.Records.{recordsAt, Place, MetAt, Between};
 ghost use Rattle.stream.specs.Digits.{decimal};
-ghost use Rattle.stream.specs.Put.{put};
+ghost use Rattle.store.specs.Change.{withBytes};
 ghost use Rattle.stream.specs.Writing.{characterBlock};
 ghost use Rattle.stream.specs.Written.{writtenRecord, writtenRun, writtenOf, writingFont};
-ghost use Rattle.stream.specs.Run.{fontAt, characterAt, recordAt, blocks, Records, Spanned};
+ghost use Rattle.stream.specs.Run.{blocks, writtenCharacter};
 use crate::digits::digit_count;
 use crate::writing;
-use store::number;
+use blocks::character::CONTINUATION;
+use blocks::header::BLOCK_LIMIT;
+use blocks::header::KEPT;
+use store::records;
+use store::records::Met;
 use store::seek;
 use store::seek::Sought;
 
@@ -22,6 +27,18 @@ use store::seek::Sought;
 pub struct Written {
     pub refusal: u32,
     pub length: u32,
+}
+
+// The length of what a record is written as, and the place behind the record.
+struct Measured {
+    length: usize,
+    next: usize,
+}
+
+// The places behind a record and behind what it was written as.
+struct Reached {
+    next: usize,
+    to: usize,
 }
 
 // A refusal answers 0 for every other number.
@@ -34,47 +51,87 @@ fn unwritten(refusal: u32) -> Written
     }
 }
 
+// What a command has beside the digits of its number: ESC, two bytes and a letter.
+const COMMAND_BYTES: usize = 4;
+
 // The length of a command with this number.
 fn command_length(n: usize) -> usize
+    requires { ⌜ n < 100000 ⌝ }
     ensures { λ r. ⌜ (r ≡ 4 + length (decimal n)) × (r ≤ 9) ⌝ }
 {
-    4 + digit_count(n)
+    COMMAND_BYTES + digit_count(n)
 }
 
 // The length of the blocks of a character with n bytes kept, its data among them.
 fn blocks_length(n: usize) -> usize
-    requires { ⌜ n ≤ 65536 ⌝ }
+    requires { ⌜ n ≤ mostStore ⌝ }
     ensures { λ r. ⌜ ((b : List ℕ) → length b ≡ n → r ≡ length (blocks b)) × (r ≤ n + 20) ⌝ }
 {
-    if n <= 32767 {
+    if n <= BLOCK_LIMIT {
         return command_length(n) + n;
     }
-    let rest = n - 32767 + 2;
-    command_length(32767) + 32767 + (command_length(rest) + rest)
+    let rest = n - BLOCK_LIMIT + CONTINUATION;
+    command_length(BLOCK_LIMIT) + BLOCK_LIMIT + (command_length(rest) + rest)
 }
 
-// The length of what the record at a place is written as.
-fn record_length(s: &[u8], at: usize) -> usize
-    requires { ⌜ (headRec (drop at (now s)) ≡ some (recordAt (now s) at)) × (length (now s) ≤ 65536) ⌝ }
-    ensures { λ r. ⌜ (r ≡ length (writtenRecord (recordAt (now (s .entry)) at))) × (r ≤ 2 * field 4 at (now (s .entry))) ⌝ }
+// The length of a font's own commands.
+fn font_length(number: usize) -> usize
+    requires { ⌜ number ≤ lastFont ⌝ }
+    ensures { λ r. ⌜ ((h : List ℕ) → length h ≡ headerBytes → r ≡ length (writtenRecord (font number h))) × (r ≤ headerBytes + 18) ⌝ }
 {
-    if number::le16(s, at + 4) == 2 {
-        return command_length(number::le16(s, at + 6)) + (command_length(64) + 64);
+    command_length(number) + (command_length(KEPT) + KEPT)
+}
+
+// The length of a character's commands, with n bytes kept, its data among them.
+fn character_length(code: usize, n: usize) -> usize
+    requires { ⌜ (code ≤ lastCode) × (n ≤ mostStore) ⌝ }
+    ensures { λ r. ⌜ ((b : List ℕ) → length b ≡ n → r ≡ length (writtenCharacter code b)) × (r ≤ n + 29) ⌝ }
+{
+    command_length(code) + blocks_length(n)
+}
+
+// The record at a place of the run.
+fn measure_record(s: &[u8], at: usize) -> Measured
+    requires { ⌜ Place (now s) at × (recordsAt (now s) at ≡ [] → ⊥) × (length (now s) ≤ mostStore) ⌝ }
+    ensures { λ m. ⌜ ((r : Rec) × MetAt (now (s .entry)) at r (m .next) × (m .length ≡ length (writtenRecord r)) × (m .length ≤ 2 * sizeOf r)) ⌝ }
+{
+    match records::next_record(s, at) {
+        Met::Font {
+            number,
+            kept: _,
+            next,
+        } => Measured {
+            length: font_length(number as usize),
+            next: next,
+        },
+        Met::Character {
+            number: _,
+            code,
+            kept,
+            bytes: _,
+            next,
+        } => Measured {
+            length: character_length(code as usize, next - kept),
+            next: next,
+        },
+        Met::End => Measured {
+            length: 0,
+            next: at,
+        },
     }
-    let n = number::le32(s, at) - 10;
-    command_length(number::le16(s, at + 8)) + blocks_length(n)
 }
 
 // The length of what the records from one place up to another are written as.
 fn written_length(s: &[u8], lo: usize, hi: usize) -> usize
-    requires { ⌜ Spanned (now s) lo hi ⌝ }
-    ensures { λ r. ⌜ ((rs : List Rec) → Records (now (s .entry)) lo hi rs → r ≡ length (writtenRun rs)) × (r ≤ 131072) ⌝ }
+    requires { ⌜ ((rs : List Rec) × Between (now s) lo hi rs) ⌝ }
+    ensures { λ r. ⌜ ((rs : List Rec) → Between (now (s .entry)) lo hi rs → r ≡ length (writtenRun rs)) × (r ≤ 2 * mostStore) ⌝ }
 {
     let mut n = 0;
     let mut at = lo;
     while at < hi {
-        n += record_length(s, at);
-        at += number::le32(s, at);
+        let m = measure_record(s, at);
+        n += m.length;
+        at = m.next;
     }
     n
 }
@@ -82,75 +139,86 @@ fn written_length(s: &[u8], lo: usize, hi: usize) -> usize
 // A continuation, with this data.
 fn write_continuation(out: &mut [u8], to: usize, b: &[u8]) -> usize
     requires { ⌜ to + length (characterBlock (4 ∷ 1 ∷ now b)) ≤ length (now out) ⌝ }
-    ensures { λ r. ⌜ (r ≡ to + length (characterBlock (4 ∷ 1 ∷ now (b .entry)))) × (now (out .exit) ≡ put (now (out .entry)) to (characterBlock (4 ∷ 1 ∷ now (b .entry)))) ⌝ }
+    ensures { λ r. ⌜ (r ≡ to + length (characterBlock (4 ∷ 1 ∷ now (b .entry)))) × (now (out .exit) ≡ withBytes (now (out .entry)) to (characterBlock (4 ∷ 1 ∷ now (b .entry)))) ⌝ }
 {
-    let next = writing::write_character_head(out, to, b.len() + 2);
+    let next = writing::write_character_head(out, to, b.len() + CONTINUATION);
     out[next] = 4;
     out[next + 1] = 1;
-    writing::write_bytes(out, next + 2, b)
+    writing::write_bytes(out, next + CONTINUATION, b)
 }
 
 // The kept bytes of a character with its data: a first block, and a continuation for what it does not hold.
 fn write_blocks(out: &mut [u8], to: usize, b: &[u8]) -> usize
     requires { ⌜ to + length (blocks (now b)) ≤ length (now out) ⌝ }
-    ensures { λ r. ⌜ (r ≡ to + length (blocks (now (b .entry)))) × (now (out .exit) ≡ put (now (out .entry)) to (blocks (now (b .entry)))) ⌝ }
+    ensures { λ r. ⌜ (r ≡ to + length (blocks (now (b .entry)))) × (now (out .exit) ≡ withBytes (now (out .entry)) to (blocks (now (b .entry)))) ⌝ }
 {
-    if b.len() <= 32767 {
+    if b.len() <= BLOCK_LIMIT {
         return writing::write_character_block(out, to, b);
     }
-    let next = writing::write_character_block(out, to, &b[..32767]);
-    write_continuation(out, next, &b[32767..])
+    let next = writing::write_character_block(out, to, &b[..BLOCK_LIMIT]);
+    write_continuation(out, next, &b[BLOCK_LIMIT..])
 }
 
-// A font's own record.
-fn write_font_record(s: &[u8], at: usize, out: &mut [u8], to: usize) -> usize
-    requires { ⌜ (at + 72 ≤ length (now s)) × (to + length (writtenRecord (fontAt (now s) at)) ≤ length (now out)) ⌝ }
-    ensures { λ r. ⌜ (r ≡ to + length (writtenRecord (fontAt (now (s .entry)) at))) × (now (out .exit) ≡ put (now (out .entry)) to (writtenRecord (fontAt (now (s .entry)) at))) ⌝ }
+// A font's own record, whose kept bytes are h.
+fn write_font_record(out: &mut [u8], to: usize, number: usize, h: &[u8]) -> usize
+    requires { ⌜ to + length (writtenRecord (font number (now h))) ≤ length (now out) ⌝ }
+    ensures { λ r. ⌜ (r ≡ to + length (writtenRecord (font number (now (h .entry))))) × (now (out .exit) ≡ withBytes (now (out .entry)) to (writtenRecord (font number (now (h .entry))))) ⌝ }
 {
-    let next = writing::write_set_font(out, to, number::le16(s, at + 6));
-    let from = at + 8;
-    let end = at + 72;
-    writing::write_font_block(out, next, &s[from..end])
+    let next = writing::write_set_font(out, to, number);
+    writing::write_font_block(out, next, h)
 }
 
-// A character's record.
-fn write_character_record(s: &[u8], at: usize, out: &mut [u8], to: usize) -> usize
-    requires { ⌜ (26 ≤ field 4 at (now s)) × (at + field 4 at (now s) ≤ length (now s)) × (to + length (writtenRecord (characterAt (now s) at)) ≤ length (now out)) ⌝ }
-    ensures { λ r. ⌜ (r ≡ to + length (writtenRecord (characterAt (now (s .entry)) at))) × (now (out .exit) ≡ put (now (out .entry)) to (writtenRecord (characterAt (now (s .entry)) at))) ⌝ }
+// A character's record, whose kept bytes with its data are b.
+fn write_character_record(out: &mut [u8], to: usize, code: usize, b: &[u8]) -> usize
+    requires { ⌜ to + length (writtenCharacter code (now b)) ≤ length (now out) ⌝ }
+    ensures { λ r. ⌜ (r ≡ to + length (writtenCharacter code (now (b .entry)))) × (now (out .exit) ≡ withBytes (now (out .entry)) to (writtenCharacter code (now (b .entry)))) ⌝ }
 {
-    let next = writing::write_set_code(out, to, number::le16(s, at + 8));
-    let from = at + 10;
-    let end = at + number::le32(s, at);
-    write_blocks(out, next, &s[from..end])
+    let next = writing::write_set_code(out, to, code);
+    write_blocks(out, next, b)
 }
 
-// The record at a place.
-fn write_record(s: &[u8], at: usize, out: &mut [u8], to: usize) -> usize
-    requires { ⌜ (headRec (drop at (now s)) ≡ some (recordAt (now s) at)) × (to + length (writtenRecord (recordAt (now s) at)) ≤ length (now out)) ⌝ }
-    ensures { λ r. ⌜ (r ≡ to + length (writtenRecord (recordAt (now (s .entry)) at))) × (now (out .exit) ≡ put (now (out .entry)) to (writtenRecord (recordAt (now (s .entry)) at))) ⌝ }
+// The record at a place of the run.
+fn write_record(s: &[u8], at: usize, out: &mut [u8], to: usize) -> Reached
+    requires { ⌜ Place (now s) at × (recordsAt (now s) at ≡ [] → ⊥) × ((r : Rec) (next : ℕ) → MetAt (now s) at r next → to + length (writtenRecord r) ≤ length (now out)) ⌝ }
+    ensures { λ p. ⌜ ((r : Rec) × MetAt (now (s .entry)) at r (p .next) × (p .to ≡ to + length (writtenRecord r)) × (now (out .exit) ≡ withBytes (now (out .entry)) to (writtenRecord r))) ⌝ }
 {
-    if number::le16(s, at + 4) == 2 {
-        return write_font_record(s, at, out, to);
+    match records::next_record(s, at) {
+        Met::Font { number, kept, next } => {
+            let end = kept + KEPT;
+            let to = write_font_record(out, to, number as usize, &s[kept..end]);
+            Reached { next: next, to: to }
+        }
+        Met::Character {
+            number: _,
+            code,
+            kept,
+            bytes: _,
+            next,
+        } => {
+            let to = write_character_record(out, to, code as usize, &s[kept..next]);
+            Reached { next: next, to: to }
+        }
+        Met::End => Reached { next: at, to: to },
     }
-    write_character_record(s, at, out, to)
 }
 
 // The records from one place up to another.
 fn write_records(s: &[u8], lo: usize, hi: usize, out: &mut [u8])
-    requires { ⌜ Spanned (now s) lo hi × ((rs : List Rec) → Records (now s) lo hi rs → length (writtenRun rs) ≤ length (now out)) ⌝ }
-    ensures { λ _. ⌜ ((rs : List Rec) → Records (now (s .entry)) lo hi rs → now (out .exit) ≡ put (now (out .entry)) 0 (writtenRun rs)) ⌝ }
+    requires { ⌜ ((rs : List Rec) × Between (now s) lo hi rs) × ((rs : List Rec) → Between (now s) lo hi rs → length (writtenRun rs) ≤ length (now out)) ⌝ }
+    ensures { λ _. ⌜ ((rs : List Rec) → Between (now (s .entry)) lo hi rs → now (out .exit) ≡ withBytes (now (out .entry)) 0 (writtenRun rs)) ⌝ }
 {
     let mut to = 0;
     let mut at = lo;
     while at < hi {
-        to = write_record(s, at, out, to);
-        at += number::le32(s, at);
+        let p = write_record(s, at, out, to);
+        to = p.to;
+        at = p.next;
     }
 }
 
 // Writes a font with its characters. Checks 1, 2, 6, 12.
 pub fn write_font(s: &[u8], out: &mut [u8], font: u32) -> Written
-    ensures { λ r. ⌜ writtenOf r (now (out .exit)) ≡ writingFont font (now (out .entry)) (now (s .entry)) ⌝ }
+    ensures { λ r. ⌜ writtenOf r (now (out .exit)) ≡ writingFont font (now (s .entry)) (now (out .entry)) ⌝ }
 {
     match seek::seek_font(s, font) {
         Sought::Refused(k) => unwritten(k),

@@ -1,31 +1,23 @@
-use mathlib.Core.Path.{sym, _∙_}
 use borrow.Author.Needs.{needs}
-use Rattle.choice.proofs.Walk.{no-store, begun, out-of-range, chooses}
+use Rattle.choice.proofs.Walk.{no-store, begun, on-store}
 use Rattle.choice.proofs.choose.Statement.{statement}
 use Rattle.choice.proofs.choose.Tie as tie
 
 returns : tie.Need-returns
-returns c = no-store _ _ _ (c .before .before .fonts-begin .ensures) (c .enum-told .given .1)
+returns c = no-store _ _ _ (c .before .before .begin-records .ensures) (c .enum-told .given .1)
 
-scan-requires : tie.Need-scan-requires
-scan-requires c κs =
-    let f = c .before .before .before in
+choose-among-requires : tie.Need-choose-among-requires
+choose-among-requires c κs =
+    let f = c .before in
     let b = f .before .before in
-    (begun _ (b .before .before .args .r) _ (b .fonts-begin .ensures) _ (f .from .given .1) .1, sym (c .before .in-range .ensures) ∙ c .if1 .taken)
+    begun _ (b .before .before .args .r) _ (b .begin-records .ensures) _ (f .from .given .1)
 
 returns-2 : tie.Need-returns-2
 returns-2 c =
-    let i = c .before .before in
-    let f = i .before .before .before in
-    let t = sym (i .before .in-range .ensures) ∙ i .if1 .taken in
-    chooses _ _ _ (f .before .before .fonts-begin .ensures) _ (f .from .given .1) t _ (c .before .scan .ensures) _ (c .answer .ensures)
-
-returns-3 : tie.Need-returns-3
-returns-3 c =
-    let f = c .before .before .before in
-    out-of-range _ _ _ (f .before .before .fonts-begin .ensures) _ (f .from .given .1) (sym (c .before .in-range .ensures) ∙ c .if1 .left)
+    let f = c .before .before in
+    on-store _ _ _ (f .before .before .begin-records .ensures) _ (f .from .given .1) _ (c .choose-among .ensures)
 
 pub choose-spec : {M : Type 1} → statement M
 choose-spec =
     tie.close
-    (tie.spec (λ c κs. search needs) (λ c. search needs) (λ c. search needs) returns (λ c κs. search needs) scan-requires (λ c κs. search needs) returns-2 returns-3)
+    (tie.spec (λ c κs. search needs) (λ c. search needs) (λ c. search needs) returns choose-among-requires returns-2)

@@ -3,15 +3,16 @@ use mathlib.Core.Path.{_≡_, refl}
 use native.Mathlib.Omega.{arith}
 use lib.ListN.{length, length-take, length-drop}
 use borrow.Author.Needs.{needs}
-use Rattle.store.specs.Fonts.{Place, fontsAt}
-use Rattle.choice.specs.Scores.{pass, none}
+use Rattle.store.specs.Records.{Place}
+use Rattle.store.specs.Fonts.{fontsAt}
+use Rattle.choice.specs.Scores.{pass, noScore}
 use Rattle.choice.proofs.Walk.{met, again, stops}
 use Rattle.choice.proofs.scan.Statement.{statement}
 use Rattle.choice.proofs.scan.Tie as tie
 
 -- the pass from here gives what the whole pass gives
 abbrev Inv-loop : tie.InvT-loop
-Inv-loop s from r best₀ at₀ best at = Place s at × (pass r best (fontsAt s at) ≡ pass r none (fontsAt s from))
+Inv-loop s from r best₀ at₀ best at = Place s at × (pass r best (fontsAt s at) ≡ pass r noScore (fontsAt s from))
 
 abbrev μ-loop : tie.MeasureT-loop
 μ-loop s from r best₀ at₀ best at = length s - at

@@ -1,7 +1,7 @@
 use Rattle.store.specs.Fonts.{Font}
 use mathlib.Core.Path.{sym, _∙_}
 use borrow.Author.Needs.{needs}
-use Rattle.choice.proofs.Pass.{part, weighed-out, weighed-behind, weighed-in}
+use Rattle.choice.proofs.Pass.{weighed-out, weighed-behind, weighed-in}
 use Rattle.choice.proofs.weigh.Statement.{statement}
 use Rattle.choice.proofs.weigh.Tie as tie
 
@@ -9,25 +9,25 @@ returns : tie.Need-returns
 returns c =
     let m = c .before .before in
     let i = m .before in
-    let a = i .before .before .before .before .args in
+    let a = i .before .before .before .args in
     let f : Font = record { number = a .number; kept = a .f .now } in
-    let takes = sym (part (a .r) f _ (i .before .before .word .ensures .0)) ∙ i .if1 .taken in
+    let takes = sym (i .before .takes-part .ensures (a .number)) ∙ i .if1 .taken in
     weighed-behind (a .r) (a .best) f takes _ (m .major-of .ensures (a .number)) (c .if2 .taken)
 
 returns-2 : tie.Need-returns-2
 returns-2 c =
     let m = c .before .before .before .before in
     let i = m .before in
-    let a = i .before .before .before .before .args in
+    let a = i .before .before .before .args in
     let f : Font = record { number = a .number; kept = a .f .now } in
-    let takes = sym (part (a .r) f _ (i .before .before .word .ensures .0)) ∙ i .if1 .taken in
+    let takes = sym (i .before .takes-part .ensures (a .number)) ∙ i .if1 .taken in
     weighed-in (a .r) (a .best) f takes _ (m .major-of .ensures (a .number)) _ (c .before .minor-of .ensures (a .number)) _ (c .better .ensures)
 
 returns-3 : tie.Need-returns-3
 returns-3 c =
-    let a = c .before .before .before .before .args in
+    let a = c .before .before .before .args in
     let f : Font = record { number = a .number; kept = a .f .now } in
-    weighed-out (a .r) (a .best) f (sym (part (a .r) f _ (c .before .before .word .ensures .0)) ∙ c .if1 .left)
+    weighed-out (a .r) (a .best) f (sym (c .before .takes-part .ensures (a .number)) ∙ c .if1 .left)
 
 pub weigh-spec : {M : Type 1} → statement M
 weigh-spec =

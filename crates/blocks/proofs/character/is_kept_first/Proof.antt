@@ -8,29 +8,18 @@ returns : tie.Need-returns
 unfolding isKeptFirst
 returns c = simp (ne-eqb _ _ (c .if1 .taken))
 
-fixed-first-requires : tie.Need-fixed-first-requires
-fixed-first-requires c κs = search needs
-
-first-form-requires : tie.Need-first-form-requires
-first-form-requires c κs = search needs
-
-first-fields-requires : tie.Need-first-fields-requires
-first-fields-requires c κs = search needs
-
-first-size-requires : tie.Need-first-size-requires
-first-size-requires c κs = search needs
-
 returns-2 : tie.Need-returns-2
 unfolding isKeptFirst
-returns-2 c = simp (eq-eqb _ _ (c .before .before .before .before .if1 .left)) (cc)
+returns-2 c = simp (eq-eqb _ _ (c .before .before .before .before .before .if1 .left)) (cc)
 
 pub is-kept-first-spec : {M : Type 1} → statement M
 is-kept-first-spec =
     tie.close
     (tie.spec
     returns
-    fixed-first-requires
-    first-form-requires
-    first-fields-requires
-    first-size-requires
+    (λ c κs. search needs)
+    (λ c κs. search needs)
+    (λ c κs. search needs)
+    (λ c κs. search needs)
+    (λ c κs. search needs)
     returns-2)

@@ -1,18 +1,14 @@
 use native.Mathlib.Omega.{arith}
-use Prim.Native.Nat.{_+_, _/_}
 use native.Mathlib.Nat.{mul-le-mul}
 use borrow.Author.Needs.{needs}
 use Rattle.blocks.proofs.character.picture_size.Statement.{statement}
 use Rattle.blocks.proofs.character.picture_size.Tie as tie
 
-add-result : tie.Need-add-result
-add-result c = search needs
-
 mul-result : tie.Need-mul-result
-mul-result c = omega (arith, mul-le-mul {n₁ = c .args .height} {m₁ = (c .args .width + 7) / 8} {n₂ = 65535} {m₂ = 8192} (omega arith) (omega arith))
+mul-result c = omega (arith, mul-le-mul {n₁ = c .before .args .height} {m₁ = c .row-size .result} {n₂ = 65535} {m₂ = 8192} (omega arith) (omega (arith, c .row-size .ensures)))
 
 returns : tie.Need-returns
-returns c = search needs
+returns c = rw (c .row-size .ensures)
 
 pub picture-size-spec : {M : Type 1} → statement M
-picture-size-spec = tie.close (tie.spec add-result mul-result returns)
+picture-size-spec = tie.close (tie.spec (λ c κs. search needs) mul-result returns)

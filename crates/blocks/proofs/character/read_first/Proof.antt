@@ -1,8 +1,10 @@
 -- `blocks::read_first` meets its contract: at each `return` the tests that led there say which check fails first. Assumes nothing.
+use mathlib.Core.Path.{sym}
 use borrow.Author.Needs.{needs}
 use borrow.Author.Tests.{le-leb, lt-leb}
 use Rattle.blocks.specs.Character.{readFirst}
 use Rattle.blocks.proofs.Checks.{failed, passed}
+use Rattle.blocks.proofs.KeptFirst.{form-refused}
 use Rattle.blocks.proofs.character.read_first.Statement.{statement}
 use Rattle.blocks.proofs.character.read_first.Tie as tie
 
@@ -11,8 +13,7 @@ unfolding readFirst
 returns c = simp (lt-leb _ _ (c .if1 .taken))
 
 returns-2 : tie.Need-returns-2
-unfolding readFirst
-returns-2 c = simp (le-leb _ _ (c .before .before .if1 .left), failed (c .before .first-form .ensures) (c .if2 .taken))
+returns-2 c = sym (form-refused _ _ (le-leb _ _ (c .before .before .if1 .left)) (failed (c .before .first-form .ensures) (c .if2 .taken)))
 
 returns-3 : tie.Need-returns-3
 unfolding readFirst

@@ -1,30 +1,12 @@
+use mathlib.Core.Path.{_∙_}
 use borrow.Author.Needs.{needs}
 use Rattle.blocks.proofs.field.floor_word.Statement.{statement}
 use Rattle.blocks.proofs.field.floor_word.Tie as tie
 
-word-requires : tie.Need-word-requires
-word-requires c κs = search needs
-
-is-negative-requires : tie.Need-is-negative-requires
-is-negative-requires c κs = search needs
-
-slice-write-s : tie.Need-slice-write-s
-slice-write-s c = search needs
-
-add-s : tie.Need-add-s
-add-s c = search needs
-
-slice-write-s-2 : tie.Need-slice-write-s-2
-slice-write-s-2 c = search needs
-
-same-length : tie.Need-same-length
-same-length c = search needs
-
 returns : tie.Need-returns
-returns c = rw (← (c .before .before .word .ensures), ← (c .before .is-negative .ensures), c .if1 .taken)
-
-same-length-2 : tie.Need-same-length-2
-same-length-2 c = search needs
+returns c =
+    let k4 = c .before .before .before .before in
+    c .before .before .put-word .ensures ∙ rw (← (k4 .before .before .word .ensures), ← (k4 .before .is-negative .ensures), k4 .if1 .taken)
 
 returns-2 : tie.Need-returns-2
 returns-2 c = rw (← (c .before .before .word .ensures), ← (c .before .is-negative .ensures), c .if1 .left)
@@ -33,12 +15,10 @@ pub floor-word-spec : {M : Type 1} → statement M
 floor-word-spec =
     tie.close
     (tie.spec
-    word-requires
-    is-negative-requires
-    slice-write-s
-    add-s
-    slice-write-s-2
-    same-length
+    (λ c κs. search needs)
+    (λ c κs. search needs)
+    (λ c κs. search needs)
+    (λ c. search needs)
     returns
-    same-length-2
+    (λ c. search needs)
     returns-2)

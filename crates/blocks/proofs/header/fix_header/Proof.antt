@@ -1,26 +1,20 @@
-use borrow.Author.Needs.{needs}
 use native.Mathlib.Omega.{arith}
 use lib.ListN.{length-set}
 use Rattle.blocks.specs.Header.{fixHeader}
+use borrow.Author.Needs.{needs}
 use Rattle.blocks.proofs.header.fix_header.Statement.{statement}
 use Rattle.blocks.proofs.header.fix_header.Tie as tie
 
-slice-write-s-2 : tie.Need-slice-write-s-2
-slice-write-s-2 c = simp length-set (omega arith)
-
-slice-write-s-3 : tie.Need-slice-write-s-3
-slice-write-s-3 c = simp length-set (omega arith)
-
 cap-word-requires : tie.Need-cap-word-requires
-cap-word-requires c κs = simp length-set (omega arith)
+cap-word-requires c κs = simp length-set (omega (arith, c .before .before .before .put-word .kept .0))
 
 cap-word-requires-2 : tie.Need-cap-word-requires-2
-cap-word-requires-2 c κs = omega (arith, simp length-set at (c .before .before .before .cap-word .kept .0))
+cap-word-requires-2 c κs = omega (arith, simp length-set at (c .before .before .before .cap-word .kept .0), c .before .before .before .before .before .before .before .put-word .kept .0)
 
 same-length : tie.Need-same-length
 same-length c =
     let k = c .before .before in
-    omega (arith, k .cap-word2 .kept .0, simp length-set at (k .before .before .before .before .cap-word .kept .0))
+    omega (arith, k .cap-word2 .kept .0, simp length-set at (k .before .before .before .before .cap-word .kept .0), k .before .before .before .before .before .before .before .before .put-word .kept .0)
 
 returns : tie.Need-returns
 unfolding fixHeader
@@ -29,4 +23,11 @@ returns c = cc
 pub fix-header-spec : {M : Type 1} → statement M
 fix-header-spec =
     tie.close
-    (tie.spec (λ c. search needs) slice-write-s-2 slice-write-s-3 cap-word-requires cap-word-requires-2 same-length returns)
+    (tie.spec
+    (λ c. search needs)
+    (λ c κs. search needs)
+    (λ c. search needs)
+    cap-word-requires
+    cap-word-requires-2
+    same-length
+    returns)

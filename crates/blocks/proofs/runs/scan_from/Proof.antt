@@ -1,9 +1,10 @@
-use Prim.Native.Nat.{_-_, _+_, _≤_}
-use native.Mathlib.Nat.{add-zero}
-use mathlib.Core.Path.{_≡_, sym, _∙_}
-use lib.ListN.{length, drop}
+use Rattle.blocks.proofs.Scanning.{scan-done, scan-next, scan-past, scan-end}
 use Rattle.blocks.specs.Runs.{scanFrom}
-use Rattle.blocks.proofs.Scanning.{going-done, scan-done, scan-count, scan-next, scan-past, scan-end}
+use lib.ListN.{length, drop}
+use mathlib.Core.Path.{_≡_, sym, _∙_}
+use native.Mathlib.Omega.{arith}
+use native.Mathlib.Nat.{add-zero}
+use Prim.Native.Nat.{_-_, _+_, _≤_}
 use borrow.Author.Needs.{needs}
 use Rattle.blocks.proofs.runs.scan_from.Statement.{statement}
 use Rattle.blocks.proofs.runs.scan_from.Tie as tie
@@ -17,52 +18,32 @@ abbrev μ-loop : tie.MeasureT-loop
 loop-holds : tie.Need-loop-holds Inv-loop μ-loop
 loop-holds c = (search needs, rw add-zero)
 
+add-t19 : tie.Need-add-t19 Inv-loop μ-loop
+add-t19 c = omega (arith, c .before .before .before .before .before .pre, c .before .before .loop-test .taken)
+
 returns : tie.Need-returns Inv-loop μ-loop
-returns c =
-    let k3 = c .before .before .before in
-    let k4 = k3 .before in
-    let k5 = k4 .before in
-    c .scan-rows .ensures ∙ sym (scan-count _ _ _ _ _ _ (k4 .loop-test .taken) (sym (k3 .going-at .ensures) ∙ c .before .enum-told .given .1)) ∙ k5 .loop .inv .1
+returns c = sym (scan-done _ _ _ _ _ (sym (c .before .is-finished .ensures) ∙ c .if1 .taken)) ∙ c .before .before .before .loop .inv .1
+
+shared-slice-read-step : tie.Need-shared-slice-read-step Inv-loop μ-loop
+shared-slice-read-step c = c .before .before .pass-runs .ensures .within
 
 returns-2 : tie.Need-returns-2 Inv-loop μ-loop
-returns-2 c =
-    let k4 = c .before .before .before .before in
-    sym (scan-done _ _ _ _ _ (going-done (k4 .loop .s .at) _ (sym (c .before .before .going-at .ensures) ∙ c .enum-told2 .given .1))) ∙ k4 .loop .inv .1
+returns-2 c = sym (c .before .before .before .before .before .before .pass-runs .ensures .scan _ _ ∙ scan-past _ _ _ _ _ _ (c .before .before .before .before .before .before .pass-runs .ensures .within) (c .before .before .before .before .before .before .pass-runs .ensures .unfinished (sym (c .before .before .before .before .before .before .before .before .is-finished .ensures) ∙ c .before .before .before .before .before .before .before .if1 .left)) _ _ _ (sym (c .before .before .before .step .ensures) ∙ c .before .row .given .1)) ∙ c .before .before .before .before .before .before .before .before .before .before .loop .inv .1
 
-returns-3 : tie.Need-returns-3 Inv-loop μ-loop
-returns-3 c =
-    let k3 = c .before .before .before in
-    let k5 = k3 .before .before in
-    let k7 = k5 .before .before in
-    let k8 = k7 .before in
-    let k9 = k8 .before in
-    sym (scan-past _ _ _ _ _ _ (k8 .loop-test .taken) (going-done (k9 .loop .s .at) _ (sym (k7 .going-at .ensures) ∙ k5 .enum-told3 .given .1)) _ _ _ (sym (k3 .step .ensures) ∙ c .before .row .given .1)) ∙ k9 .loop .inv .1
+add-i : tie.Need-add-i Inv-loop μ-loop
+add-i c = omega (arith, c .before .before .before .before .before .before .pass-runs .ensures .within)
+
+loop-less : tie.Need-loop-less Inv-loop μ-loop
+loop-less c = omega (arith, c .before .before .before .before .before .before .pass-runs .ensures .ahead, c .before .before .before .before .before .before .before .before .before .loop-test .taken)
 
 loop-again : tie.Need-loop-again Inv-loop μ-loop
-loop-again c =
-    let k3 = c .before .before .before in
-    let k5 = k3 .before .before in
-    let k7 = k5 .before .before in
-    let k8 = k7 .before in
-    let k9 = k8 .before in
-    (search needs, sym (scan-next _ _ _ _ _ _ (k8 .loop-test .taken) (going-done (k9 .loop .s .at) _ (sym (k7 .going-at .ensures) ∙ k5 .enum-told3 .given .1)) _ (sym (k3 .step .ensures) ∙ c .before .n .given .1)) ∙ k9 .loop .inv .1)
+loop-again c = (omega (arith, c .before .before .before .before .before .before .pass-runs .ensures .within), sym (c .before .before .before .before .before .before .pass-runs .ensures .scan _ _ ∙ scan-next _ _ _ _ _ _ (c .before .before .before .before .before .before .pass-runs .ensures .within) (c .before .before .before .before .before .before .pass-runs .ensures .unfinished (sym (c .before .before .before .before .before .before .before .before .is-finished .ensures) ∙ c .before .before .before .before .before .before .before .if1 .left)) _ (sym (c .before .before .before .step .ensures) ∙ c .before .n .given .1)) ∙ c .before .before .before .before .before .before .before .before .before .before .loop .inv .1)
 
-returns-4 : tie.Need-returns-4 Inv-loop μ-loop
-returns-4 c =
-    let k4 = c .before .before .before .before in
-    sym (scan-done _ _ _ _ _ (going-done (k4 .loop .s .at) _ (sym (c .before .before .going-at2 .ensures) ∙ c .enum-told4 .given .1))) ∙ k4 .loop .inv .1
+add-answer : tie.Need-add-answer Inv-loop μ-loop
+add-answer c = omega (arith, c .before .before .before .pre, c .before .loop .inv .0)
 
-returns-5 : tie.Need-returns-5 Inv-loop μ-loop
-returns-5 c =
-    let k3 = c .before .before .before in
-    let k4 = k3 .before in
-    sym (scan-end _ _ _ _ _ _ (k3 .loop-test .left) (going-done (k4 .loop .s .at) _ (sym (c .before .before .going-at2 .ensures) ∙ c .enum-told5 .given .1))) ∙ k4 .loop .inv .1
-
-returns-6 : tie.Need-returns-6 Inv-loop μ-loop
-returns-6 c =
-    let k3 = c .before .before .before in
-    let k4 = k3 .before in
-    sym (scan-end _ _ _ _ _ _ (k3 .loop-test .left) (going-done (k4 .loop .s .at) _ (sym (c .before .before .going-at2 .ensures) ∙ c .enum-told6 .given .1))) ∙ k4 .loop .inv .1
+returns-3 : tie.Need-returns-3 Inv-loop μ-loop
+returns-3 c = c .answer .ensures _ _ ∙ sym (scan-end _ _ _ _ _ _ (c .before .loop-test .left)) ∙ c .before .before .loop .inv .1
 
 pub scan-from-spec : {M : Type 1} → statement M
 scan-from-spec =
@@ -72,26 +53,17 @@ scan-from-spec =
     μ-loop
     loop-holds
     (λ c κs. search needs)
-    (λ c. search needs)
-    (λ c κs. search needs)
+    add-t19
     returns
+    (λ c κs. search needs)
+    shared-slice-read-step
+    (λ c κs. search needs)
     (λ c. search needs)
     (λ c. search needs)
     returns-2
-    (λ c. search needs)
-    (λ c. search needs)
-    (λ c κs. search needs)
-    (λ c. search needs)
-    (λ c. search needs)
-    returns-3
-    (λ c. search needs)
-    (λ c. search needs)
+    add-i
+    loop-less
     loop-again
+    add-answer
     (λ c κs. search needs)
-    (λ c. search needs)
-    (λ c. search needs)
-    (λ c. search needs)
-    (λ c. search needs)
-    returns-4
-    returns-5
-    returns-6)
+    returns-3)

@@ -13,19 +13,19 @@ returns : tie.Need-returns
 returns c =
     let k4 = c .before .before .before .before in
     let k6 = k4 .before .before in
-    (rw (signed-plain (k6 .args .b) (k6 .args .behind) (k4 .if1 .taken)) (c .before .before .write-column .ensures .0), omega arith)
+    (rw (signed-plain (k6 .args .b) (k6 .args .behind) (k4 .if1 .taken)) (c .before .before .write-short .ensures .0), omega arith)
 
-write-column-requires-2 : tie.Need-write-column-requires-2
-write-column-requires-2 c κs = simp length-set (omega arith)
+write-short-requires-2 : tie.Need-write-short-requires-2
+write-short-requires-2 c κs = simp length-set (omega arith)
 
 same-length-2 : tie.Need-same-length-2
-same-length-2 c = simp length-set at (c .before .before .write-column2 .kept .0)
+same-length-2 c = simp length-set at (c .before .before .write-short2 .kept .0)
 
 returns-2 : tie.Need-returns-2
 returns-2 c =
     let k4 = c .before .before .before .before in
     let k6 = k4 .before .before in
-    (rw (signed-minus (k6 .args .b) (k6 .args .behind) (k4 .if1 .left)) (wrote-then _ (45 ∷ []) (column (256 - k6 .args .b) (k6 .args .behind)) _ _ _ _ _ (wrote-byte _ _ 45 (omega arith)) (c .before .before .write-column2 .ensures .0)), omega arith)
+    (rw (signed-minus (k6 .args .b) (k6 .args .behind) (k4 .if1 .left)) (wrote-then _ (45 ∷ []) (column (256 - k6 .args .b) (k6 .args .behind)) _ _ _ _ _ (wrote-byte _ _ 45 (omega arith)) (c .before .before .write-short2 .ensures .0)), omega arith)
 
 pub write-signed-spec : {M : Type 1} → statement M
 write-signed-spec =
@@ -37,6 +37,6 @@ write-signed-spec =
     (λ c. search needs)
     (λ c. search needs)
     (λ c. search needs)
-    write-column-requires-2
+    write-short-requires-2
     same-length-2
     returns-2)

@@ -5,8 +5,8 @@ use Rattle.listing.proofs.line.write_font.Tie as tie
 
 returns : tie.Need-returns
 returns c =
-    let k7 = c .before .before .before .before .before .before .before in
-    (wrote-font _ _ _ _ _ _ _ _ (k7 .tell-font .ensures) (c .before .before .write-line .ensures .0), c .before .before .write-line .ensures .1)
+    let k6 = c .before .before .before .before .before .before in
+    (wrote-font _ _ _ _ _ _ _ _ (k6 .tell-font .ensures) (c .before .before .write-line .ensures .0), c .before .before .write-line .ensures .1)
 
 pub write-font-spec : {M : Type 1} → statement M
 write-font-spec =
@@ -14,7 +14,6 @@ write-font-spec =
     (tie.spec
     (λ c. search needs)
     (λ c κs. search needs)
-    (λ c. search needs)
     (λ c κs. search needs)
     (λ c. search needs)
     returns)

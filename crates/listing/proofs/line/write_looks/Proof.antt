@@ -10,7 +10,7 @@ returns c =
     let k7 = c .before .before .before .before .before .before .before in
     let k12 = k7 .before .before .before .before .before in
     let k13 = k12 .before in
-    (wrote-looks _ _ _ _ _ [] _ _ _ _ 0 _ _ (k13 .word .ensures) (c .before .before .before .word2 .ensures) (k12 .write-column .ensures .0) (k7 .write-signed .ensures .0) (c .before .before .write-column2 .ensures .0), omega arith)
+    (wrote-looks _ _ _ _ _ [] _ _ _ _ 0 _ _ (k13 .word .ensures .0) (c .before .before .before .word2 .ensures .0) (k12 .write-short .ensures .0) (k7 .write-signed .ensures .0) (c .before .before .write-short2 .ensures .0), omega arith)
 
 pub write-looks-spec : {M : Type 1} → statement M
 write-looks-spec =

@@ -1,24 +1,41 @@
-use Rattle.listing.proofs.Texts.{wrote-counts}
-use Rattle.stream.proofs.Decimals.{decimal-length}
 use native.Mathlib.Omega.{arith}
 use borrow.Author.Needs.{needs}
+use Rattle.stream.proofs.Decimals.{decimal-short}
+use Rattle.listing.proofs.Texts.{wrote-counts}
+use Rattle.listing.proofs.Writes.{column-short}
 use Rattle.listing.proofs.summary.write_counts.Statement.{statement}
 use Rattle.listing.proofs.summary.write_counts.Tie as tie
 
+write-column-requires : tie.Need-write-column-requires
+write-column-requires c κs =
+    let k = c .before .before .before in
+    omega (arith, k .write-bytes .ensures .0, k .write-bytes .kept .0, column-short 19 (k .before .before .before .before .args .done) 32 (omega arith))
+
+write-bytes-requires-2 : tie.Need-write-bytes-requires-2
+write-bytes-requires-2 c κs =
+    let w = c .before .before .before .before in
+    let k = w .before .before .before .before in
+    omega (arith, w .write-column .ensures .place, w .write-column .kept .0, k .write-bytes .ensures .0, k .write-bytes .kept .0, column-short 19 (k .before .before .before .before .args .done) 32 (omega arith))
+
 write-digits-requires : tie.Need-write-digits-requires
 write-digits-requires c κs =
-    let k8 = c .before .before .before .before .before .before .before .before in
-    let k12 = k8 .before .before .before .before in
-    let k16 = k12 .before .before .before .before in
-    omega (arith, decimal-length (k16 .args .refused), k12 .write-bytes .ensures .0, k8 .write-column .ensures .1, c .before .before .before .write-bytes2 .ensures .0, k12 .write-bytes .kept .0, k8 .write-column .kept .0, c .before .before .before .write-bytes2 .kept .0)
+    let r = c .before .before .before in
+    let w = r .before .before .before .before .before in
+    let k = w .before .before .before .before in
+    let p = k .before .before .before .before in
+    omega (arith, r .write-bytes2 .ensures .0, r .write-bytes2 .kept .0, w .write-column .ensures .place, w .write-column .kept .0, k .write-bytes .ensures .0, k .write-bytes .kept .0, column-short 19 (p .args .done) 32 (omega arith), decimal-short 19 (p .args .refused) (omega arith))
 
 returns : tie.Need-returns
 returns c =
-    let k6 = c .before .before .before .before .before .before in
-    let k11 = k6 .before .before .before .before .before in
-    let k15 = k11 .before .before .before .before in
-    let k19 = k15 .before .before .before .before in
-    (wrote-counts _ _ _ _ _ _ _ _ _ _ _ _ (k19 .pre) (k15 .write-bytes .ensures) (k11 .write-column .ensures .0) (k11 .write-column .ensures .1) (k6 .write-bytes2 .ensures) (c .before .before .write-digits .ensures), omega (arith, decimal-length (k19 .args .refused), k15 .write-bytes .ensures .0, k11 .write-column .ensures .1, k6 .write-bytes2 .ensures .0, c .before .before .write-digits .ensures .0))
+    let d = c .before .before in
+    let r = d .before .before .before .before in
+    let w = r .before .before .before .before .before in
+    let k = w .before .before .before .before in
+    let p = k .before .before .before .before in (
+      wrote-counts _ _ _ _ _ _ _ _ _ _ _ _ (p .pre) (k .write-bytes .ensures) (w .write-column .ensures)
+          (omega (arith, w .write-column .ensures .place, column-short 19 (p .args .done) 32 (omega arith))) (omega arith) (r .write-bytes2 .ensures) (d .write-digits .ensures),
+      omega (arith, d .write-digits .ensures .0, r .write-bytes2 .ensures .0, w .write-column .ensures .place, k .write-bytes .ensures .0, column-short 19 (p .args .done) 32 (omega arith), decimal-short 19 (p .args .refused) (omega arith)),
+    )
 
 pub write-counts-spec : {M : Type 1} → statement M
 write-counts-spec =
@@ -26,9 +43,9 @@ write-counts-spec =
     (tie.spec
     (λ c. search needs)
     (λ c κs. search needs)
-    (λ c κs. search needs)
+    write-column-requires
     (λ c. search needs)
-    (λ c κs. search needs)
+    write-bytes-requires-2
     write-digits-requires
     (λ c. search needs)
     returns)

@@ -3,7 +3,8 @@ use mathlib.Core.List.{List}
 use Prim.Native.Nat.{ℕ, _+_, _-_}
 use lib.ListN.{take, drop, length-take, length-drop}
 use denote.Ref.{now}
-use Rattle.store.specs.Change.{put}
+use Rattle.blocks.specs.Character.{continuationBytes}
+use Rattle.store.specs.Change.{withBytes}
 use borrow.Author.Needs.{needs}
 use native.Mathlib.Omega.{arith}
 use Rattle.store.proofs.change.extend_character.Statement.{statement}
@@ -15,7 +16,7 @@ copy-requires c κs = simp (length-take, length-drop) (omega (arith, c .before .
 returns : tie.Need-returns
 returns c = let a = c .before .before .before .before .before .before .before .before .before .before .before .args in
     let e : 2 + a .n - 2 ≡ a .n = omega arith in
-    c .before .before .copy .ensures ∙ ap (λ (k : ℕ). put (c .before .before .before .before .before .before .before .put16 .last .0) (a .at + a .old) (take k (drop 2 (now (a .block))))) e ∙ ap (λ (x : List ℕ). put x (a .at + a .old) (take (a .n) (drop 2 (now (a .block))))) (c .before .before .before .before .before .before .before .put16 .ensures)
+    c .before .before .copy .ensures ∙ ap (λ (k : ℕ). withBytes (c .before .before .before .before .before .before .before .put16 .last .0) (a .at + a .old) (take k (drop continuationBytes (now (a .block))))) e ∙ ap (λ (x : List ℕ). withBytes x (a .at + a .old) (take (a .n) (drop continuationBytes (now (a .block))))) (c .before .before .before .before .before .before .before .put16 .ensures)
 
 pub extend-character-spec : {M : Type 1} → statement M
 extend-character-spec =

@@ -4,18 +4,19 @@ use native.Mathlib.Omega.{arith}
 use borrow.Author.Needs.{needs}
 use lib.ListN.{length, drop, length-set}
 use lib.Seq.{paste}
+use Rattle.store.specs.Layout.{fontRecord}
 use Rattle.store.proofs.Moves.{up-turn, up-start, up-end}
 use Rattle.store.proofs.change.font_up.Statement.{statement}
 use Rattle.store.proofs.change.font_up.Tie as tie
 
 abbrev Inv-loop : tie.InvT-loop
-Inv-loop s₀ from n i₀ s i = (s ≡ paste s₀ (from + 72 + i) (drop (from + i) s₀) (n - i)) × (i ≤ n) × (length s ≡ length s₀)
+Inv-loop s₀ from n i₀ s i = (s ≡ paste s₀ (from + fontRecord + i) (drop (from + i) s₀) (n - i)) × (i ≤ n) × (length s ≡ length s₀)
 
 abbrev μ-loop : tie.MeasureT-loop
 μ-loop s₀ from n i₀ s i = i
 
 loop-holds : tie.Need-loop-holds Inv-loop μ-loop
-loop-holds c = (up-start (c .args .s .now) (c .args .from + 72) (c .args .from) (c .args .n), search needs, refl)
+loop-holds c = (up-start (c .args .s .now) (c .args .from + fontRecord) (c .args .from) (c .args .n), search needs, refl)
 
 sub-i : tie.Need-sub-i Inv-loop μ-loop
 sub-i c = omega arith
@@ -42,13 +43,13 @@ loop-again : tie.Need-loop-again Inv-loop μ-loop
 loop-again c =
     let a = c .before .before .before .args in
     let i = c .before .before .loop .i in
-    (up-turn (a .s .now) (c .before .before .loop .s) (a .from + 72) (a .from) (a .n) i (c .before .before .loop .inv .0) (c .before .loop-test .taken) (omega arith) (omega arith) (omega arith), omega arith, simp length-set (c .before .before .loop .inv .2))
+    (up-turn (a .s .now) (c .before .before .loop .s) (a .from + fontRecord) (a .from) (a .n) i (c .before .before .loop .inv .0) (c .before .loop-test .taken) (omega arith) (omega arith) (omega arith), omega arith, simp length-set (c .before .before .loop .inv .2))
 
 same-length : tie.Need-same-length Inv-loop μ-loop
 same-length c = c .before .loop .inv .2
 
 returns : tie.Need-returns Inv-loop μ-loop
-returns c = up-end (c .before .before .args .s .now) (c .before .loop .s) (c .before .before .args .from + 72) (c .before .before .args .from) (c .before .before .args .n) (c .before .loop .i) (omega arith) (c .before .loop .inv .0)
+returns c = up-end (c .before .before .args .s .now) (c .before .loop .s) (c .before .before .args .from + fontRecord) (c .before .before .args .from) (c .before .before .args .n) (c .before .loop .i) (omega arith) (c .before .loop .inv .0)
 
 pub font-up-spec : {M : Type 1} → statement M
 font-up-spec =

@@ -2,8 +2,9 @@ use mathlib.Core.Path.{ap, _∙_}
 use mathlib.Core.List.{List}
 use Prim.Native.Nat.{ℕ}
 use denote.Ref.{now}
+use Rattle.store.specs.Layout.{markCodeAt, markFontAt}
 use Rattle.store.specs.Num.{le}
-use Rattle.store.specs.Change.{put}
+use Rattle.store.specs.Change.{withBytes}
 use Rattle.store.proofs.Written.{remark-put}
 use borrow.Author.Needs.{needs}
 use Rattle.store.proofs.change.remark.Statement.{statement}
@@ -15,7 +16,7 @@ returns c =
     let k10 = k6 .before .before .before .before in
     let k13 = k10 .before .before .before in
     let a = k13 .args in
-    c .before .before .put163 .ensures ∙ ap (λ (l : List ℕ). put l 10 (le 2 (a .code))) (k6 .put162 .ensures ∙ ap (λ (l : List ℕ). put l 8 (le 2 (a .font))) (k10 .put16 .ensures))
+    c .before .before .put163 .ensures ∙ ap (λ (l : List ℕ). withBytes l markCodeAt (le 2 (a .code))) (k6 .put162 .ensures ∙ ap (λ (l : List ℕ). withBytes l markFontAt (le 2 (a .font))) (k10 .put16 .ensures))
     ∙ remark-put (now (a .s)) (record { on = a .on; fontOf = a .font; codeOf = a .code }) (k13 .pre .0)
 
 pub remark-spec : {M : Type 1} → statement M

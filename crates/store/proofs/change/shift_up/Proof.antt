@@ -5,11 +5,12 @@ use native.Mathlib.Omega.{arith}
 use Prim.Native.Nat.{ℕ, _+_}
 use mathlib.Core.Path.{_≡_, ap, _∙_}
 use borrow.Author.Needs.{needs}
+use Rattle.store.specs.Layout.{fontRecord}
 use Rattle.store.proofs.change.shift_up.Statement.{statement}
 use Rattle.store.proofs.change.shift_up.Tie as tie
 
 returns : tie.Need-returns
-returns c = let a = c .before .before .before .before .before .before .args in let e : a .from + 72 ≡ a .to = omega (arith, c .before .before .before .before .if1 .taken, c .before .before .before .before .before .before .pre .0) in c .before .before .font-up .ensures ∙ ap (λ (k : ℕ). paste (now (a .s)) k (drop (a .from) (now (a .s))) (a .n)) e
+returns c = let a = c .before .before .before .before .before .before .args in let e : a .from + fontRecord ≡ a .to = omega (arith, c .before .before .before .before .if1 .taken, c .before .before .before .before .before .before .pre .0) in c .before .before .font-up .ensures ∙ ap (λ (k : ℕ). paste (now (a .s)) k (drop (a .from) (now (a .s))) (a .n)) e
 
 pub shift-up-spec : {M : Type 1} → statement M
 shift-up-spec =

@@ -3,9 +3,11 @@ use mathlib.Core.List.{List}
 use Prim.Native.Nat.{ℕ, _+_, _-_}
 use lib.ListN.{length, take, drop, length-take, length-drop}
 use denote.Ref.{now}
-use Rattle.blocks.specs.Character.{keptFirst}
+use Rattle.blocks.specs.Character.{keptFirst, descriptorBytes}
 use Rattle.blocks.proofs.KeptFirst.{kept-length}
-use Rattle.store.specs.Change.{put, headBytes}
+use Rattle.store.specs.Layout.{characterKeptAt, characterRecord}
+use Rattle.store.specs.Model.{characterHead}
+use Rattle.store.specs.Change.{withBytes}
 use Rattle.store.proofs.Written.{char-put}
 use borrow.Author.Needs.{needs}
 use native.Mathlib.Omega.{arith}
@@ -21,13 +23,13 @@ copy-requires c κs = simp (length-take, length-drop) (omega (arith, c .before .
 returns : tie.Need-returns
 returns c = let a = c .before .before .before .before .before .before .before .before .before .before .before .before .before .before .before .args in
     let b = now (a .block) in
-    let d = take (a .n) (drop 16 b) in
-    let e : 16 + a .n - 16 ≡ a .n = omega arith in
+    let d = take (a .n) (drop descriptorBytes b) in
+    let e : descriptorBytes + a .n - descriptorBytes ≡ a .n = omega arith in
     let l : length d ≡ a .n = simp (length-take, length-drop) (omega (arith, c .before .before .before .before .before .before .before .before .before .before .before .before .before .before .before .pre .4)) in
-    let h : length (keptFirst b) ≡ 16 = kept-length b (omega (arith, c .before .before .before .before .before .before .before .before .before .before .before .before .before .before .before .pre .4)) in
-    let q : put (put (put (now (a .s)) (a .at) (headBytes (26 + length d) (a .font) (a .code))) (a .at + 10) (keptFirst b)) (a .at + 26) d ≡ _ = char-put (now (a .s)) (a .at) (a .font) (a .code) (keptFirst b) d h (omega (arith, l, c .before .before .before .before .before .before .before .before .before .before .before .before .before .before .before .pre .0)) in
-    c .before .before .copy .ensures ∙ ap (λ (k : ℕ). put (c .before .before .before .before .before .before .before .write-descriptor .last .0) (a .at + 26) (take k (drop 16 b))) e
-    ∙ ap (λ (x : List ℕ). put x (a .at + 26) d) (c .before .before .before .before .before .before .before .write-descriptor .ensures ∙ ap (λ (x : List ℕ). put x (a .at + 10) (keptFirst b)) (c .before .before .before .before .before .before .before .before .before .before .before .write-head .ensures))
+    let h : length (keptFirst b) ≡ descriptorBytes = kept-length b (omega (arith, c .before .before .before .before .before .before .before .before .before .before .before .before .before .before .before .pre .4)) in
+    let q : withBytes (withBytes (withBytes (now (a .s)) (a .at) (characterHead (characterRecord + length d) (a .font) (a .code))) (a .at + characterKeptAt) (keptFirst b)) (a .at + characterRecord) d ≡ _ = char-put (now (a .s)) (a .at) (a .font) (a .code) (keptFirst b) d h (omega (arith, l, c .before .before .before .before .before .before .before .before .before .before .before .before .before .before .before .pre .0)) in
+    c .before .before .copy .ensures ∙ ap (λ (k : ℕ). withBytes (c .before .before .before .before .before .before .before .write-descriptor .last .0) (a .at + characterRecord) (take k (drop descriptorBytes b))) e
+    ∙ ap (λ (x : List ℕ). withBytes x (a .at + characterRecord) d) (c .before .before .before .before .before .before .before .write-descriptor .ensures ∙ ap (λ (x : List ℕ). withBytes x (a .at + characterKeptAt) (keptFirst b)) (c .before .before .before .before .before .before .before .before .before .before .before .write-head .ensures))
     ∙ rw l at q
 
 pub write-character-spec : {M : Type 1} → statement M

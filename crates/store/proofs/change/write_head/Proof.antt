@@ -2,8 +2,9 @@ use mathlib.Core.Path.{ap, _∙_}
 use mathlib.Core.List.{List}
 use Prim.Native.Nat.{ℕ, _+_}
 use denote.Ref.{now}
+use Rattle.store.specs.Layout.{characterKind, codeAt, kindAt, numberAt}
 use Rattle.store.specs.Num.{le}
-use Rattle.store.specs.Change.{put}
+use Rattle.store.specs.Change.{withBytes}
 use Rattle.store.proofs.Written.{head-put}
 use borrow.Author.Needs.{needs}
 use Rattle.store.proofs.change.write_head.Statement.{statement}
@@ -17,7 +18,7 @@ returns c =
     let k18 = k14 .before .before .before .before in
     let k21 = k18 .before .before .before in
     c .before .before .put165 .ensures
-    ∙ ap (λ (l : List ℕ). put l (k21 .args .at + 8) (le 2 (k21 .args .code))) (k6 .put164 .ensures ∙ ap (λ (l : List ℕ). put l (k21 .args .at + 6) (le 2 (k21 .args .font))) (k10 .put163 .ensures ∙ ap (λ (l : List ℕ). put l (k21 .args .at + 4) (le 2 3)) (k14 .put162 .ensures ∙ ap (λ (l : List ℕ). put l (k21 .args .at + 2) (le 2 0)) (k18 .put16 .ensures))))
+    ∙ ap (λ (l : List ℕ). withBytes l (k21 .args .at + codeAt) (le 2 (k21 .args .code))) (k6 .put164 .ensures ∙ ap (λ (l : List ℕ). withBytes l (k21 .args .at + numberAt) (le 2 (k21 .args .font))) (k10 .put163 .ensures ∙ ap (λ (l : List ℕ). withBytes l (k21 .args .at + kindAt) (le 2 characterKind)) (k14 .put162 .ensures ∙ ap (λ (l : List ℕ). withBytes l (k21 .args .at + 2) (le 2 0)) (k18 .put16 .ensures))))
     ∙ head-put (now (k21 .args .s)) (k21 .args .at) (k21 .args .len) (k21 .args .font) (k21 .args .code) (k21 .pre .0) (k21 .pre .1)
 
 pub write-head-spec : {M : Type 1} → statement M

@@ -5,6 +5,8 @@ use lib.ListN.{length}
 use lib.Dec.{leb}
 use borrow.Author.Tests.{le-leb, lt-leb}
 use denote.Ref.{now}
+use Rattle.blocks.specs.Character.{descriptorBytes}
+use Rattle.store.specs.Layout.{characterRecord}
 use Rattle.store.specs.Answer.{checked, untold}
 use Rattle.store.specs.Calls.{tellingCharacter, onto}
 use Rattle.store.specs.declared.walk.Places.{Places}
@@ -22,7 +24,7 @@ at-found c =
 
 -- what is told of a character that is there
 told : (n k : ℕ) (s out : List ℕ) (w : Places) (x : KeptChar n k s w)
-    → tellingCharacter n k s out ≡ checked (untold out) (leb 16 (length out)) 12 (record { refusal = 0; count = length (x .bytes); out = onto (x .kept) out })
+    → tellingCharacter n k s out ≡ checked (untold out) (leb descriptorBytes (length out)) 12 (record { refusal = 0; count = length (x .bytes); out = onto (x .kept) out })
 unfolding tellingCharacter
 told n k s out w x = char-call n k s w (untold out) _ x
 
@@ -30,7 +32,7 @@ returns : tie.Need-returns
 returns c =
     let k8 = c .before .before .before .before .before .before .before .before in
     let x = at-found (c .before .before) in
-    rw (c .untold2 .ensures .0, c .untold2 .ensures .1) (sym (told _ _ _ (now (k8 .args .out)) _ x ∙ rw (lt-leb 16 (length (now (k8 .args .out))) (c .before .if1 .taken))))
+    rw (c .untold2 .ensures .0, c .untold2 .ensures .1) (sym (told _ _ _ (now (k8 .args .out)) _ x ∙ rw (lt-leb descriptorBytes (length (now (k8 .args .out))) (c .before .if1 .taken))))
 
 add-copy-kept : tie.Need-add-copy-kept
 add-copy-kept c = let x = at-found (c .before) in omega (arith, char-span _ _ _ _ x, x .ready .last, x .ready .room)
@@ -55,8 +57,8 @@ returns-2 c =
 
 returns-3 : tie.Need-returns-3
 returns-3 c = let x = at-found (c .before .before .before .before .before .before) in
-    let i : c .before .before .before .before .before .before .before .p .given .0 .0 .to - (c .before .before .before .before .before .before .before .p .given .0 .0 .from + 26) ≡ length (x .bytes) = omega (arith, char-span _ _ _ _ x) in
-    rw (c .before .before .before .copy-kept .ensures, char-kept _ _ _ _ x, i) (sym (told _ _ _ (now (c .before .before .before .before .before .before .before .before .before .before .before .before .args .out)) _ x ∙ rw (le-leb 16 (length (now (c .before .before .before .before .before .before .before .before .before .before .before .before .args .out))) (c .before .before .before .before .before .if1 .left))))
+    let i : c .before .before .before .before .before .before .before .p .given .0 .0 .to - (c .before .before .before .before .before .before .before .p .given .0 .0 .from + characterRecord) ≡ length (x .bytes) = omega (arith, char-span _ _ _ _ x) in
+    rw (c .before .before .before .copy-kept .ensures, char-kept _ _ _ _ x, i) (sym (told _ _ _ (now (c .before .before .before .before .before .before .before .before .before .before .before .before .args .out)) _ x ∙ rw (le-leb descriptorBytes (length (now (c .before .before .before .before .before .before .before .before .before .before .before .before .args .out))) (c .before .before .before .before .before .if1 .left))))
 
 pub tell-character-spec : {M : Type 1} → statement M
 tell-character-spec =

@@ -9,7 +9,7 @@ returns : tie.Need-returns
 returns c =
     let k3 = c .before .before .before in
     let k8 = k3 .before .before .before .before .before in
-    c .judge-joined .ensures ∙ rw (k3 .word .ensures, c .before .before .word2 .ensures, to-end 2 (now (k8 .args .block)))
+    c .judge-joined .ensures ∙ rw (k3 .width .ensures, c .before .before .height .ensures, k3 .before .class .ensures, to-end 2 (now (k8 .args .block)))
 
 pub judge-more-spec : {M : Type 1} → statement M
 judge-more-spec =

@@ -4,9 +4,10 @@ use mathlib.Core.List.{List}
 use Prim.Native.Nat.{ℕ, _+_, _-_}
 use lib.ListN.{length, take, drop, length-take, length-drop}
 use denote.Ref.{now}
-use Rattle.blocks.specs.Character.{keptFirst}
+use Rattle.blocks.specs.Character.{keptFirst, descriptorBytes}
+use Rattle.store.specs.Layout.{characterRecord}
 use Rattle.store.specs.Model.{bytesOf, character}
-use Rattle.store.specs.Change.{moved, put, remarked}
+use Rattle.store.specs.Change.{splicedAt, withBytes, remarked}
 use Rattle.store.specs.Calls.{shut}
 use Rattle.store.specs.Download.{markFor}
 use Rattle.store.proofs.Downloads.{Space, space, place-full, place-done}
@@ -17,10 +18,10 @@ use Rattle.store.proofs.download.place_first.Statement.{statement}
 use Rattle.store.proofs.download.place_first.Tie as tie
 
 -- what is known at the start: the space, and the length of the data
-at-start : (c : tie.After-slice-known) → Space (c .before .args .font) (c .before .args .code) (keptFirst (now (c .before .args .block))) (take (c .before .args .n) (drop 16 (now (c .before .args .block)))) (now (c .before .args .s)) (c .before .args .p)
+at-start : (c : tie.After-slice-known) → Space (c .before .args .font) (c .before .args .code) (keptFirst (now (c .before .args .block))) (take (c .before .args .n) (drop descriptorBytes (now (c .before .args .block)))) (now (c .before .args .s)) (c .before .args .p)
 at-start c = space _ _ _ _ _ _ (λ i. c .slice-known .given i .fits) (c .before .pre .0 .2)
 
-data-length : (c : tie.After-slice-known) → length (take (c .before .args .n) (drop 16 (now (c .before .args .block)))) ≡ c .before .args .n
+data-length : (c : tie.After-slice-known) → length (take (c .before .args .n) (drop descriptorBytes (now (c .before .args .block)))) ≡ c .before .args .n
 data-length c = simp (length-take, length-drop) (omega (arith, c .before .pre .0 .1))
 
 sub-old : tie.Need-sub-old
@@ -63,7 +64,7 @@ returns-2 c = let x = at-start (c .before .before .before .before .before .befor
       e .0,
       c .before .before .mark-character .ensures
           ∙ ap (λ (y : Bool). remarked (cond y (record { on = 1; fontOf = a .font; codeOf = a .code }) shut) (c .before .before .before .before .before .before .write-character .last .0)) (c .before .before .before .before .before .before .before .before .before .before .before .before .before .before .before .before .pre .1)
-          ∙ ap (remarked (markFor (a .font) (a .code) (keptFirst (now (a .block))) (take (a .n) (drop 16 (now (a .block)))))) (c .before .before .before .before .before .before .write-character .ensures ∙ ap (λ (y : List ℕ). put y (a .p .from) (bytesOf (character (a .font) (a .code) (keptFirst (now (a .block))) (take (a .n) (drop 16 (now (a .block))))))) (c .before .before .before .before .before .before .before .before .before .before .splice .ensures ∙ ap (λ (y : ℕ). moved (a .p .from) (a .p .to - a .p .from) (a .p .used) (26 + y) (now (a .s))) (sym l)))
+          ∙ ap (remarked (markFor (a .font) (a .code) (keptFirst (now (a .block))) (take (a .n) (drop descriptorBytes (now (a .block)))))) (c .before .before .before .before .before .before .write-character .ensures ∙ ap (λ (y : List ℕ). withBytes y (a .p .from) (bytesOf (character (a .font) (a .code) (keptFirst (now (a .block))) (take (a .n) (drop descriptorBytes (now (a .block))))))) (c .before .before .before .before .before .before .before .before .before .before .splice .ensures ∙ ap (λ (y : ℕ). splicedAt (a .p .from) (a .p .to - a .p .from) (a .p .used) (characterRecord + y) (now (a .s))) (sym l)))
           ∙ e .1,
     )
 

@@ -4,8 +4,10 @@ use mathlib.Core.List.{List, _++_}
 use Prim.Native.Nat.{ℕ, _+_, _-_, _≤_}
 use lib.ListN.{length, take, drop, length-take, length-drop, length-append}
 use denote.Ref.{now}
+use Rattle.blocks.specs.Character.{dataLimit, continuationBytes}
+use Rattle.store.specs.Layout.{characterRecord}
 use Rattle.store.specs.Num.{Bytes, le}
-use Rattle.store.specs.Change.{moved, put, remarked}
+use Rattle.store.specs.Change.{splicedAt, withBytes, remarked}
 use Rattle.store.specs.Calls.{shut}
 use Rattle.store.specs.Walk.{keptAt, dataAt}
 use Rattle.store.specs.Download.{markFor}
@@ -20,24 +22,24 @@ use Rattle.store.proofs.download.place_more.Tie as tie
 bytes-at : (c : tie.After-slice-known) → Bytes (now (c .before .args .s))
 bytes-at c = λ i. c .slice-known .given i .fits
 
-at-start : (c : tie.After-slice-known) → Space (c .before .args .font) (c .before .args .code) (keptAt (now (c .before .args .s)) (c .before .args .p)) (dataAt (now (c .before .args .s)) (c .before .args .p) ++ take (c .before .args .n) (drop 2 (now (c .before .args .block)))) (now (c .before .args .s)) (c .before .args .p)
+at-start : (c : tie.After-slice-known) → Space (c .before .args .font) (c .before .args .code) (keptAt (now (c .before .args .s)) (c .before .args .p)) (dataAt (now (c .before .args .s)) (c .before .args .p) ++ take (c .before .args .n) (drop continuationBytes (now (c .before .args .block)))) (now (c .before .args .s)) (c .before .args .p)
 at-start c = growing _ _ _ _ _ (bytes-at c) (c .before .pre .0 .1)
 
-data-length : (c : tie.After-slice-known) → length (take (c .before .args .n) (drop 2 (now (c .before .args .block)))) ≡ c .before .args .n
+data-length : (c : tie.After-slice-known) → length (take (c .before .args .n) (drop continuationBytes (now (c .before .args .block)))) ≡ c .before .args .n
 data-length c = simp (length-take, length-drop) (omega (arith, c .before .pre .0 .0))
 
 -- the room that the code tests is that of the whole record
 record Sizes (c : tie.After-slice-known) : Type 0 where
-  old : c .before .args .p .to ≡ c .before .args .p .from + 26 + length (dataAt (now (c .before .args .s)) (c .before .args .p))
-  more : length (dataAt (now (c .before .args .s)) (c .before .args .p) ++ take (c .before .args .n) (drop 2 (now (c .before .args .block)))) ≡ length (dataAt (now (c .before .args .s)) (c .before .args .p)) + c .before .args .n
-  small : length (dataAt (now (c .before .args .s)) (c .before .args .p)) + c .before .args .n ≤ 32768
+  old : c .before .args .p .to ≡ c .before .args .p .from + characterRecord + length (dataAt (now (c .before .args .s)) (c .before .args .p))
+  more : length (dataAt (now (c .before .args .s)) (c .before .args .p) ++ take (c .before .args .n) (drop continuationBytes (now (c .before .args .block)))) ≡ length (dataAt (now (c .before .args .s)) (c .before .args .p)) + c .before .args .n
+  small : length (dataAt (now (c .before .args .s)) (c .before .args .p)) + c .before .args .n ≤ dataLimit
 
 sizes : (c : tie.After-slice-known) → Sizes c
 sizes c =
     let l = data-length c in
     record {
       old = grow-span _ _ _ _ _ (bytes-at c) (c .before .pre .0 .1);
-      more = length-append (dataAt (now (c .before .args .s)) (c .before .args .p)) (take (c .before .args .n) (drop 2 (now (c .before .args .block)))) ∙ ap (λ (x : ℕ). length (dataAt (now (c .before .args .s)) (c .before .args .p)) + x) l;
+      more = length-append (dataAt (now (c .before .args .s)) (c .before .args .p)) (take (c .before .args .n) (drop continuationBytes (now (c .before .args .block)))) ∙ ap (λ (x : ℕ). length (dataAt (now (c .before .args .s)) (c .before .args .p)) + x) l;
       small = omega (arith, l, grow-small _ _ _ _ _ (bytes-at c) (c .before .pre .0 .1));
     }
 
@@ -81,7 +83,7 @@ returns-2 c = let k = c .before .before .before .before .before .before .before 
     let l = data-length k in
     let a = c .before .before .before .before .before .before .before .before .before .before .before .before .before .before .before .before .args in
     let s = now (a .s) in
-    let t = take (a .n) (drop 2 (now (a .block))) in
+    let t = take (a .n) (drop continuationBytes (now (a .block))) in
     let e = answered (place-done _ _ _ _ _ _ x (omega (arith, c .before .before .before .before .before .before .before .before .before .before .before .before .if1 .left, z .old, z .more, x .ready .last))) in
     let old = a .p .to - a .p .from in
     let f : a .p .used + length t ≤ length s = omega (arith, c .before .before .before .before .before .before .before .before .before .before .before .before .if1 .left, l) in (
@@ -89,8 +91,8 @@ returns-2 c = let k = c .before .before .before .before .before .before .before 
       c .before .before .mark-character .ensures
           ∙ ap (λ (y : Bool). remarked (cond y (record { on = 1; fontOf = a .font; codeOf = a .code }) shut) (c .before .before .before .before .before .before .extend-character .last .0)) (c .before .before .before .before .before .before .before .before .before .before .before .before .before .before .before .before .pre .1)
           ∙ ap (remarked (markFor (a .font) (a .code) (keptAt s (a .p)) (dataAt s (a .p) ++ t)))
-          (c .before .before .before .before .before .before .extend-character .ensures ∙ ap (λ (y : List ℕ). put (put y (a .p .from) (le 2 (old + a .n))) (a .p .from + old) t) (c .before .before .before .before .before .before .before .before .before .before .splice .ensures)
-          ∙ ap (λ (y : ℕ). put (put (moved (a .p .from) old (a .p .used) (old + y) s) (a .p .from) (le 2 (old + y))) (a .p .from + old) t) (sym l) ∙ grow-put _ _ _ _ _ (bytes-at k) (c .before .before .before .before .before .before .before .before .before .before .before .before .before .before .before .before .pre .0 .1) f)
+          (c .before .before .before .before .before .before .extend-character .ensures ∙ ap (λ (y : List ℕ). withBytes (withBytes y (a .p .from) (le 2 (old + a .n))) (a .p .from + old) t) (c .before .before .before .before .before .before .before .before .before .before .splice .ensures)
+          ∙ ap (λ (y : ℕ). withBytes (withBytes (splicedAt (a .p .from) old (a .p .used) (old + y) s) (a .p .from) (le 2 (old + y))) (a .p .from + old) t) (sym l) ∙ grow-put _ _ _ _ _ (bytes-at k) (c .before .before .before .before .before .before .before .before .before .before .before .before .before .before .before .before .pre .0 .1) f)
           ∙ e .1,
     )
 

@@ -5,6 +5,7 @@ use lib.ListN.{length-take, length-drop}
 use denote.Ref.{now}
 use Rattle.blocks.specs.declared.picture.Judged.the-variants.{Complete}
 use Rattle.blocks.proofs.Checks.{failed, passed}
+use Rattle.blocks.specs.Character.{continuationBytes}
 use Rattle.store.specs.Model.{markIn}
 use Rattle.store.specs.Download.{names}
 use Rattle.store.proofs.FontCalls.{answered}
@@ -66,7 +67,7 @@ receive-more-requires c κs = let o = at-open (c .before .before .before .before
     let e = sym (joined-at _ _ b _ (c .before .before .before .before .before .before .before .before .before .before .before .before .before .before .before .args .p) (at-start (c .before .before .before .before .before .before .before .before .before .before .before .before .before .before))) ∙ sym (c .before .before .before .before .judge-more .ensures) ∙ c .before .before .k .given .1 in
     let q = more-within _ _ b _ (c .before .before .before .before .before .before .before .before .before .before .before .before .before .before .before .args .p) (at-start (c .before .before .before .before .before .before .before .before .before .before .before .before .before .before)) (named (c .before .before .before .before .before .before .before .before .before .before)) _ e in
     let l = block-short _ (c .before .before .before .before .before .before .before .before .before .before .before .before .before .before .before .pre .1) .0 in
-    ((omega (arith, q, o, l, length-drop 2 b), c .before .before .before .before .before .before .before .before .before .before .before .before .before .before .before .pre .0, named (c .before .before .before .before .before .before .before .before .before .before)), e ∙ ap Complete (omega (arith, q, o)))
+    ((omega (arith, q, o, l, length-drop continuationBytes b), c .before .before .before .before .before .before .before .before .before .before .before .before .before .before .before .pre .0, named (c .before .before .before .before .before .before .before .before .before .before)), e ∙ ap Complete (omega (arith, q, o)))
 
 sub-receive-more-3 : tie.Need-sub-receive-more-3
 sub-receive-more-3 c =

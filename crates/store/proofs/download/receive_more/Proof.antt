@@ -2,6 +2,8 @@ use mathlib.Core.Path.{_≡_, _∙_}
 use Prim.Native.Nat.{_+_, _-_, _≤_, _<_}
 use lib.ListN.{length, take, drop, length-take, length-drop}
 use denote.Ref.{now}
+use Rattle.blocks.specs.Character.{dataLimit, continuationBytes}
+use Rattle.store.specs.Layout.{characterRecord}
 use Rattle.store.specs.Walk.{dataAt}
 use Rattle.store.proofs.FontCalls.{answered}
 use Rattle.store.proofs.Host.{Host, host}
@@ -17,11 +19,11 @@ at-start c = host _ _ _ _ (λ i. c .slice-known .given i .fits) (c .before .pre 
 at-open : (c : tie.After-slice-known) → Opened (c .before .args .font) (c .before .args .code) (now (c .before .args .s)) (c .before .args .p) (at-start c)
 at-open c = opened-there _ _ _ _ (at-start c) (c .before .pre .0 .2)
 
-data-length : (c : tie.After-slice-known) → length (take (c .before .args .n) (drop 2 (now (c .before .args .block)))) ≡ c .before .args .n
+data-length : (c : tie.After-slice-known) → length (take (c .before .args .n) (drop continuationBytes (now (c .before .args .block)))) ≡ c .before .args .n
 data-length c = simp (length-take, length-drop) (omega (arith, c .before .pre .0 .0))
 
 -- what the code tests
-sum : (c : tie.After-slice-known) → c .before .args .p .to - (c .before .args .p .from + 26) + c .before .args .n ≡ length (dataAt (now (c .before .args .s)) (c .before .args .p)) + length (take (c .before .args .n) (drop 2 (now (c .before .args .block))))
+sum : (c : tie.After-slice-known) → c .before .args .p .to - (c .before .args .p .from + characterRecord) + c .before .args .n ≡ length (dataAt (now (c .before .args .s)) (c .before .args .p)) + length (take (c .before .args .n) (drop continuationBytes (now (c .before .args .block))))
 sum c = let l = data-length c in let o = at-open c .span in omega (arith, l, o)
 
 add-if1 : tie.Need-add-if1
@@ -37,21 +39,21 @@ returns : tie.Need-returns
 returns c = let x = at-start (c .before .before .before .before) in
     let q = sum (c .before .before .before .before) in
     let a = c .before .before .before .before .before .args in
-    let l : 32768 < length (dataAt (now (a .s)) (a .p)) + length (take (a .n) (drop 2 (now (a .block)))) = omega (arith, q, c .if1 .taken) in
+    let l : dataLimit < length (dataAt (now (a .s)) (a .p)) + length (take (a .n) (drop continuationBytes (now (a .block)))) = omega (arith, q, c .if1 .taken) in
     answered (more-large _ _ (now (a .block)) _ (a .p) x (c .before .before .before .before .before .pre .0 .2) (a .n) (a .marked) (c .before .before .before .before .before .pre .1) l)
 
 place-more-requires : tie.Need-place-more-requires
 place-more-requires c κs = let x = at-start (c .before .before .before .before .before) in
     let q = sum (c .before .before .before .before .before) in
     let a = c .before .before .before .before .before .before .args in
-    let l : length (dataAt (now (a .s)) (a .p)) + length (take (a .n) (drop 2 (now (a .block)))) ≤ 32768 = omega (arith, q, c .before .if1 .left) in
+    let l : length (dataAt (now (a .s)) (a .p)) + length (take (a .n) (drop continuationBytes (now (a .block)))) ≤ dataLimit = omega (arith, q, c .before .if1 .left) in
     ((c .before .before .before .before .before .before .pre .0 .0, more-grows _ _ (now (a .block)) _ (a .p) x (c .before .before .before .before .before .before .pre .0 .2) (a .n) (a .marked) (c .before .before .before .before .before .before .pre .1) l), more-marked _ _ (now (a .block)) _ (a .p) x (c .before .before .before .before .before .before .pre .0 .2) (a .n) (a .marked) (c .before .before .before .before .before .before .pre .1) l)
 
 returns-2 : tie.Need-returns-2
 returns-2 c = let x = at-start (c .before .before .before .before .before .before .before .before) in
     let q = sum (c .before .before .before .before .before .before .before .before) in
     let a = c .before .before .before .before .before .before .before .before .before .args in
-    let l : length (dataAt (now (a .s)) (a .p)) + length (take (a .n) (drop 2 (now (a .block)))) ≤ 32768 = omega (arith, q, c .before .before .before .before .if1 .left) in
+    let l : length (dataAt (now (a .s)) (a .p)) + length (take (a .n) (drop continuationBytes (now (a .block)))) ≤ dataLimit = omega (arith, q, c .before .before .before .before .if1 .left) in
     let e = answered (more-placed _ _ (now (a .block)) _ (a .p) x (c .before .before .before .before .before .before .before .before .before .pre .0 .2) (a .n) (a .marked) (c .before .before .before .before .before .before .before .before .before .pre .1) l) in
     (c .before .before .place-more .ensures .0 ∙ e .0, c .before .before .place-more .ensures .1 ∙ e .1)
 

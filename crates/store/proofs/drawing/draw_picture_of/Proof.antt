@@ -12,7 +12,7 @@ returns : tie.Need-returns
 returns c =
     let k3 = c .before .before .before in
     let k7 = k3 .before .before .before .before in
-    answered (picture-short (now (k7 .args .h)) (now (k7 .args .bytes)) (now (k7 .args .out)) (rw (c .before .picture-size .ensures, k3 .word .ensures, c .before .before .word2 .ensures) at (c .if1 .taken)))
+    answered (picture-short (now (k7 .args .h)) (now (k7 .args .bytes)) (now (k7 .args .out)) (rw (c .before .picture-size .ensures, k3 .width .ensures, c .before .before .height .ensures) at (c .if1 .taken)))
 
 slice-aggregate-draw-picture : tie.Need-slice-aggregate-draw-picture
 slice-aggregate-draw-picture c =
@@ -20,7 +20,7 @@ slice-aggregate-draw-picture c =
     sym (length-take-le _ (now (k9 .args .out)) (c .before .before .if1 .left))
 
 draw-picture-requires : tie.Need-draw-picture-requires
-draw-picture-requires c κs = (omega (arith, c .before .before .before .before .before .word .ensures, c .before .before .before .before .before .before .before .before .before .pre .1), length-take-le _ (now (c .before .before .before .before .before .before .before .before .before .args .out)) (c .before .before .if1 .left) ∙ c .before .before .before .picture-size .ensures)
+draw-picture-requires c κs = (omega (arith, c .before .before .before .before .before .width .ensures, c .before .before .before .before .before .before .before .before .before .pre .1), length-take-le _ (now (c .before .before .before .before .before .before .before .before .before .args .out)) (c .before .before .if1 .left) ∙ c .before .before .before .picture-size .ensures)
 
 returns-2 : tie.Need-returns-2
 returns-2 c =
@@ -29,8 +29,8 @@ returns-2 c =
     let k7 = k6 .before in
     let k8 = k7 .before in
     let k12 = k8 .before .before .before .before in
-    let e = answered (picture-drawn (now (k12 .args .h)) (now (k12 .args .bytes)) (now (k12 .args .out)) (rw (k6 .picture-size .ensures, k8 .word .ensures, k7 .word2 .ensures) at (k5 .if1 .left))) in
-    (e .0, rw (c .before .before .draw-picture .ensures, k6 .picture-size .ensures, k8 .word .ensures, k7 .word2 .ensures) (e .1))
+    let e = answered (picture-drawn (now (k12 .args .h)) (now (k12 .args .bytes)) (now (k12 .args .out)) (rw (k6 .picture-size .ensures, k8 .width .ensures, k7 .height .ensures) at (k5 .if1 .left))) in
+    (e .0, rw (c .before .before .draw-picture .ensures, c .before .before .before .before .class .ensures, k6 .picture-size .ensures, k8 .width .ensures, k7 .height .ensures) (e .1))
 
 pub draw-picture-of-spec : {M : Type 1} → statement M
 draw-picture-of-spec =

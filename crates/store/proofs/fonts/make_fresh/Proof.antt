@@ -2,8 +2,9 @@ use mathlib.Core.Path.{ap, _∙_}
 use mathlib.Core.List.{List}
 use Prim.Native.Nat.{ℕ}
 use denote.Ref.{now}
+use Rattle.store.specs.Layout.{kindAt, markKind, markRecord}
 use Rattle.store.specs.Num.{le}
-use Rattle.store.specs.Change.{put}
+use Rattle.store.specs.Change.{withBytes}
 use Rattle.store.proofs.FontCalls.{answered, fresh-short, fresh-long, fresh-done, fresh-bytes}
 use borrow.Author.Needs.{needs}
 use Rattle.store.proofs.fonts.make_fresh.Statement.{statement}
@@ -23,7 +24,7 @@ returns-3 c =
     let k13 = k12 .before in
     let k15 = k13 .before .before in
     let e = answered (fresh-done (now (k15 .args .s)) (k13 .if1 .left) (k12 .if2 .left)) in
-    (e .0, c .before .before .put162 .ensures ∙ ap (λ (l : List ℕ). put l 4 (le 2 1)) (k6 .put16 .ensures ∙ ap (λ (l : List ℕ). put l 0 (le 2 12)) (k10 .clear .ensures)) ∙ fresh-bytes (now (k15 .args .s)) (k13 .if1 .left) ∙ e .1)
+    (e .0, c .before .before .put162 .ensures ∙ ap (λ (l : List ℕ). withBytes l kindAt (le 2 markKind)) (k6 .put16 .ensures ∙ ap (λ (l : List ℕ). withBytes l 0 (le 2 markRecord)) (k10 .clear .ensures)) ∙ fresh-bytes (now (k15 .args .s)) (k13 .if1 .left) ∙ e .1)
 
 pub make-fresh-spec : {M : Type 1} → statement M
 make-fresh-spec =

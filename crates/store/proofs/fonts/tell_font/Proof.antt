@@ -5,6 +5,7 @@ use lib.ListN.{length}
 use lib.Dec.{leb}
 use borrow.Author.Tests.{le-leb, lt-leb}
 use denote.Ref.{now}
+use Rattle.blocks.specs.Header.{headerBytes}
 use Rattle.store.specs.Answer.{checked, Telling, untold}
 use Rattle.store.specs.Calls.{tellingFont, charactersOf, onto}
 use Rattle.store.specs.Model.{font}
@@ -26,7 +27,7 @@ counted c = font-counted _ _ _ (sym (c .before .before .before .seek-font .ensur
 
 -- what is told of a font that is there
 told : (n : ℕ) (s out : List ℕ) (w : Places) (x : KeptFont n 0 s w)
-    → tellingFont n s out ≡ checked (untold out) (leb 64 (length out)) 12 (record { refusal = 0; count = length (charactersOf n (x .ready .store .recs)); out = onto (x .header) out })
+    → tellingFont n s out ≡ checked (untold out) (leb headerBytes (length out)) 12 (record { refusal = 0; count = length (charactersOf n (x .ready .store .recs)); out = onto (x .header) out })
 unfolding tellingFont
 told n s out w x = font-call n s w (untold out) _ x
 
@@ -37,7 +38,7 @@ returns : tie.Need-returns
 returns c =
     let k8 = c .before .before .before .before .before .before .before .before in
     let x = at-found (c .before .before) in
-    rw (c .untold2 .ensures .0, c .untold2 .ensures .1) (sym (told _ _ (now (k8 .args .out)) _ x ∙ rw (lt-leb 64 (length (now (k8 .args .out))) (c .before .if1 .taken))))
+    rw (c .untold2 .ensures .0, c .untold2 .ensures .1) (sym (told _ _ (now (k8 .args .out)) _ x ∙ rw (lt-leb headerBytes (length (now (k8 .args .out))) (c .before .if1 .taken))))
 
 add-copy-kept : tie.Need-add-copy-kept
 add-copy-kept c = let x = at-found (c .before) in omega (arith, font-span _ _ _ _ x, x .ready .end, x .ready .room)
@@ -60,7 +61,7 @@ returns-3 c =
     let x = at-found (k .before .before .before) in
     let a = k .before .before .before .before .before .before .before .before .before .args in
     same (counted (k .before .before .before)) (k .copy-kept .ensures ∙ ap (λ (h : List ℕ). onto h (now (a .out))) (font-kept _ _ _ _ x))
-    ∙ sym (told _ _ (now (a .out)) _ x ∙ rw (le-leb 64 (length (now (a .out))) (k .before .before .if1 .left)))
+    ∙ sym (told _ _ (now (a .out)) _ x ∙ rw (le-leb headerBytes (length (now (a .out))) (k .before .before .if1 .left)))
 
 pub tell-font-spec : {M : Type 1} → statement M
 tell-font-spec =

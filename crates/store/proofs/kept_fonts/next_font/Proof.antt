@@ -2,8 +2,10 @@ use mathlib.Core.Path.{_≡_, refl, sym, _∙_}
 use Prim.Native.Nat.{_-_, _≤_}
 use lib.ListN.{length}
 use denote.Ref.{now}
-use Rattle.store.specs.Fonts.{Place, fontsAt}
-use Rattle.store.proofs.KeptFonts.{fonts-short, fonts-zero, fonts-font, fonts-char}
+use Rattle.store.specs.Records.{Place}
+use Rattle.store.specs.Fonts.{fontsAt}
+use Rattle.store.proofs.RecordRuns.{font-met, character-met}
+use Rattle.store.proofs.KeptFonts.{fonts-short, fonts-zero, font-listed, character-passed}
 use borrow.Author.Needs.{needs}
 use native.Mathlib.Omega.{arith}
 use Rattle.store.proofs.kept_fonts.next_font.Statement.{statement}
@@ -31,21 +33,21 @@ add-t9 : tie.Need-add-t9 Inv-loop μ-loop
 add-t9 c = omega (arith, c .before .before .before .before .before .before .loop .inv .0 .within)
 
 add-t11 : tie.Need-add-t11 Inv-loop μ-loop
-add-t11 c = let n = fonts-font (now (c .before .before .before .before .before .before .before .before .args .s)) (c .before .before .before .before .before .before .loop .p) (c .before .before .before .before .before .before .loop .inv .0) (λ e. omega arith) (omega arith) in omega (arith, n .room)
+add-t11 c = let n = font-met (now (c .before .before .before .before .before .before .before .before .args .s)) (c .before .before .before .before .before .before .loop .p) (c .before .before .before .before .before .before .loop .inv .0) (λ e. omega arith) (omega arith) in omega (arith, n .met .within)
 
 returns-2 : tie.Need-returns-2 Inv-loop μ-loop
-returns-2 c = let n = fonts-font (now (c .before .before .before .before .before .before .before .before .args .s)) (c .before .before .before .before .before .before .loop .p) (c .before .before .before .before .before .before .loop .inv .0) (λ e. omega arith) (omega arith) in
-    (rw (c .le162 .ensures .0) (sym (c .before .before .before .before .before .before .loop .inv .1) ∙ n .fonts), n .place, omega (arith, c .before .before .before .before .before .before .loop .inv .2), n .room, omega (arith, n .room), rw (c .le162 .ensures .0) (n .low))
+returns-2 c = let n = font-met (now (c .before .before .before .before .before .before .before .before .args .s)) (c .before .before .before .before .before .before .loop .p) (c .before .before .before .before .before .before .loop .inv .0) (λ e. omega arith) (omega arith) in
+    (rw (c .le162 .ensures .0) (sym (c .before .before .before .before .before .before .loop .inv .1) ∙ font-listed _ _ _ _ _ n), n .met .place, omega (arith, c .before .before .before .before .before .before .loop .inv .2), n .met .within, n .room, rw (c .le162 .ensures .0) (n .low))
 
 add-p : tie.Need-add-p Inv-loop μ-loop
-add-p c = let o = fonts-char (now (c .before .before .before .before .before .before .before .args .s)) (c .before .before .before .before .before .loop .p) (c .before .before .before .before .before .loop .inv .0) (λ e. omega arith) (λ e. omega arith) in omega (arith, o .place .within)
+add-p c = let o = character-met (now (c .before .before .before .before .before .before .before .args .s)) (c .before .before .before .before .before .loop .p) (c .before .before .before .before .before .loop .inv .0) (λ e. omega arith) (λ e. omega arith) in omega (arith, o .met .within)
 
 loop-less : tie.Need-loop-less Inv-loop μ-loop
-loop-less c = let o = fonts-char (now (c .before .before .before .before .before .before .before .args .s)) (c .before .before .before .before .before .loop .p) (c .before .before .before .before .before .loop .inv .0) (λ e. omega arith) (λ e. omega arith) in omega (arith, o .place .within, o .some)
+loop-less c = let o = character-met (now (c .before .before .before .before .before .before .before .args .s)) (c .before .before .before .before .before .loop .p) (c .before .before .before .before .before .loop .inv .0) (λ e. omega arith) (λ e. omega arith) in omega (arith, o .met .within, o .met .ahead)
 
 loop-again : tie.Need-loop-again Inv-loop μ-loop
-loop-again c = let o = fonts-char (now (c .before .before .before .before .before .before .before .args .s)) (c .before .before .before .before .before .loop .p) (c .before .before .before .before .before .loop .inv .0) (λ e. omega arith) (λ e. omega arith) in
-    rw (c .before .before .before .le32 .ensures) (o .place, sym (o .fonts) ∙ c .before .before .before .before .before .loop .inv .1, omega (arith, c .before .before .before .before .before .loop .inv .2))
+loop-again c = let o = character-met (now (c .before .before .before .before .before .before .before .args .s)) (c .before .before .before .before .before .loop .p) (c .before .before .before .before .before .loop .inv .0) (λ e. omega arith) (λ e. omega arith) in
+    rw (c .before .before .before .le32 .ensures) (o .met .place, sym (character-passed _ _ _ _ _ _ _ o) ∙ c .before .before .before .before .before .loop .inv .1, omega (arith, c .before .before .before .before .before .loop .inv .2))
 
 returns-3 : tie.Need-returns-3 Inv-loop μ-loop
 returns-3 c = sym (c .before .loop .inv .1) ∙ fonts-short _ _ (c .before .loop .inv .0) (c .loop-test .left)

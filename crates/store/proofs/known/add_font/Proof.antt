@@ -1,4 +1,4 @@
-use Rattle.store.proofs.Cursors.{bounds, font-behind}
+use Rattle.store.proofs.Cursors.{in-order, font-behind}
 use Rattle.store.proofs.Again.{known-refused, known-taken}
 use Rattle.store.proofs.Locates.{store-is}
 use Rattle.store.proofs.FontCalls.{answered}
@@ -12,7 +12,7 @@ put-font-requires : tie.Need-put-font-requires
 put-font-requires c κs = (c .before .before .before .before .before .before .before .before .pre .1, sym (c .before .before .before .before .before .read-header .ensures) ∙ c .before .before .before .enum-told .given .1, c .before .locate .ensures)
 
 font-end-requires : tie.Need-font-end-requires
-font-end-requires c κs = let y = bounds _ 0 _ _ (c .before .before .before .before .locate .ensures) in (y .span, y .end, y .small)
+font-end-requires c κs = let y = in-order _ 0 _ _ (c .before .before .before .before .locate .ensures) in (y .span, y .end, y .small)
 
 returns : tie.Need-returns
 returns c = let e = answered (known-refused _ (now (c .before .before .before .before .before .before .args .block)) _ (store-is _ _ (c .before .before .before .before .before .before .pre .0 .is)) (c .before .before .before .before .before .before .pre .1) _ (sym (c .before .before .before .read-header .ensures) ∙ c .before .k .given .1)) in ((e .0, c .before .before .before .before .before .before .pre .0), e .1)

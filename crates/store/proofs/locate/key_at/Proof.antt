@@ -1,4 +1,5 @@
 use denote.Ref.{now}
+use Rattle.store.specs.Layout.{kindAt}
 use Rattle.store.specs.Num.{field}
 use borrow.Author.Tests.{ne-eqb}
 use Prim.Native.Nat.{_+_}
@@ -8,10 +9,10 @@ use Rattle.store.proofs.locate.key_at.Statement.{statement}
 use Rattle.store.proofs.locate.key_at.Tie as tie
 
 returns : tie.Need-returns
-returns c = let k : field 2 (c .before .before .before .before .args .at + 4) (now (c .before .before .before .before .args .s)) ≡ 2 = sym (c .before .le162 .ensures .0) ∙ c .if1 .taken in rw (c .before .before .le16 .ensures .0, k)
+returns c = let k : field 2 (c .before .before .before .before .args .at + kindAt) (now (c .before .before .before .before .args .s)) ≡ 2 = sym (c .before .le162 .ensures .0) ∙ c .if1 .taken in rw (c .before .before .le16 .ensures .0, k)
 
 returns-2 : tie.Need-returns-2
-returns-2 c = rw (ne-eqb (field 2 (c .before .before .before .before .before .args .at + 4) (now (c .before .before .before .before .before .args .s))) 2 (λ e. c .before .if1 .left (c .before .before .le162 .ensures .0 ∙ e)), c .before .before .before .le16 .ensures .0, c .le163 .ensures .0)
+returns-2 c = rw (ne-eqb (field 2 (c .before .before .before .before .before .args .at + kindAt) (now (c .before .before .before .before .before .args .s))) 2 (λ e. c .before .if1 .left (c .before .before .le162 .ensures .0 ∙ e)), c .before .before .before .le16 .ensures .0, c .le163 .ensures .0)
 
 pub key-at-spec : {M : Type 1} → statement M
 key-at-spec =

@@ -1,8 +1,9 @@
-use mathlib.Core.Path.{_≡_, sym, _∙_}
+use mathlib.Core.Path.{_≡_, sym, ap, _∙_}
 use denote.Ref.{now}
 use Rattle.store.specs.Model.{decode}
 use Rattle.store.specs.Walk.{inspected}
 use Rattle.store.specs.declared.walk.Inspected.the-variants.{Found}
+use Rattle.store.specs.declared.seek.Sought.the-variants.{Here}
 use Rattle.store.proofs.Ready.{Ready, ready, not-store, looked-at, looked-not}
 use Rattle.store.proofs.Seeks.{font-not, font-range, font-none, font-here}
 use borrow.Author.Needs.{needs}
@@ -26,12 +27,14 @@ returns-2 c = sym (font-range _ _ _ (at-found (c .before)) (c .if1 .taken))
 returns-3 : tie.Need-returns-3
 returns-3 c =
     let k3 = c .before .before .before in
-    sym (font-none _ _ _ (at-found (c .before .before .before .before)) (k3 .if1 .left) (looked-not _ _ (sym (c .before .before .look-up .ensures) ∙ c .enum-told3 .given .1)))
+    sym (font-none _ _ _ (at-found (k3 .before)) (k3 .if1 .left) (looked-not _ _ _ (sym (c .before .before .look-up-font .ensures) ∙ c .enum-told2 .given .1)))
 
 returns-4 : tie.Need-returns-4
 returns-4 c =
     let k3 = c .before .before .before in
-    sym (font-here _ _ _ (at-found (c .before .before .before .before)) (k3 .if1 .left) (looked-at _ _ _ (sym (c .before .before .look-up .ensures) ∙ c .enum-told2 .given .1) .0) (found-is (c .before .before .before .before)))
+    let k5 = k3 .before .before in
+    let l = looked-at _ _ _ _ (sym (k3 .look-up-font .ensures) ∙ c .before .at .given .1) in
+    sym (font-here _ _ _ (at-found k5) (k3 .before .if1 .left) (l .0) (found-is k5) ∙ ap Here (l .1))
 
 pub seek-font-spec : {M : Type 1} → statement M
 seek-font-spec =

@@ -2,6 +2,8 @@ use mathlib.Core.Path.{_∙_}
 use Prim.Native.Nat.{_-_}
 use lib.ListN.{length-take, length-drop}
 use denote.Ref.{now}
+use Rattle.blocks.specs.Character.{descriptorBytes}
+use Rattle.store.specs.Layout.{characterKeptAt, characterRecord}
 use Rattle.store.proofs.Heads.{part-at}
 use borrow.Author.Needs.{needs}
 use native.Mathlib.Omega.{arith}
@@ -14,7 +16,7 @@ held-character-requires c κs = simp (length-take, length-drop) (omega arith)
 returns : tie.Need-returns
 returns c =
     let k4 = c .before .before .before .before in
-    let a = k4 .args in c .held-character .ensures ∙ rw (part-at (a .at) 10 16 26 (now (a .s)) (omega arith), part-at (a .at) 26 (a .len - 26) (a .len) (now (a .s)) (omega arith))
+    let a = k4 .args in c .held-character .ensures ∙ rw (part-at (a .at) characterKeptAt descriptorBytes characterRecord (now (a .s)) (omega arith), part-at (a .at) characterRecord (a .len - characterRecord) (a .len) (now (a .s)) (omega arith))
 
 pub held-at-spec : {M : Type 1} → statement M
 held-at-spec =

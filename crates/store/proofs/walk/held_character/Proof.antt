@@ -14,7 +14,7 @@ unfolding heldUnder
 returns-2 c =
     let k4 = c .before .before .before .before in
     let k5 = k4 .before in
-    c .held-in .ensures ∙ rw (passed (k5 .is-kept-first .ensures) (k4 .if1 .left), c .before .before .word .ensures, c .before .word2 .ensures)
+    c .held-in .ensures ∙ rw (passed (k5 .is-kept-first .ensures) (k4 .if1 .left), c .before .before .width .ensures, c .before .height .ensures, c .before .before .before .class .ensures)
 
 pub held-character-spec : {M : Type 1} → statement M
 held-character-spec =

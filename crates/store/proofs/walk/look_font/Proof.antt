@@ -2,6 +2,8 @@ use mathlib.Core.Path.{sym, _∙_}
 use borrow.Author.Tests.{le-leb, lt-leb}
 use denote.Ref.{now}
 use Rattle.blocks.proofs.Checks.{failed, passed}
+use Rattle.blocks.specs.Header.{headerBytes}
+use Rattle.store.specs.Layout.{fontKeptAt, fontRecord}
 use Rattle.store.specs.Num.{_&_}
 use Rattle.store.proofs.Heads.{part-at, font-long, font-is}
 use borrow.Author.Needs.{needs}
@@ -26,7 +28,7 @@ returns-3 c =
     let k5 = k4 .before in
     let k7 = k5 .before .before in
     λ u.
-    sym (font-is u _ _ _ (k7 .pre .0) (k7 .pre .1) (k5 .if1 .left) ∙ rw (le-leb _ _ (rw (k4 .le16 .ensures .0) at (k3 .if2 .left)), ← (part-at (k7 .args .at) 8 64 72 (now (k7 .args .s)) (omega arith)), failed (c .before .is-kept-header .ensures) (c .if3 .taken)))
+    sym (font-is u _ _ _ (k7 .pre .0) (k7 .pre .1) (k5 .if1 .left) ∙ rw (le-leb _ _ (rw (k4 .le16 .ensures .0) at (k3 .if2 .left)), ← (part-at (k7 .args .at) fontKeptAt headerBytes fontRecord (now (k7 .args .s)) (omega arith)), failed (c .before .is-kept-header .ensures) (c .if3 .taken)))
 
 returns-4 : tie.Need-returns-4
 unfolding _&_
@@ -36,7 +38,7 @@ returns-4 c =
     let k6 = k5 .before in
     let k8 = k6 .before .before in
     λ u.
-    rw (k5 .le16 .ensures .0) (sym (font-is u _ _ _ (k8 .pre .0) (k8 .pre .1) (k6 .if1 .left) ∙ rw (le-leb _ _ (rw (k5 .le16 .ensures .0) at (k4 .if2 .left)), ← (part-at (k8 .args .at) 8 64 72 (now (k8 .args .s)) (omega arith)), passed (c .before .before .is-kept-header .ensures) (c .before .if3 .left))))
+    rw (k5 .le16 .ensures .0) (sym (font-is u _ _ _ (k8 .pre .0) (k8 .pre .1) (k6 .if1 .left) ∙ rw (le-leb _ _ (rw (k5 .le16 .ensures .0) at (k4 .if2 .left)), ← (part-at (k8 .args .at) fontKeptAt headerBytes fontRecord (now (k8 .args .s)) (omega arith)), passed (c .before .before .is-kept-header .ensures) (c .before .if3 .left))))
 
 pub look-font-spec : {M : Type 1} → statement M
 look-font-spec =

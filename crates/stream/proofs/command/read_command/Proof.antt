@@ -12,7 +12,9 @@ returns : tie.Need-returns
 returns c = sym (command-past (now (c .before .before .args .s)) _ (c .if1 .taken))
 
 move-by-requires : tie.Need-move-by-requires
-move-by-requires c κs = rw (command-rest (now (c .before .before .before .before .args .s)) _ _ (c .read-front .ensures)) (ends-fits _ (length (now (c .before .before .before .before .args .s))) (2 ^ 64 - 1) _ (omega arith) (command-at-ends (now (c .before .before .before .before .args .s)) _))
+move-by-requires c κs =
+    let k4 = c .before .before .before .before in
+    rw (command-rest (now (k4 .args .s)) _ _ (c .read-front .ensures)) (ends-fits _ (length (now (k4 .args .s))) (2 ^ 64 - 1) _ (omega arith) (command-at-ends (now (k4 .args .s)) _))
 
 returns-2 : tie.Need-returns-2
 returns-2 c =

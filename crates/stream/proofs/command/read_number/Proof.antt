@@ -29,7 +29,9 @@ sub-value : tie.Need-sub-value Inv-loop μ-loop
 sub-value c = digit-within _ (passed (c .before .is-digit .ensures) (c .if1 .left)) .0
 
 add-value : tie.Need-add-value Inv-loop μ-loop
-add-value c = omega (arith, number-bound _ _ _ (c .before .before .before .before .loop .inv .1), digit-within (c .before .before .byte-at .result) (passed (c .before .is-digit .ensures) (c .if1 .left)))
+add-value c =
+    let k4 = c .before .before .before .before in
+    omega (arith, number-bound _ _ _ (k4 .loop .inv .1), digit-within (c .before .before .byte-at .result) (passed (c .before .is-digit .ensures) (c .if1 .left)))
 
 loop-again : tie.Need-loop-again Inv-loop μ-loop
 loop-again c =

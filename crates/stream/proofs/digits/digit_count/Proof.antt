@@ -1,36 +1,49 @@
-use borrow.Author.Tests.{lt-ltb, le-ltb}
-use Rattle.stream.specs.Digits.{digitCount}
-use Rattle.stream.proofs.Decimals.{length-decimal}
+use Prim.Native.Nat.{_+_}
+use mathlib.Core.Path.{_≡_}
 use native.Mathlib.Omega.{arith}
+use lib.ListN.{length}
+use Rattle.stream.specs.Digits.{decimal}
+use Rattle.stream.proofs.Decimals.{length-four, decimal-short}
 use Rattle.stream.proofs.digits.digit_count.Statement.{statement}
 use Rattle.stream.proofs.digits.digit_count.Tie as tie
 
-returns : tie.Need-returns
-unfolding digitCount
-returns c = rw (length-decimal _, lt-ltb (c .before .args .n) 10 (omega arith))
+abbrev Inv-loop : tie.InvT-loop
+Inv-loop n rest₀ behind₀ rest behind = behind + length (decimal rest) ≡ length (decimal n)
 
-returns-2 : tie.Need-returns-2
-unfolding digitCount
-returns-2 c = rw (length-decimal _, le-ltb (c .before .before .args .n) 10 (omega arith), lt-ltb (c .before .before .args .n) 100 (omega arith))
+abbrev μ-loop : tie.MeasureT-loop
+μ-loop n rest₀ behind₀ rest behind = rest
 
-returns-3 : tie.Need-returns-3
-unfolding digitCount
-returns-3 c = rw (length-decimal _, le-ltb (c .before .before .before .args .n) 10 (omega arith), le-ltb (c .before .before .before .args .n) 100 (omega arith), lt-ltb (c .before .before .before .args .n) 1000 (omega arith))
+loop-holds : tie.Need-loop-holds Inv-loop μ-loop
+loop-holds c = omega arith
 
-returns-4 : tie.Need-returns-4
-unfolding digitCount
-returns-4 c = rw (length-decimal _, le-ltb (c .before .before .before .before .args .n) 10 (omega arith), le-ltb (c .before .before .before .before .args .n) 100 (omega arith), le-ltb (c .before .before .before .before .args .n) 1000 (omega arith), lt-ltb (c .before .before .before .before .args .n) 10000 (omega arith))
+add-behind : tie.Need-add-behind Inv-loop μ-loop
+add-behind c = omega (arith, c .before .loop .inv, decimal-short 19 (c .before .before .args .n) (omega arith))
 
-returns-5 : tie.Need-returns-5
-unfolding digitCount
-returns-5 c = rw (length-decimal _, le-ltb (c .before .before .before .before .args .n) 10 (omega arith), le-ltb (c .before .before .before .before .args .n) 100 (omega arith), le-ltb (c .before .before .before .before .args .n) 1000 (omega arith), le-ltb (c .before .before .before .before .args .n) 10000 (omega arith))
+loop-less : tie.Need-loop-less Inv-loop μ-loop
+loop-less c = omega arith
+
+loop-again : tie.Need-loop-again Inv-loop μ-loop
+loop-again c = omega (arith, c .before .loop .inv, length-four (c .before .loop .rest) (c .loop-test .taken))
+
+short-count-requires : tie.Need-short-count-requires Inv-loop μ-loop
+short-count-requires c κs = omega arith
+
+add-result : tie.Need-add-result Inv-loop μ-loop
+add-result c = omega (arith, c .before .before .loop .inv, c .short-count .ensures, decimal-short 19 (c .before .before .before .args .n) (omega arith))
+
+returns : tie.Need-returns Inv-loop μ-loop
+returns c = omega (arith, c .before .before .loop .inv, c .short-count .ensures)
 
 pub digit-count-spec : {M : Type 1} → statement M
 digit-count-spec =
     tie.close
     (tie.spec
-    returns
-    returns-2
-    returns-3
-    returns-4
-    returns-5)
+    Inv-loop
+    μ-loop
+    loop-holds
+    add-behind
+    loop-less
+    loop-again
+    short-count-requires
+    add-result
+    returns)

@@ -26,7 +26,11 @@ write-character-block-requires-2 c κs =
     blocks-room (now (k5 .args .b)) _ _ (c .before .before .if1 .left) (k5 .pre) .0
 
 write-continuation-requires : tie.Need-write-continuation-requires
-write-continuation-requires c κs = let r = blocks-room (now (c .before .before .before .before .before .before .before .before .before .before .args .b)) _ _ (c .before .before .before .before .before .before .before .if1 .left) (c .before .before .before .before .before .before .before .before .before .before .pre) in omega (arith, r .1, c .before .before .before .before .write-character-block2 .ensures .0, c .before .before .before .before .write-character-block2 .kept .0)
+write-continuation-requires c κs =
+    let k4 = c .before .before .before .before in
+    let k7 = k4 .before .before .before in
+    let k10 = k7 .before .before .before in
+    let r = blocks-room (now (k10 .args .b)) _ _ (k7 .if1 .left) (k10 .pre) in omega (arith, r .1, k4 .write-character-block2 .ensures .0, k4 .write-character-block2 .kept .0)
 
 returns-2 : tie.Need-returns-2
 returns-2 c =

@@ -13,19 +13,31 @@ write-character-head-requires : tie.Need-write-character-head-requires
 write-character-head-requires c κs = omega (arith, continuation-length (now (c .before .before .before .args .b)), c .before .before .before .pre)
 
 slice-write-out : tie.Need-slice-write-out
-slice-write-out c = omega (arith, continuation-length (now (c .before .before .before .before .before .before .args .b)), c .before .before .before .before .before .before .pre, c .before .before .write-character-head .ensures .0, c .before .before .write-character-head .kept .0)
+slice-write-out c =
+    let k6 = c .before .before .before .before .before .before in
+    omega (arith, continuation-length (now (k6 .args .b)), k6 .pre, c .before .before .write-character-head .ensures .0, c .before .before .write-character-head .kept .0)
 
 add-out : tie.Need-add-out
-add-out c = omega (arith, continuation-length (now (c .before .before .before .before .before .before .args .b)), c .before .before .before .before .before .before .pre, c .before .before .write-character-head .ensures .0, c .before .before .write-character-head .kept .0)
+add-out c =
+    let k6 = c .before .before .before .before .before .before in
+    omega (arith, continuation-length (now (k6 .args .b)), k6 .pre, c .before .before .write-character-head .ensures .0, c .before .before .write-character-head .kept .0)
 
 slice-write-out-2 : tie.Need-slice-write-out-2
-slice-write-out-2 c = simp length-set (omega (arith, continuation-length (now (c .before .before .before .before .before .before .args .b)), c .before .before .before .before .before .before .pre, c .before .before .write-character-head .ensures .0, c .before .before .write-character-head .kept .0))
+slice-write-out-2 c =
+    let k6 = c .before .before .before .before .before .before in
+    simp length-set (omega (arith, continuation-length (now (k6 .args .b)), k6 .pre, c .before .before .write-character-head .ensures .0, c .before .before .write-character-head .kept .0))
 
 add-write-bytes : tie.Need-add-write-bytes
-add-write-bytes c = omega (arith, continuation-length (now (c .before .before .before .before .before .before .before .args .b)), c .before .before .before .before .before .before .before .pre, c .before .before .before .write-character-head .ensures .0, c .before .before .before .write-character-head .kept .0)
+add-write-bytes c =
+    let k3 = c .before .before .before in
+    let k7 = k3 .before .before .before .before in
+    omega (arith, continuation-length (now (k7 .args .b)), k7 .pre, k3 .write-character-head .ensures .0, k3 .write-character-head .kept .0)
 
 write-bytes-requires : tie.Need-write-bytes-requires
-write-bytes-requires c κs = simp length-set (omega (arith, continuation-length (now (c .before .before .before .before .before .before .before .args .b)), c .before .before .before .before .before .before .before .pre, c .before .before .before .write-character-head .ensures .0, c .before .before .before .write-character-head .kept .0))
+write-bytes-requires c κs =
+    let k3 = c .before .before .before in
+    let k7 = k3 .before .before .before .before in
+    simp length-set (omega (arith, continuation-length (now (k7 .args .b)), k7 .pre, k3 .write-character-head .ensures .0, k3 .write-character-head .kept .0))
 
 same-length : tie.Need-same-length
 same-length c =

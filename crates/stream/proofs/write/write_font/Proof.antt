@@ -2,7 +2,7 @@ use mathlib.Core.Path.{sym, _∙_}
 use denote.Ref.{now}
 use Rattle.store.proofs.Seeks.{KeptFont, font-sought, font-refused}
 use Rattle.stream.specs.Written.{writingFont}
-use Rattle.stream.proofs.FontRun.{spanned}
+use Rattle.store.proofs.FontRecords.{font-records}
 use Rattle.stream.proofs.Writes.{too-short, wrote-all}
 use borrow.Author.Needs.{needs}
 use native.Mathlib.Omega.{arith}
@@ -15,7 +15,7 @@ at-found c =
     font-sought _ _ (c .before .p .given .0 .0) (λ i. c .before .before .before .before .before .shared-slice-known .given i .fits) (sym (c .before .before .before .seek-font .ensures) ∙ c .before .p .given .1)
 
 written-length-requires : tie.Need-written-length-requires
-written-length-requires c κs = spanned _ _ _ (at-found c)
+written-length-requires c κs = (_, font-records _ _ _ (at-found c))
 
 returns : tie.Need-returns
 returns c =
@@ -23,7 +23,7 @@ returns c =
     rw (c .unwritten2 .ensures .0, c .unwritten2 .ensures .1) (sym (too-short _ _ (now (k9 .args .out)) _ (at-found (c .before .before .before)) _ (c .before .before .written-length .ensures .0) (c .before .if1 .taken)))
 
 write-records-requires : tie.Need-write-records-requires
-write-records-requires c κs = (spanned _ _ _ (at-found (c .before .before .before)), λ rs q. omega (arith, c .before .before .written-length .ensures .0 rs q, c .before .if1 .left))
+write-records-requires c κs = ((_, font-records _ _ _ (at-found (c .before .before .before))), λ rs q. omega (arith, c .before .before .written-length .ensures .0 rs q, c .before .if1 .left))
 
 cast-t14 : tie.Need-cast-t14
 cast-t14 c = omega (arith, c .before .before .before .before .before .written-length .ensures .1)

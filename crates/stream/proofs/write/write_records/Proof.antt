@@ -1,7 +1,7 @@
 use mathlib.Core.Path.{_≡_, refl}
 use Prim.Native.Nat.{_-_}
 use lib.ListN.{length}
-use Rattle.stream.proofs.FontRun.{next}
+use Rattle.store.proofs.FontRecords.{between-some}
 use Rattle.stream.proofs.Writes.{Filled, fill-room, fill-next, filled}
 use native.Mathlib.Omega.{arith}
 use Rattle.stream.proofs.write.write_records.Statement.{statement}
@@ -18,20 +18,21 @@ loop-holds c = (λ rs q. (rs, q, omega (arith, c .before .before .pre .1 rs q), 
 
 write-record-requires : tie.Need-write-record-requires Inv-loop μ-loop
 write-record-requires c κs =
-    let k5 = c .before .before .before .before .before in
-    let t = c .before .before .loop .inv .0 (k5 .pre .0 .recs) (k5 .pre .0 .are) in (next (t .0) _ _ _ (t .1) (c .before .loop-test .taken) .there, fill-room _ _ _ (t .0) _ _ (t .1) (c .before .loop-test .taken) (t .2))
-
-le32-requires : tie.Need-le32-requires Inv-loop μ-loop
-le32-requires c κs = let t = c .before .before .before .before .before .loop .inv .0 (c .before .before .before .before .before .before .before .before .pre .0 .recs) (c .before .before .before .before .before .before .before .before .pre .0 .are) in let x = next (t .0) _ _ _ (t .1) (c .before .before .before .before .loop-test .taken) in omega (arith, x .fits, x .least, c .before .before .before .before .before .before .before .before .pre .0 .within)
-
-add-at : tie.Need-add-at Inv-loop μ-loop
-add-at c = let t = c .before .before .before .before .before .before .loop .inv .0 (c .before .before .before .before .before .before .before .before .before .pre .0 .recs) (c .before .before .before .before .before .before .before .before .before .pre .0 .are) in let x = next (t .0) _ _ _ (t .1) (c .before .before .before .before .before .loop-test .taken) in omega (arith, x .fits, c .le32 .ensures, c .before .before .before .before .before .before .before .before .before .pre .0 .small, c .before .before .before .before .before .before .before .before .before .pre .0 .within)
+    let p = c .before .before .before .before .before .pre in
+    let t = c .before .before .loop .inv .0 (p .0 .0) (p .0 .1) in
+    let l = c .before .loop-test .taken in
+    (t .1 .place, between-some _ _ _ _ (t .1) l, fill-room _ _ _ _ _ _ (t .1) l (t .2))
 
 loop-less : tie.Need-loop-less Inv-loop μ-loop
-loop-less c = let t = c .before .before .before .before .before .before .loop .inv .0 (c .before .before .before .before .before .before .before .before .before .pre .0 .recs) (c .before .before .before .before .before .before .before .before .before .pre .0 .are) in let x = next (t .0) _ _ _ (t .1) (c .before .before .before .before .before .loop-test .taken) in omega (arith, x .fits, x .least, c .le32 .ensures)
+loop-less c = omega (arith, c .before .before .write-record .ensures .1 .ahead, c .before .before .before .before .loop-test .taken)
 
 loop-again : tie.Need-loop-again Inv-loop μ-loop
-loop-again c = (fill-next _ _ _ _ _ _ _ _ _ _ (c .before .before .before .before .before .before .loop .inv .0) (c .before .before .before .before .before .loop-test .taken) (c .le32 .ensures) (c .before .before .before .write-record .ensures .0) (c .before .before .before .write-record .ensures .1), omega (arith, c .before .before .before .write-record .kept .1, c .before .before .before .before .before .before .loop .inv .1))
+loop-again c =
+    let k = c .before .before in
+    let r = k .write-record .ensures in (
+      fill-next _ _ _ _ _ _ _ _ _ _ _ (k .before .before .before .loop .inv .0) (k .before .before .loop-test .taken) (r .1) (r .2) (r .3),
+      omega (arith, c .before .before .write-record .kept .1, c .before .before .before .before .before .loop .inv .1),
+    )
 
 same-length : tie.Need-same-length Inv-loop μ-loop
 same-length c = c .before .loop .inv .1
@@ -47,8 +48,6 @@ write-records-spec =
     μ-loop
     loop-holds
     write-record-requires
-    le32-requires
-    add-at
     loop-less
     loop-again
     same-length

@@ -19,7 +19,9 @@ loop-holds : tie.Need-loop-holds Inv-loop μ-loop
 loop-holds c = (search needs, search needs, paste-zero _ (c .args .at) (now (c .args .b)))
 
 loop-again : tie.Need-loop-again Inv-loop μ-loop
-loop-again c = (search needs, simp length-set (c .before .before .loop .inv .1), paste-more _ _ (now (c .before .before .before .args .b)) _ _ (c .before .before .loop .inv .2) (omega arith) (omega arith))
+loop-again c =
+    let k3 = c .before .before .before in
+    (search needs, simp length-set (c .before .before .loop .inv .1), paste-more _ _ (now (k3 .args .b)) _ _ (c .before .before .loop .inv .2) (omega arith) (omega arith))
 
 returns : tie.Need-returns Inv-loop μ-loop
 returns c = (omega arith, c .before .loop .inv .2 ∙ put-copied _ (now (c .before .before .args .b)) _ (c .before .loop .i) (omega arith))

@@ -1,6 +1,6 @@
 use denote.Ref.{now}
 use lib.ListN.{length, length-append}
-use Rattle.stream.specs.Writing.{characterHead, characterBlock}
+use Rattle.stream.specs.Writing.{characterBlockHead, characterBlock}
 use Rattle.stream.proofs.Spellings.{block-put}
 use borrow.Author.Needs.{needs}
 use native.Mathlib.Omega.{arith}
@@ -11,13 +11,13 @@ write-character-head-requires : tie.Need-write-character-head-requires
 unfolding characterBlock
 write-character-head-requires c κs =
     let b = now (c .before .before .before .args .b) in
-    omega (arith, length-append (characterHead (length b)) b)
+    omega (arith, length-append (characterBlockHead (length b)) b)
 
 write-bytes-requires : tie.Need-write-bytes-requires
 unfolding characterBlock
 write-bytes-requires c κs =
     let b = now (c .before .before .before .before .before .before .before .args .b) in
-    omega (arith, c .before .before .before .write-character-head .ensures .0, c .before .before .before .write-character-head .kept .0, length-append (characterHead (length b)) b)
+    omega (arith, c .before .before .before .write-character-head .ensures .0, c .before .before .before .write-character-head .kept .0, length-append (characterBlockHead (length b)) b)
 
 returns : tie.Need-returns
 unfolding characterBlock
@@ -25,7 +25,7 @@ returns c =
     let k6 = c .before .before .before .before .before .before in
     let k10 = k6 .before .before .before .before in
     let b = now (k10 .args .b) in
-    block-put _ (characterHead (length b)) b _ _ _ _ _ (k10 .pre) (k6 .write-character-head .ensures .0) (k6 .write-character-head .ensures .1) (c .before .before .write-bytes .ensures .0) (c .before .before .write-bytes .ensures .1)
+    block-put _ (characterBlockHead (length b)) b _ _ _ _ _ (k10 .pre) (k6 .write-character-head .ensures .0) (k6 .write-character-head .ensures .1) (c .before .before .write-bytes .ensures .0) (c .before .before .write-bytes .ensures .1)
 
 pub write-character-block-spec : {M : Type 1} → statement M
 write-character-block-spec =

@@ -1,14 +1,14 @@
-use Rattle.stream.specs.Writing.{fontHead}
+use Rattle.stream.specs.Writing.{fontBlockHead}
 use borrow.Author.Needs.{needs}
 use Rattle.stream.proofs.writing.write_font_head.Statement.{statement}
 use Rattle.stream.proofs.writing.write_font_head.Tie as tie
 
 write-spelling-requires : tie.Need-write-spelling-requires
-unfolding fontHead
+unfolding fontBlockHead
 write-spelling-requires c κs = c .before .before .pre
 
 returns : tie.Need-returns
-unfolding fontHead
+unfolding fontBlockHead
 returns c = c .before .before .write-spelling .ensures
 
 pub write-font-head-spec : {M : Type 1} → statement M

@@ -1,0 +1,11 @@
+use borrow.Author.Needs.{needs}
+use Rattle.choice.specs.Fields.{comparedHeight}
+use Rattle.choice.proofs.compared_height.Statement.{statement}
+use Rattle.choice.proofs.compared_height.Tie as tie
+
+returns : tie.Need-returns
+unfolding comparedHeight
+returns c = (λ n. c .kept-word .ensures .0, c .kept-word .ensures .1)
+
+pub compared-height-spec : {M : Type 1} → statement M
+compared-height-spec = tie.close (tie.spec (λ c κs. search needs) (λ c. search needs) returns)

@@ -1,0 +1,29 @@
+-- Each number that is listed for a call occurs, by computing. Assumes nothing.
+use mathlib.Core.Path.{_≡_, refl}
+use Rattle.marlinfold.specs.Calls.{Call, make-fresh, download-font, download-character, remove-font, remove-character, choose-font, tell-font, tell-character, draw-row, draw-picture, write-font, read-stream}
+use Rattle.marlinfold.specs.Demands.{listed}
+use Rattle.marlinfold.specs.Occurrences.{kind, sending, at, some, occurrences, beforeIf, numbersOf, AllOccur, ListedOccur}
+use Rattle.marlinfold.specs.Trials.{A, asks}
+use Rattle.marlinfold.proofs.Computing.{computing}
+
+each : AllOccur occurrences
+unfolding computing occurrences at sending some
+each = (refl, (refl, (refl, (refl, (refl, (refl, (refl, (refl, (refl, (refl, (refl, (refl, (refl, (refl, (refl, (refl, (refl, (refl, (refl, (refl, (refl, (refl, (refl, (refl, (refl, (refl, (refl, (refl, (refl, (refl, (refl, (refl, (refl, (refl, (refl, (refl, (refl, (refl, (refl, (refl, (refl, (refl, (refl, (refl, (refl, (refl, (refl, (refl, (refl, (refl, tt))))))))))))))))))))))))))))))))))))))))))))))))))
+
+numbers : (c : Call) → numbersOf (kind c) occurrences ≡ listed c
+unfolding occurrences beforeIf numbersOf kind at sending some A asks listed
+numbers make-fresh = refl
+numbers (download-font n b) = refl
+numbers (download-character n c b) = refl
+numbers (remove-font n) = refl
+numbers (remove-character n c) = refl
+numbers (choose-font r) = refl
+numbers (tell-font n out) = refl
+numbers (tell-character n c out) = refl
+numbers (draw-row n c row out) = refl
+numbers (draw-picture n c out) = refl
+numbers (write-font n out) = refl
+numbers (read-stream b) = refl
+
+pub listed-occur : ListedOccur
+listed-occur = (each, numbers)

@@ -1,0 +1,10 @@
+-- An outcome by the numbers that the code answers.
+use Prim.Native.Nat.{ℕ}
+use mathlib.Core.Path.{_≡_}
+use mathlib.Core.List.{List, [], _∷_}
+use Rattle.choice.specs.Choosing.{refusalOf, fontOf}
+use Rattle.choice.specs.declared.Chosen.{Chosen}
+use Rattle.marlinfold.specs.Calls.{answered, ofChoice}
+
+pub chosen-by : {s : List ℕ} {x a : Chosen} {k n : ℕ} → k ≡ refusalOf x → n ≡ fontOf x → x ≡ a → answered k (n ∷ []) s [] ≡ ofChoice s a
+chosen-by p q e = rw (p, q, e)

@@ -1,0 +1,116 @@
+-- Demand 1: each number that is listed for a call occurs, so that none is listed in vain. One table, computed.
+use Prim.Native.Nat.{ℕ, _/_, _%_}
+use mathlib.Core.Path.{_≡_}
+use mathlib.Core.List.{List, [], _∷_}
+use mathlib.Core.Bool.{Bool, true, false}
+use lib.Dec.{eqb}
+use lib.ListN.{replicate}
+use Rattle.marlinfold.specs.Calls.{Call, make-fresh, download-font, download-character, remove-font, remove-character, choose-font, tell-font, tell-character, draw-row, draw-picture, write-font, read-stream, outcome}
+use Rattle.marlinfold.specs.Demands.{listed}
+use Rattle.marlinfold.specs.Trials.{A, asks, storeAfter}
+
+-- the calls by the order in which document 01 names them
+unfoldable pub kind : Call → ℕ
+kind make-fresh = 1
+kind (download-font n b) = 2
+kind (download-character n c b) = 3
+kind (remove-font n) = 4
+kind (remove-character n c) = 5
+kind (choose-font r) = 6
+kind (tell-font n out) = 7
+kind (tell-character n c out) = 8
+kind (draw-row n c row out) = 9
+kind (draw-picture n c out) = 10
+kind (write-font n out) = 11
+kind (read-stream b) = 12
+
+-- a first block of class 2 for font 5, w dots wide and h rows high
+unfoldable pub sending : ℕ → ℕ → List ℕ → Call
+sending w h d =
+    download-character 5 65 (4 ∷ 0 ∷ 14 ∷ 2 ∷ 0 ∷ 0 ∷ 0 ∷ 0 ∷ 0 ∷ 0 ∷ w / 256 ∷ w % 256 ∷ h / 256 ∷ h % 256 ∷ 0 ∷ 0 ∷ d)
+
+-- a call after others on a buffer of so many bytes, made fresh if it could be (none can be of 0 bytes), and the number that it refuses with
+pub record Occurrence : Type 0 where
+  pub size : ℕ
+  pub before : List Call
+  pub call : Call
+  pub number : ℕ
+
+unfoldable pub at : ℕ → List Call → Call → ℕ → Occurrence
+at size cs c k = record { size = size; before = cs; call = c; number = k }
+
+-- A, and a character of it
+unfoldable pub some : List Call
+some = A ∷ sending 10 1 (0 ∷ 10 ∷ []) ∷ []
+
+unfoldable pub occurrences : List Occurrence
+occurrences =
+    at 11 [] make-fresh 1
+    ∷ at 0 [] A 1
+    ∷ at 84 [] (download-font 32768 []) 2
+    ∷ at 84 [] (download-font 5 []) 3
+    ∷ at 84 [] (download-font 5 (replicate 64 1)) 4
+    ∷ at 84 [] (download-font 5 (0 ∷ 64 ∷ 0 ∷ 3 ∷ replicate 60 0)) 5
+    ∷ at 83 [] A 10
+    ∷ at 0 [] (download-character 5 65 []) 1
+    ∷ at 84 [] (download-character 5 256 []) 2
+    ∷ at 84 [] (download-character 5 65 []) 3
+    ∷ at 84 [] (download-character 5 65 (4 ∷ 1 ∷ [])) 6
+    ∷ at 84 (A ∷ []) (download-character 5 65 (0 ∷ 0 ∷ [])) 4
+    ∷ at 84 (A ∷ []) (sending 0 1 []) 5
+    ∷ at 84 (A ∷ []) (sending 1024 257 []) 9
+    ∷ at 84 (A ∷ []) (download-character 5 65 (4 ∷ 1 ∷ [])) 7
+    ∷ at 84 (A ∷ []) (sending 10 1 (0 ∷ 4 ∷ 7 ∷ [])) 8
+    ∷ at 0 [] (remove-font 5) 1
+    ∷ at 12 [] (remove-font 32768) 2
+    ∷ at 12 [] (remove-font 5) 6
+    ∷ at 0 [] (remove-character 5 65) 1
+    ∷ at 12 [] (remove-character 5 256) 2
+    ∷ at 12 [] (remove-character 5 65) 6
+    ∷ at 84 (A ∷ []) (remove-character 5 65) 7
+    ∷ at 0 [] (asks 277 1000 0 0) 1
+    ∷ at 12 [] (asks 2048 1000 0 0) 2
+    ∷ at 12 [] (asks 277 1000 0 0) 11
+    ∷ at 0 [] (tell-font 5 []) 1
+    ∷ at 12 [] (tell-font 32768 []) 2
+    ∷ at 12 [] (tell-font 5 []) 6
+    ∷ at 84 (A ∷ []) (tell-font 5 []) 12
+    ∷ at 0 [] (tell-character 5 65 []) 1
+    ∷ at 12 [] (tell-character 5 256 []) 2
+    ∷ at 12 [] (tell-character 5 65 []) 6
+    ∷ at 84 (A ∷ []) (tell-character 5 65 []) 7
+    ∷ at 112 some (tell-character 5 65 []) 12
+    ∷ at 0 [] (draw-row 5 65 0 []) 1
+    ∷ at 112 some (draw-row 5 65 1 []) 2
+    ∷ at 12 [] (draw-row 5 65 0 []) 6
+    ∷ at 84 (A ∷ []) (draw-row 5 65 0 []) 7
+    ∷ at 112 some (draw-row 5 65 0 []) 12
+    ∷ at 0 [] (draw-picture 5 65 []) 1
+    ∷ at 12 [] (draw-picture 5 256 []) 2
+    ∷ at 12 [] (draw-picture 5 65 []) 6
+    ∷ at 84 (A ∷ []) (draw-picture 5 65 []) 7
+    ∷ at 112 some (draw-picture 5 65 []) 12
+    ∷ at 0 [] (write-font 5 []) 1
+    ∷ at 12 [] (write-font 32768 []) 2
+    ∷ at 12 [] (write-font 5 []) 6
+    ∷ at 84 (A ∷ []) (write-font 5 []) 12
+    ∷ at 0 [] (read-stream []) 1
+    ∷ []
+
+abbrev pub AllOccur : List Occurrence → Type 0
+AllOccur [] = Unit {0}
+AllOccur (o ∷ l) = (outcome (o .call) (storeAfter (o .size) (o .before)) .refusal ≡ o .number) × AllOccur l
+
+-- x before a list, if the test holds
+unfoldable pub beforeIf : Bool → ℕ → List ℕ → List ℕ
+beforeIf true x l = x ∷ l
+beforeIf false x l = l
+
+-- the numbers that calls of a kind refuse with in the table
+unfoldable pub numbersOf : ℕ → List Occurrence → List ℕ
+numbersOf k [] = []
+numbersOf k (o ∷ l) = beforeIf (eqb (kind (o .call)) k) (o .number) (numbersOf k l)
+
+-- the claim: each line of the table is so, and its numbers for a call are just those that are listed for it
+abbrev pub ListedOccur : Type 0
+ListedOccur = AllOccur occurrences × ((c : Call) → numbersOf (kind c) occurrences ≡ listed c)

@@ -1,0 +1,66 @@
+// The numbers of the store's form, as specs/Layout.antt has them, each by one name.
+use blocks::character;
+use blocks::header;
+
+// The least and the greatest length of a store.
+pub(crate) const LEAST_STORE: usize = MARK_RECORD;
+
+pub(crate) const MOST_STORE: usize = 65536;
+
+// Where a record's kind stands behind its length, and the font number of a font or a character.
+pub(crate) const KIND_AT: usize = 4;
+
+pub(crate) const NUMBER_AT: usize = 6;
+
+// The first record.
+pub(crate) const MARK_KIND: usize = 1;
+
+pub(crate) const MARK_RECORD: usize = 12;
+
+pub(crate) const MARK_ON_AT: usize = 6;
+
+pub(crate) const MARK_FONT_AT: usize = 8;
+
+pub(crate) const MARK_CODE_AT: usize = 10;
+
+// A font's record.
+pub(crate) const FONT_KIND: usize = 2;
+
+pub(crate) const FONT_RECORD: usize = FONT_KEPT_AT + HEADER_BYTES;
+
+pub(crate) const FONT_KEPT_AT: usize = 8;
+
+pub(crate) const FONT_ORIENTATION_AT: usize = FONT_KEPT_AT + header::ORIENTATION_AT;
+
+// A character's record, its data on top.
+pub(crate) const CHARACTER_KIND: usize = 3;
+
+pub(crate) const CHARACTER_RECORD: usize = CHARACTER_KEPT_AT + DESCRIPTOR_BYTES;
+
+pub(crate) const CODE_AT: usize = 8;
+
+pub(crate) const CHARACTER_KEPT_AT: usize = 10;
+
+// The numbers in range, as records hold them and as calls have them.
+pub(crate) const LAST_FONT: usize = 32767;
+
+pub(crate) const LAST_CODE: usize = 255;
+
+pub(crate) const LAST_FONT_ASKED: u32 = LAST_FONT as u32;
+
+pub(crate) const LAST_CODE_ASKED: u32 = LAST_CODE as u32;
+
+// Two bytes spell the numbers below this one.
+pub(crate) const WORD_END: usize = 65536;
+
+// The keys of one font and its characters.
+pub(crate) const KEYS_EACH: usize = 257;
+
+// Of blocks: how many bytes are kept, and how many stand before a continuation's data.
+pub(crate) const HEADER_BYTES: usize = header::KEPT;
+
+pub(crate) const DESCRIPTOR_BYTES: usize = character::KEPT;
+
+pub(crate) const CONTINUATION_BYTES: usize = character::CONTINUATION;
+
+pub(crate) const DATA_LIMIT: usize = character::DATA_LIMIT;
