@@ -1,18 +1,21 @@
 -- A scan that passes over runs: laws of `Passes`. Assumes nothing.
-use Prim.Native.Nat.{ℕ, _+_, _<_}
+use Prim.Native.Nat.{ℕ, _+_, _-_, _<_}
 use mathlib.Core.Path.{_≡_, refl, _∙_}
 use mathlib.Core.List.{List}
-use mathlib.Core.Bool.{Bool, true, false, not, _||_}
+use mathlib.Core.Bool.{Bool, true, false, not, _&&_, _||_}
 use native.Mathlib.Omega.{arith}
-use borrow.Author.Tests.{lt-ltb, le-ltb, ne-eqb, eq-eqb}
+use borrow.Author.Tests.{lt-ltb, le-ltb, ne-eqb, eq-eqb, lt-leb, eqb-true, ltb-true}
+use lib.Dec.{ltb, eqb}
 use lib.ListN.{length, getD}
-use Rattle.blocks.specs.Runs.{placeOf, fillRow, runIn, stepAt, stepRun, isFinished}
-use Rattle.blocks.specs.Passing.{isAtRun, isBlack, filledAt, atRun, countRow, pairAt, fourAt, eightAt, Passes}
+use Rattle.blocks.specs.Runs.{placeOf, fillRow, endRow, runIn, stepAt, stepRun, isFinished}
+use Rattle.blocks.specs.Passing.{isAtRun, isBlack, filledAt, atRun, countRow, endsRow, pairAt, fourAt, eightAt, Passes, PassesRuns}
 use Rattle.blocks.specs.declared.runs.Place.{Place}
 use Rattle.blocks.specs.declared.runs.Place.the-variants.{Count, White, Black, Finished}
 use Rattle.blocks.specs.declared.runs.Reader.{Reader}
 use Rattle.blocks.specs.declared.runs.Filled.the-variants.{Over, Whole, Part}
 use Rattle.blocks.specs.declared.runs.Passed.{Passed}
+use Rattle.blocks.specs.declared.runs.Inside.{Inside}
+use Rattle.blocks.proofs.Checks.{both}
 use Rattle.blocks.specs.declared.runs.Stepped.the-variants.{Next}
 use Rattle.blocks.proofs.Scanning.{scan-next}
 
@@ -38,6 +41,12 @@ step-part : (w h : ℕ) (s : Reader) (c : Bool) (f b : ℕ) → f + b < w → st
 unfolding stepRun
 step-part w h s true f b l = rw (fill-part w f b l)
 step-part w h s false f b l = rw (fill-part w f b l)
+
+step-whole : (w h : ℕ) (s : Reader) (c : Bool) (f b : ℕ) → f + b ≡ w → s .row + 1 + s .repeat < h
+    → stepRun w h (atRun s c f) b ≡ Next (record { row = s .row + 1 + s .repeat; repeat = 0; at = Count })
+unfolding stepRun endRow
+step-whole w h s true f b e l = rw (fill-whole w f b e, lt-leb _ _ l)
+step-whole w h s false f b e l = rw (fill-whole w f b e, lt-leb _ _ l)
 
 place-again : (p : Place) → isAtRun p ≡ true → placeOf (isBlack p) (filledAt p) ≡ p
 place-again Count e = let z : _≡_ {A = ℕ} 0 1 = cc in absurd (omega arith)
@@ -83,73 +92,117 @@ not-not true = refl
 not-not false = refl
 
 -- ---- passing
-module _ (w : ℕ) (src : List ℕ) where
-  pub passes-none : (n : ℕ) (s : Reader) → n < length src → Passes w src n s (record { reader = s; at = n })
-  passes-none n s l = record { ahead = omega arith; within = l; unfinished = λ e. e; scan = λ h m. refl }
+module _ (w h : ℕ) (src : List ℕ) where
+  pub passes-none : (n : ℕ) (s : Reader) → n < length src → Passes w h src n s (record { reader = s; at = n })
+  passes-none n s l = record { ahead = omega arith; within = l; unfinished = λ e. e; scan = λ m. refl }
 
-  pub passes-then : (n : ℕ) (s : Reader) (p q : Passed) → Passes w src n s p → Passes w src (p .at) (p .reader) q → Passes w src n s q
+  pub passes-then : (n : ℕ) (s : Reader) (p q : Passed) → Passes w h src n s p → Passes w h src (p .at) (p .reader) q → Passes w h src n s q
   passes-then n s p q x y =
       record {
         ahead = omega (arith, x .ahead, y .ahead);
         within = y .within;
         unfinished = λ e. y .unfinished (x .unfinished e);
-        scan = λ h m. x .scan h m ∙ y .scan h m;
+        scan = λ m. x .scan m ∙ y .scan m;
       }
+
+  -- over a byte that the reader goes on behind
+  passes-step : (n : ℕ) (s t : Reader) → n + 1 < length src → isFinished (s .at) ≡ false → isFinished (t .at) ≡ false
+      → stepRun w h s (getD src n 0) ≡ Next t → Passes w h src n s (record { reader = t; at = n + 1 })
+  passes-step n s t l e q r =
+      record { ahead = omega arith; within = l; unfinished = λ _. q; scan = λ m. scan-next w h m n s src (omega arith) e t r }
 
   -- over a repeat count
   pub passes-count : (n : ℕ) (s : Reader) → (isAtRun (s .at) || isFinished (s .at)) ≡ false → n + 1 < length src
-      → Passes w src n s (record { reader = countRow s (getD src n 0); at = n + 1 })
+      → Passes w h src n s (record { reader = countRow s (getD src n 0); at = n + 1 })
   unfolding stepRun
   passes-count n s e l =
       let q : s .at ≡ Count = count-again (s .at) e in
+      passes-step n s (countRow s (getD src n 0)) l (rw q) refl (rw q)
+
+  -- the run that the state s is at
+  pub passes-begin : (n : ℕ) (s : Reader) (c : Bool) (f : ℕ) → isAtRun (s .at) ≡ true → c ≡ isBlack (s .at) → f ≡ filledAt (s .at) → n < length src
+      → Passes w h src n s (record { reader = atRun s c f; at = n })
+  passes-begin n s c f e p q l = rw (p, q, place-again (s .at) e) (passes-none n s l)
+
+  -- over the end of a row that another one follows, and that one's count
+  passes-end : (n : ℕ) (s : Reader) (c : Bool) (f : ℕ) → f + getD src n 0 ≡ w → s .row + 1 + s .repeat < h → n + 2 < length src
+      → Passes w h src n (atRun s c f)
+      (record { reader = record { row = s .row + 1 + s .repeat; repeat = getD src (n + 1) 0; at = White 0 }; at = n + 2 })
+  passes-end n s c f e b l =
+      let t : Reader = record { row = s .row + 1 + s .repeat; repeat = 0; at = Count } in
+      let i : n + 1 + 1 ≡ n + 2 = omega arith in
+      rw i at
+      (passes-then n (atRun s c f) (record { reader = t; at = n + 1 }) _
+      (passes-step n (atRun s c f) t (omega arith) (at-run-unfinished c f) refl (step-whole w h s c f (getD src n 0) e b))
+      (passes-count (n + 1) t refl (omega arith)))
+
+  pub ends-row : (i : Inside) (b : ℕ) → endsRow w h src i b ≡ true → (i .filled + getD src (i .at) 0 ≡ w) × (b < h) × (i .at + 2 < length src)
+  unfolding endsRow
+  ends-row i b e =
+      let x = both (eqb (i .filled + getD src (i .at) 0) w) (ltb b h && ltb 2 (length src - i .at)) e in
+      let y = both (ltb b h) (ltb 2 (length src - i .at)) (x .1) in
+      (eqb-true _ _ (x .0), ltb-true _ _ (y .0), omega (arith, ltb-true 2 (length src - i .at) (y .1)))
+
+  pub passes-row : (i : Inside) (s : Reader) → endsRow w h src i (s .row + 1 + s .repeat) ≡ true
+      → Passes w h src (i .at) (atRun s (i .black) (i .filled))
+      (record { reader = record { row = s .row + 1 + s .repeat; repeat = getD src (i .at + 1) 0; at = White 0 }; at = i .at + 2 })
+  passes-row i s e =
+      let x = ends-row i (s .row + 1 + s .repeat) e in
+      passes-end (i .at) s (i .black) (i .filled) (x .0) (x .1) (x .2)
+
+-- the reader at the run i of a row
+abbrev pub inRow : ℕ → ℕ → Inside → Reader
+inRow row repeat i = record { row = row; repeat = repeat; at = placeOf (i .black) (i .filled) }
+
+abbrev pub inside : ℕ → ℕ → Bool → Inside
+inside n f c = record { at = n; filled = f; black = c }
+
+-- ---- passing over runs that leave their row unfinished: one, and several at once, by their sum
+module _ (w : ℕ) (src : List ℕ) where
+  pub runs-none : (i : Inside) → i .at < length src → PassesRuns w src i i
+  runs-none i l = record { passes = λ h s. passes-none w h src (i .at) (atRun s (i .black) (i .filled)) l }
+
+  pub runs-then : (i j k : Inside) → PassesRuns w src i j → PassesRuns w src j k → PassesRuns w src i k
+  runs-then i j k x y =
+      record { passes = λ h s. passes-then w h src _ _ (record { reader = atRun s (j .black) (j .filled); at = j .at }) _ (x .passes h s) (y .passes h s) }
+
+  pub runs-one : (n f : ℕ) (c : Bool) → n + 1 < length src → f + getD src n 0 < w
+      → PassesRuns w src (inside n f c) (inside (n + 1) (f + getD src n 0) (not c))
+  runs-one n f c l q =
+      let b = getD src n 0 in
       record {
-        ahead = omega arith;
-        within = l;
-        unfinished = λ _. refl;
-        scan = λ h m. scan-next w h m n s src (omega arith) (rw q) (countRow s (getD src n 0)) (rw q);
+        passes = λ h s. passes-step w h src n _ (atRun s (not c) (f + b)) l (at-run-unfinished c f) (at-run-unfinished (not c) (f + b)) (step-part w h s c f b q);
       }
 
-  module _ (from : ℕ) (s : Reader) where
-    -- the run that the state s is at
-    pub passes-begin : isAtRun (s .at) ≡ true → from < length src
-        → Passes w src from s (record { reader = atRun s (isBlack (s .at)) (filledAt (s .at)); at = from })
-    passes-begin e l = rw (place-again (s .at) e) (passes-none from s l)
+  runs-two : (n f : ℕ) (c : Bool) → n + 2 < length src → f + pairAt src n < w
+      → PassesRuns w src (inside n f c) (inside (n + 2) (f + pairAt src n) c)
+  runs-two n f c l q =
+      let a = getD src n 0 in
+      let b = getD src (n + 1) 0 in
+      let i : n + 1 + 1 ≡ n + 2 = omega arith in
+      let j : f + a + b ≡ f + (a + b) = omega arith in
+      rw (not-not c, i, j) at
+      (runs-then (inside n f c) (inside (n + 1) (f + a) (not c)) (inside (n + 1 + 1) (f + a + b) (not (not c)))
+      (runs-one n f c (omega arith) (omega arith)) (runs-one (n + 1) (f + a) (not c) (omega arith) (omega arith)))
 
-    pub passes-next : (n f : ℕ) (c : Bool) → Passes w src from s (record { reader = atRun s c f; at = n }) → n + 1 < length src → f + getD src n 0 < w
-        → Passes w src from s (record { reader = atRun s (not c) (f + getD src n 0); at = n + 1 })
-    passes-next n f c x l q =
-        passes-then from s (record { reader = atRun s c f; at = n }) _ x
-        (record {
-          ahead = omega arith;
-          within = l;
-          unfinished = λ _. at-run-unfinished (not c) (f + getD src n 0);
-          scan = λ h m. scan-next w h m n (atRun s c f) src (omega arith) (at-run-unfinished c f) _ (step-part w h s c f (getD src n 0) q);
-        })
+  runs-four : (n f : ℕ) (c : Bool) → n + 4 < length src → f + fourAt src n < w
+      → PassesRuns w src (inside n f c) (inside (n + 4) (f + fourAt src n) c)
+  runs-four n f c l q =
+      let a = pairAt src n in
+      let b = pairAt src (n + 2) in
+      let i : n + 2 + 2 ≡ n + 4 = omega arith in
+      let j : f + a + b ≡ f + (a + b) = omega arith in
+      rw (i, j) at
+      (runs-then (inside n f c) (inside (n + 2) (f + a) c) (inside (n + 2 + 2) (f + a + b) c)
+      (runs-two n f c (omega arith) (omega arith)) (runs-two (n + 2) (f + a) c (omega arith) (omega arith)))
 
-    -- several runs at once, by their sum
-    passes-two : (n f : ℕ) (c : Bool) → Passes w src from s (record { reader = atRun s c f; at = n }) → n + 2 < length src → f + pairAt src n < w
-        → Passes w src from s (record { reader = atRun s c (f + pairAt src n); at = n + 2 })
-    passes-two n f c x l q =
-        let a = getD src n 0 in
-        let b = getD src (n + 1) 0 in
-        let i : n + 1 + 1 ≡ n + 2 = omega arith in
-        let j : f + a + b ≡ f + (a + b) = omega arith in
-        rw (not-not c, i, j) at (passes-next (n + 1) (f + a) (not c) (passes-next n f c x (omega arith) (omega arith)) (omega arith) (omega arith))
-
-    passes-four : (n f : ℕ) (c : Bool) → Passes w src from s (record { reader = atRun s c f; at = n }) → n + 4 < length src → f + fourAt src n < w
-        → Passes w src from s (record { reader = atRun s c (f + fourAt src n); at = n + 4 })
-    passes-four n f c x l q =
-        let a = pairAt src n in
-        let b = pairAt src (n + 2) in
-        let i : n + 2 + 2 ≡ n + 4 = omega arith in
-        let j : f + a + b ≡ f + (a + b) = omega arith in
-        rw (i, j) at (passes-two (n + 2) (f + a) c (passes-two n f c x (omega arith) (omega arith)) (omega arith) (omega arith))
-
-    pub passes-eight : (n f : ℕ) (c : Bool) → Passes w src from s (record { reader = atRun s c f; at = n }) → n + 8 < length src → f + eightAt src n < w
-        → Passes w src from s (record { reader = atRun s c (f + eightAt src n); at = n + 8 })
-    passes-eight n f c x l q =
-        let a = fourAt src n in
-        let b = fourAt src (n + 4) in
-        let i : n + 4 + 4 ≡ n + 8 = omega arith in
-        let j : f + a + b ≡ f + (a + b) = omega arith in
-        rw (i, j) at (passes-four (n + 4) (f + a) c (passes-four n f c x (omega arith) (omega arith)) (omega arith) (omega arith))
+  pub runs-eight : (n f : ℕ) (c : Bool) → n + 8 < length src → f + eightAt src n < w
+      → PassesRuns w src (inside n f c) (inside (n + 8) (f + eightAt src n) c)
+  runs-eight n f c l q =
+      let a = fourAt src n in
+      let b = fourAt src (n + 4) in
+      let i : n + 4 + 4 ≡ n + 8 = omega arith in
+      let j : f + a + b ≡ f + (a + b) = omega arith in
+      rw (i, j) at
+      (runs-then (inside n f c) (inside (n + 4) (f + a) c) (inside (n + 4 + 4) (f + a + b) c)
+      (runs-four n f c (omega arith) (omega arith)) (runs-four (n + 4) (f + a) c (omega arith) (omega arith)))

@@ -4,7 +4,7 @@ ghost use mathlib.Core.List.{[], _++_};
 ghost use Prim.Native.Nat.{ℕ, _+_, _-_, _^_, _≤_, _<_};
 ghost use lib.ListN.{length};
 ghost use Rattle.blocks.specs.Runs.{fillRow, endRow, placeOf, runIn, stepRun, isFinished, scanFrom, start};
-ghost use Rattle.blocks.specs.Passing.{isAtRun, isBlack, filledAt, atRun, countRow, pairAt, fourAt, eightAt, Passes};
+ghost use Rattle.blocks.specs.Passing.{isAtRun, isBlack, filledAt, atRun, countRow, endsRow, pairAt, fourAt, eightAt, Passes, PassesRuns};
 
 // Where the reader is: at a repeat count, in a white or a black run with dots filled, finished.
 pub enum Place {
@@ -45,6 +45,13 @@ pub enum Scanned {
 pub struct Passed {
     pub reader: Reader,
     pub at: usize,
+}
+
+// A run of the row in progress: its place in the data, the dots filled before it, its colour.
+pub struct Inside {
+    pub at: usize,
+    pub filled: u16,
+    pub black: bool,
 }
 
 // A run in a row of which some dots are filled.
@@ -107,6 +114,83 @@ fn place_of(black: bool, filled: u16) -> Place
         Place::Black(filled)
     } else {
         Place::White(filled)
+    }
+}
+
+impl Inside {
+    // Over eight runs at a time that leave the row unfinished: their sum alone tells, several times as fast as run by run.
+    fn pass_eights(self, src: &[u8], width: u16) -> Inside
+        requires { ⌜ self .at < length (now src) ⌝ }
+        ensures { λ r. ⌜ PassesRuns width (now (src .entry)) self r ⌝ }
+    {
+        let last = before_eight(src.len());
+        let mut at = self.at;
+        let mut filled: u32 = self.filled as u32;
+        while at < last {
+            let end = filled + sum_of_eight(src, at);
+            if (width as u32) <= end {
+                return Inside {
+                    at: at,
+                    filled: filled as u16,
+                    black: self.black,
+                };
+            }
+            filled = end;
+            at += 8;
+        }
+        Inside {
+            at: at,
+            filled: filled as u16,
+            black: self.black,
+        }
+    }
+
+    // The same run by run.
+    fn pass_ones(self, src: &[u8], width: u16) -> Inside
+        requires { ⌜ self .at < length (now src) ⌝ }
+        ensures { λ r. ⌜ PassesRuns width (now (src .entry)) self r ⌝ }
+    {
+        let last = src.len() - 1;
+        let mut at = self.at;
+        let mut filled: u32 = self.filled as u32;
+        let mut black = self.black;
+        while at < last {
+            let end = filled + (src[at] as u32);
+            if (width as u32) <= end {
+                return Inside {
+                    at: at,
+                    filled: filled as u16,
+                    black: black,
+                };
+            }
+            filled = end;
+            black = !black;
+            at += 1;
+        }
+        Inside {
+            at: at,
+            filled: filled as u16,
+            black: black,
+        }
+    }
+
+    // Over the runs that leave the row unfinished, to the one that does not or the last byte.
+    fn pass_runs(self, src: &[u8], width: u16) -> Inside
+        requires { ⌜ self .at < length (now src) ⌝ }
+        ensures { λ r. ⌜ PassesRuns width (now (src .entry)) self r ⌝ }
+    {
+        let e = self.pass_eights(src, width);
+        e.pass_ones(src, width)
+    }
+
+    // Whether the run ends its row, a row below is left, and the data has that row's count and a byte more.
+    fn ends_row(self, src: &[u8], width: u16, below: u32, height: u16) -> bool
+        requires { ⌜ self .at < length (now src) ⌝ }
+        ensures { λ r. ⌜ r ≡ endsRow width height (now (src .entry)) self below ⌝ }
+    {
+        let at = self.at;
+        let end = (self.filled as u32) + wide(src[at]);
+        (end == (width as u32)) & ((below < (height as u32)) & (2 < src.len() - at))
     }
 }
 
@@ -242,7 +326,7 @@ impl Reader {
     // Over a repeat count, unless it is the last byte.
     fn pass_count(self, src: &[u8], from: usize) -> Passed
         requires { ⌜ from < length (now src) ⌝ }
-        ensures { λ r. ⌜ ((w : ℕ) → Passes w (now (src .entry)) from self r) ⌝ }
+        ensures { λ r. ⌜ ((w h : ℕ) → Passes w h (now (src .entry)) from self r) ⌝ }
     {
         let place = self.at;
         if place.is_at_run() | place.is_finished() {
@@ -263,10 +347,10 @@ impl Reader {
         }
     }
 
-    // Over eight runs at a time that leave the row unfinished: their sum alone tells, several times as fast as run by run.
-    fn pass_eights(self, src: &[u8], from: usize, width: u16) -> Passed
+    // Over whole rows and the runs that leave a row unfinished. The state is taken apart once and put together once, not for each row.
+    fn pass_rows(self, src: &[u8], from: usize, width: u16, height: u16) -> Passed
         requires { ⌜ from < length (now src) ⌝ }
-        ensures { λ r. ⌜ Passes width (now (src .entry)) from self r ⌝ }
+        ensures { λ r. ⌜ Passes width height (now (src .entry)) from self r ⌝ }
     {
         let place = self.at;
         if !place.is_at_run() {
@@ -275,72 +359,45 @@ impl Reader {
                 at: from,
             };
         }
-        let black = place.is_black();
-        let last = before_eight(src.len());
-        let mut at = from;
-        let mut filled: u32 = place.filled() as u32;
-        while at < last {
-            let end = filled + sum_of_eight(src, at);
-            if (width as u32) <= end {
+        let mut row = self.row;
+        let mut repeat = self.repeat;
+        let mut i = Inside {
+            at: from,
+            filled: place.filled(),
+            black: place.is_black(),
+        };
+        loop {
+            let stop = i.pass_runs(src, width);
+            let at = stop.at;
+            let below = (row as u32) + 1 + (repeat as u32);
+            if !stop.ends_row(src, width, below, height) {
                 return Passed {
-                    reader: self.at_run(black, filled as u16),
+                    reader: Reader {
+                        row: row,
+                        repeat: repeat,
+                        at: place_of(stop.black, stop.filled),
+                    },
                     at: at,
                 };
             }
-            filled = end;
-            at += 8;
-        }
-        Passed {
-            reader: self.at_run(black, filled as u16),
-            at: at,
-        }
-    }
-
-    // The same run by run.
-    fn pass_ones(self, src: &[u8], from: usize, width: u16) -> Passed
-        requires { ⌜ from < length (now src) ⌝ }
-        ensures { λ r. ⌜ Passes width (now (src .entry)) from self r ⌝ }
-    {
-        let place = self.at;
-        if !place.is_at_run() {
-            return Passed {
-                reader: self,
-                at: from,
+            row = below as u16;
+            repeat = src[at + 1];
+            i = Inside {
+                at: at + 2,
+                filled: 0,
+                black: false,
             };
         }
-        let last = src.len() - 1;
-        let mut at = from;
-        let mut filled: u32 = place.filled() as u32;
-        let mut black = place.is_black();
-        while at < last {
-            let end = filled + (src[at] as u32);
-            if (width as u32) <= end {
-                return Passed {
-                    reader: self.at_run(black, filled as u16),
-                    at: at,
-                };
-            }
-            filled = end;
-            black = !black;
-            at += 1;
-        }
-        Passed {
-            reader: self.at_run(black, filled as u16),
-            at: at,
-        }
     }
 
-    // Over a count and the runs that leave the row unfinished. The byte that it stops at is left to `step`: a run that ends the row or passes
-    // the width, or the last byte.
-    fn pass_runs(self, src: &[u8], from: usize, width: u16) -> Passed
+    // Over a count, whole rows and runs, as far as the picture is unfinished. The byte that it stops at is left to `step`.
+    fn pass(self, src: &[u8], from: usize, width: u16, height: u16) -> Passed
         requires { ⌜ from < length (now src) ⌝ }
-        ensures { λ r. ⌜ Passes width (now (src .entry)) from self r ⌝ }
+        ensures { λ r. ⌜ Passes width height (now (src .entry)) from self r ⌝ }
     {
         let c = self.pass_count(src, from);
         let counted = c.reader;
-        let e = counted.pass_eights(src, c.at, width);
-        let s = e.reader;
-        s.pass_ones(src, e.at, width)
+        counted.pass_rows(src, c.at, width, height)
     }
 
     // The data after all of it is read, where so many bytes were used.
@@ -368,7 +425,7 @@ pub fn scan_from(from: Reader, used: usize, src: &[u8], width: u16, height: u16)
         if place.is_finished() {
             return Scanned::Complete(used + i);
         }
-        let p = s.pass_runs(src, i, width);
+        let p = s.pass(src, i, width, height);
         let at = p.at;
         let passed = p.reader;
         match passed.step(width, height, src[at]) {

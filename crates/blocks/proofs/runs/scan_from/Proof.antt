@@ -25,19 +25,19 @@ returns : tie.Need-returns Inv-loop μ-loop
 returns c = sym (scan-done _ _ _ _ _ (sym (c .before .is-finished .ensures) ∙ c .if1 .taken)) ∙ c .before .before .before .loop .inv .1
 
 shared-slice-read-step : tie.Need-shared-slice-read-step Inv-loop μ-loop
-shared-slice-read-step c = c .before .before .pass-runs .ensures .within
+shared-slice-read-step c = c .before .before .pass .ensures .within
 
 returns-2 : tie.Need-returns-2 Inv-loop μ-loop
-returns-2 c = sym (c .before .before .before .before .before .before .pass-runs .ensures .scan _ _ ∙ scan-past _ _ _ _ _ _ (c .before .before .before .before .before .before .pass-runs .ensures .within) (c .before .before .before .before .before .before .pass-runs .ensures .unfinished (sym (c .before .before .before .before .before .before .before .before .is-finished .ensures) ∙ c .before .before .before .before .before .before .before .if1 .left)) _ _ _ (sym (c .before .before .before .step .ensures) ∙ c .before .row .given .1)) ∙ c .before .before .before .before .before .before .before .before .before .before .loop .inv .1
+returns-2 c = sym (c .before .before .before .before .before .before .pass .ensures .scan _ ∙ scan-past _ _ _ _ _ _ (c .before .before .before .before .before .before .pass .ensures .within) (c .before .before .before .before .before .before .pass .ensures .unfinished (sym (c .before .before .before .before .before .before .before .before .is-finished .ensures) ∙ c .before .before .before .before .before .before .before .if1 .left)) _ _ _ (sym (c .before .before .before .step .ensures) ∙ c .before .row .given .1)) ∙ c .before .before .before .before .before .before .before .before .before .before .loop .inv .1
 
 add-i : tie.Need-add-i Inv-loop μ-loop
-add-i c = omega (arith, c .before .before .before .before .before .before .pass-runs .ensures .within)
+add-i c = omega (arith, c .before .before .before .before .before .before .pass .ensures .within)
 
 loop-less : tie.Need-loop-less Inv-loop μ-loop
-loop-less c = omega (arith, c .before .before .before .before .before .before .pass-runs .ensures .ahead, c .before .before .before .before .before .before .before .before .before .loop-test .taken)
+loop-less c = omega (arith, c .before .before .before .before .before .before .pass .ensures .ahead, c .before .before .before .before .before .before .before .before .before .loop-test .taken)
 
 loop-again : tie.Need-loop-again Inv-loop μ-loop
-loop-again c = (omega (arith, c .before .before .before .before .before .before .pass-runs .ensures .within), sym (c .before .before .before .before .before .before .pass-runs .ensures .scan _ _ ∙ scan-next _ _ _ _ _ _ (c .before .before .before .before .before .before .pass-runs .ensures .within) (c .before .before .before .before .before .before .pass-runs .ensures .unfinished (sym (c .before .before .before .before .before .before .before .before .is-finished .ensures) ∙ c .before .before .before .before .before .before .before .if1 .left)) _ (sym (c .before .before .before .step .ensures) ∙ c .before .n .given .1)) ∙ c .before .before .before .before .before .before .before .before .before .before .loop .inv .1)
+loop-again c = (omega (arith, c .before .before .before .before .before .before .pass .ensures .within), sym (c .before .before .before .before .before .before .pass .ensures .scan _ ∙ scan-next _ _ _ _ _ _ (c .before .before .before .before .before .before .pass .ensures .within) (c .before .before .before .before .before .before .pass .ensures .unfinished (sym (c .before .before .before .before .before .before .before .before .is-finished .ensures) ∙ c .before .before .before .before .before .before .before .if1 .left)) _ (sym (c .before .before .before .step .ensures) ∙ c .before .n .given .1)) ∙ c .before .before .before .before .before .before .before .before .before .before .loop .inv .1)
 
 add-answer : tie.Need-add-answer Inv-loop μ-loop
 add-answer c = omega (arith, c .before .before .before .pre, c .before .loop .inv .0)
