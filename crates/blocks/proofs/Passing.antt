@@ -1,13 +1,13 @@
 -- A scan that passes over runs: laws of `Passes`. Assumes nothing.
-use Prim.Native.Nat.{ℕ, _+_, _-_, _<_}
+use Prim.Native.Nat.{ℕ, _+_, _-_, _<_, _≤_}
 use mathlib.Core.Path.{_≡_, refl, _∙_}
 use mathlib.Core.List.{List}
 use mathlib.Core.Bool.{Bool, true, false, not, _&&_, _||_}
 use native.Mathlib.Omega.{arith}
-use borrow.Author.Tests.{lt-ltb, le-ltb, ne-eqb, eq-eqb, lt-leb, eqb-true, ltb-true}
-use lib.Dec.{ltb, eqb}
-use lib.ListN.{length, getD}
-use Rattle.blocks.specs.Runs.{placeOf, fillRow, endRow, runIn, stepAt, stepRun, isFinished}
+use borrow.Author.Tests.{lt-ltb, le-ltb, ne-eqb, eq-eqb, le-leb, lt-leb, eqb-true, ltb-true, leb-true}
+use lib.Dec.{ltb, leb, eqb}
+use lib.ListN.{length, drop, getD}
+use Rattle.blocks.specs.Runs.{start, placeOf, fillRow, endRow, runIn, stepAt, stepRun, isFinished, scanFrom}
 use Rattle.blocks.specs.Passing.{isAtRun, isBlack, filledAt, atRun, countRow, endsRow, pairAt, fourAt, eightAt, Passes, PassesRuns}
 use Rattle.blocks.specs.declared.runs.Place.{Place}
 use Rattle.blocks.specs.declared.runs.Place.the-variants.{Count, White, Black, Finished}
@@ -16,8 +16,9 @@ use Rattle.blocks.specs.declared.runs.Filled.the-variants.{Over, Whole, 
 use Rattle.blocks.specs.declared.runs.Passed.{Passed}
 use Rattle.blocks.specs.declared.runs.Inside.{Inside}
 use Rattle.blocks.proofs.Checks.{both}
-use Rattle.blocks.specs.declared.runs.Stepped.the-variants.{Next}
-use Rattle.blocks.proofs.Scanning.{scan-next}
+use Rattle.blocks.specs.declared.runs.Stepped.the-variants.{Next, Past}
+use Rattle.blocks.specs.declared.runs.Scanned.the-variants.{Complete, PastWidth}
+use Rattle.blocks.proofs.Scanning.{scan-next, scan-done, scan-past}
 
 -- ---- what a run does to a row
 pub fill-part : (w f b : ℕ) → f + b < w → fillRow w f b ≡ Part (f + b)
@@ -33,7 +34,7 @@ unfolding fillRow
 fill-over w f b l = simp (lt-ltb w (f + b) l)
 
 -- ---- a state at a run
-at-run-unfinished : (c : Bool) (f : ℕ) → isFinished (placeOf c f) ≡ false
+pub at-run-unfinished : (c : Bool) (f : ℕ) → isFinished (placeOf c f) ≡ false
 at-run-unfinished true f = refl
 at-run-unfinished false f = refl
 
@@ -47,6 +48,12 @@ step-whole : (w h : ℕ) (s : Reader) (c : Bool) (f b : ℕ) → f + b ≡ w →
 unfolding stepRun endRow
 step-whole w h s true f b e l = rw (fill-whole w f b e, lt-leb _ _ l)
 step-whole w h s false f b e l = rw (fill-whole w f b e, lt-leb _ _ l)
+
+step-last : (w h : ℕ) (s : Reader) (c : Bool) (f b : ℕ) → f + b ≡ w → h ≤ s .row + 1 + s .repeat
+    → stepRun w h (atRun s c f) b ≡ Next (record { row = h; repeat = 0; at = Finished })
+unfolding stepRun endRow
+step-last w h s true f b e l = rw (fill-whole w f b e, le-leb _ _ l)
+step-last w h s false f b e l = rw (fill-whole w f b e, le-leb _ _ l)
 
 place-again : (p : Place) → isAtRun p ≡ true → placeOf (isBlack p) (filledAt p) ≡ p
 place-again Count e = let z : _≡_ {A = ℕ} 0 1 = cc in absurd (omega arith)
@@ -94,22 +101,22 @@ not-not false = refl
 -- ---- passing
 module _ (w h : ℕ) (src : List ℕ) where
   pub passes-none : (n : ℕ) (s : Reader) → n < length src → Passes w h src n s (record { reader = s; at = n })
-  passes-none n s l = record { ahead = omega arith; within = l; unfinished = λ e. e; scan = λ m. refl }
+  passes-none n s l = record { ahead = omega arith; bounded = omega arith; within = λ _. l; scan = λ m. refl }
 
   pub passes-then : (n : ℕ) (s : Reader) (p q : Passed) → Passes w h src n s p → Passes w h src (p .at) (p .reader) q → Passes w h src n s q
   passes-then n s p q x y =
       record {
         ahead = omega (arith, x .ahead, y .ahead);
+        bounded = y .bounded;
         within = y .within;
-        unfinished = λ e. y .unfinished (x .unfinished e);
         scan = λ m. x .scan m ∙ y .scan m;
       }
 
   -- over a byte that the reader goes on behind
-  passes-step : (n : ℕ) (s t : Reader) → n + 1 < length src → isFinished (s .at) ≡ false → isFinished (t .at) ≡ false
-      → stepRun w h s (getD src n 0) ≡ Next t → Passes w h src n s (record { reader = t; at = n + 1 })
-  passes-step n s t l e q r =
-      record { ahead = omega arith; within = l; unfinished = λ _. q; scan = λ m. scan-next w h m n s src (omega arith) e t r }
+  passes-step : (n : ℕ) (s t : Reader) → n + 1 < length src → isFinished (s .at) ≡ false → stepRun w h s (getD src n 0) ≡ Next t
+      → Passes w h src n s (record { reader = t; at = n + 1 })
+  passes-step n s t l e r =
+      record { ahead = omega arith; bounded = omega arith; within = λ _. l; scan = λ m. scan-next w h m n s src (omega arith) e t r }
 
   -- over a repeat count
   pub passes-count : (n : ℕ) (s : Reader) → (isAtRun (s .at) || isFinished (s .at)) ≡ false → n + 1 < length src
@@ -117,7 +124,7 @@ module _ (w h : ℕ) (src : List ℕ) where
   unfolding stepRun
   passes-count n s e l =
       let q : s .at ≡ Count = count-again (s .at) e in
-      passes-step n s (countRow s (getD src n 0)) l (rw q) refl (rw q)
+      passes-step n s (countRow s (getD src n 0)) l (rw q) (rw q)
 
   -- the run that the state s is at
   pub passes-begin : (n : ℕ) (s : Reader) (c : Bool) (f : ℕ) → isAtRun (s .at) ≡ true → c ≡ isBlack (s .at) → f ≡ filledAt (s .at) → n < length src
@@ -133,8 +140,21 @@ module _ (w h : ℕ) (src : List ℕ) where
       let i : n + 1 + 1 ≡ n + 2 = omega arith in
       rw i at
       (passes-then n (atRun s c f) (record { reader = t; at = n + 1 }) _
-      (passes-step n (atRun s c f) t (omega arith) (at-run-unfinished c f) refl (step-whole w h s c f (getD src n 0) e b))
+      (passes-step n (atRun s c f) t (omega arith) (at-run-unfinished c f) (step-whole w h s c f (getD src n 0) e b))
       (passes-count (n + 1) t refl (omega arith)))
+
+  -- over the run that ends the last row
+  pub passes-last : (n : ℕ) (s : Reader) (c : Bool) (f : ℕ) → (eqb (f + getD src n 0) w && leb h (s .row + 1 + s .repeat)) ≡ true → n < length src
+      → Passes w h src n (atRun s c f) (record { reader = record { row = h; repeat = 0; at = Finished }; at = n + 1 })
+  passes-last n s c f e l =
+      let x = both (eqb (f + getD src n 0) w) (leb h (s .row + 1 + s .repeat)) e in
+      record {
+        ahead = omega arith;
+        bounded = omega arith;
+        within = λ q. let z : _≡_ {A = ℕ} 0 1 = cc in absurd (omega arith);
+        scan = λ m. scan-next w h m n (atRun s c f) src l (at-run-unfinished c f) _
+            (step-last w h s c f (getD src n 0) (eqb-true _ _ (x .0)) (leb-true _ _ (x .1)));
+      }
 
   pub ends-row : (i : Inside) (b : ℕ) → endsRow w h src i b ≡ true → (i .filled + getD src (i .at) 0 ≡ w) × (b < h) × (i .at + 2 < length src)
   unfolding endsRow
@@ -149,6 +169,19 @@ module _ (w h : ℕ) (src : List ℕ) where
   passes-row i s e =
       let x = ends-row i (s .row + 1 + s .repeat) e in
       passes-end (i .at) s (i .black) (i .filled) (x .0) (x .1) (x .2)
+
+-- ---- a scan's turn behind what it passed over
+module _ (w h : ℕ) (src : List ℕ) (n : ℕ) (s : Reader) (p : Passed) (x : Passes w h src n s p) (m : ℕ) where
+  pub passed-done : isFinished (p .reader .at) ≡ true → scanFrom w h (m + n) s (drop n src) ≡ Complete (m + p .at)
+  passed-done e = x .scan m ∙ scan-done w h (m + p .at) (p .reader) (drop (p .at) src) e
+
+  module _ (e : isFinished (p .reader .at) ≡ false) where
+    pub passed-next : (t : Reader) → stepRun w h (p .reader) (getD src (p .at) 0) ≡ Next t
+        → scanFrom w h (m + n) s (drop n src) ≡ scanFrom w h (m + (p .at + 1)) t (drop (p .at + 1) src)
+    passed-next t q = x .scan m ∙ scan-next w h m (p .at) (p .reader) src (x .within e) e t q
+
+    pub passed-past : (r f b : ℕ) → stepRun w h (p .reader) (getD src (p .at) 0) ≡ Past r f b → scanFrom w h (m + n) s (drop n src) ≡ PastWidth r f b
+    passed-past r f b q = x .scan m ∙ scan-past w h m (p .at) (p .reader) src (x .within e) e r f b q
 
 -- the reader at the run i of a row
 abbrev pub inRow : ℕ → ℕ → Inside → Reader
@@ -171,7 +204,7 @@ module _ (w : ℕ) (src : List ℕ) where
   runs-one n f c l q =
       let b = getD src n 0 in
       record {
-        passes = λ h s. passes-step w h src n _ (atRun s (not c) (f + b)) l (at-run-unfinished c f) (at-run-unfinished (not c) (f + b)) (step-part w h s c f b q);
+        passes = λ h s. passes-step w h src n _ (atRun s (not c) (f + b)) l (at-run-unfinished c f) (step-part w h s c f b q);
       }
 
   runs-two : (n f : ℕ) (c : Bool) → n + 2 < length src → f + pairAt src n < w
@@ -206,3 +239,10 @@ module _ (w : ℕ) (src : List ℕ) where
       rw (i, j) at
       (runs-then (inside n f c) (inside (n + 4) (f + a) c) (inside (n + 4 + 4) (f + a + b) c)
       (runs-four n f c (omega arith) (omega arith)) (runs-four (n + 4) (f + a) c (omega arith) (omega arith)))
+
+  -- a byte is left at the run that is gone on from
+  pub runs-within : (i j : Inside) → PassesRuns w src i j → j .at < length src
+  runs-within i j x = x .passes 0 start .within (at-run-unfinished (j .black) (j .filled))
+
+  pub runs-ahead : (i j : Inside) → PassesRuns w src i j → i .at ≤ j .at
+  runs-ahead i j x = x .passes 0 start .ahead

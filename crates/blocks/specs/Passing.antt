@@ -53,11 +53,11 @@ eightAt src n = fourAt src n + fourAt src (n + 4)
 unfoldable pub endsRow : ℕ → ℕ → List ℕ → Inside → ℕ → Bool
 endsRow w h src i below = eqb (i .filled + getD src (i .at) 0) w && (ltb below h && ltb 2 (length src - i .at))
 
--- a scan of src that is at place n in the state s may go on from p instead: a byte is left there, and the answer is the same
+-- a scan of src that is at place n in the state s may go on from p instead: a byte is left there unless p is finished, and the answer is the same
 pub record Passes (w h : ℕ) (src : List ℕ) (n : ℕ) (s : Reader) (p : Passed) : Type 0 where
   pub ahead : n ≤ p .at
-  pub within : p .at < length src
-  pub unfinished : isFinished (s .at) ≡ false → isFinished (p .reader .at) ≡ false
+  pub bounded : p .at ≤ length src
+  pub within : isFinished (p .reader .at) ≡ false → p .at < length src
   pub scan : (m : ℕ) → scanFrom w h (m + n) s (drop n src) ≡ scanFrom w h (m + p .at) (p .reader) (drop (p .at) src)
 
 -- a scan that is at the run i of a row may go on from the run j of it instead

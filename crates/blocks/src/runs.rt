@@ -326,7 +326,7 @@ impl Reader {
     // Over a repeat count, unless it is the last byte.
     fn pass_count(self, src: &[u8], from: usize) -> Passed
         requires { ⌜ from < length (now src) ⌝ }
-        ensures { λ r. ⌜ ((w h : ℕ) → Passes w h (now (src .entry)) from self r) ⌝ }
+        ensures { λ r. ⌜ ((w h : ℕ) → Passes w h (now (src .entry)) from self r) × (r .at < length (now (src .entry))) ⌝ }
     {
         let place = self.at;
         if place.is_at_run() | place.is_finished() {
@@ -344,6 +344,30 @@ impl Reader {
         Passed {
             reader: self.count(src[from]),
             at: from + 1,
+        }
+    }
+
+    // At a run of its row, or finished behind it where the run ends the last row.
+    fn stop_at(self, i: Inside, src: &[u8], width: u16, height: u16) -> Passed
+        requires { ⌜ i .at < length (now src) ⌝ }
+        ensures { λ r. ⌜ Passes width height (now (src .entry)) (i .at) (atRun self (i .black) (i .filled)) r ⌝ }
+    {
+        let at = i.at;
+        let end = (i.filled as u32) + wide(src[at]);
+        let below = (self.row as u32) + 1 + (self.repeat as u32);
+        if (end == (width as u32)) & ((height as u32) <= below) {
+            return Passed {
+                reader: Reader {
+                    row: height,
+                    repeat: 0,
+                    at: Place::Finished,
+                },
+                at: at + 1,
+            };
+        }
+        Passed {
+            reader: self.at_run(i.black, i.filled),
+            at: at,
         }
     }
 
@@ -371,14 +395,12 @@ impl Reader {
             let at = stop.at;
             let below = (row as u32) + 1 + (repeat as u32);
             if !stop.ends_row(src, width, below, height) {
-                return Passed {
-                    reader: Reader {
-                        row: row,
-                        repeat: repeat,
-                        at: place_of(stop.black, stop.filled),
-                    },
-                    at: at,
+                let s = Reader {
+                    row: row,
+                    repeat: repeat,
+                    at: Place::Count,
                 };
+                return s.stop_at(stop, src, width, height);
             }
             row = below as u16;
             repeat = src[at + 1];
@@ -421,13 +443,13 @@ pub fn scan_from(from: Reader, used: usize, src: &[u8], width: u16, height: u16)
     let mut s = from;
     let mut i = 0;
     while i < src.len() {
-        let place = s.at;
-        if place.is_finished() {
-            return Scanned::Complete(used + i);
-        }
         let p = s.pass(src, i, width, height);
         let at = p.at;
         let passed = p.reader;
+        let place = passed.at;
+        if place.is_finished() {
+            return Scanned::Complete(used + at);
+        }
         match passed.step(width, height, src[at]) {
             Stepped::Next(n) => {
                 s = n;

@@ -1,4 +1,5 @@
-use Rattle.blocks.proofs.Scanning.{scan-done, scan-next, scan-past, scan-end}
+use Rattle.blocks.proofs.Scanning.{scan-end}
+use Rattle.blocks.proofs.Passing.{passed-done, passed-next, passed-past}
 use Rattle.blocks.specs.Runs.{scanFrom}
 use lib.ListN.{length, drop}
 use mathlib.Core.Path.{_≡_, sym, _∙_}
@@ -19,25 +20,29 @@ loop-holds : tie.Need-loop-holds Inv-loop μ-loop
 loop-holds c = (search needs, rw add-zero)
 
 add-t19 : tie.Need-add-t19 Inv-loop μ-loop
-add-t19 c = omega (arith, c .before .before .before .before .before .pre, c .before .before .loop-test .taken)
+add-t19 c = omega (arith, c .before .before .before .before .before .before .before .pre, c .before .before .before .pass .ensures .bounded)
 
 returns : tie.Need-returns Inv-loop μ-loop
-returns c = sym (scan-done _ _ _ _ _ (sym (c .before .is-finished .ensures) ∙ c .if1 .taken)) ∙ c .before .before .before .loop .inv .1
+returns c = sym (passed-done _ _ _ _ _ _ (c .before .before .before .pass .ensures) _ (sym (c .before .is-finished .ensures) ∙ c .if1 .taken)) ∙ c .before .before .before .before .before .loop .inv .1
 
 shared-slice-read-step : tie.Need-shared-slice-read-step Inv-loop μ-loop
-shared-slice-read-step c = c .before .before .pass .ensures .within
+shared-slice-read-step c = c .before .before .before .before .pass .ensures .within (sym (c .before .before .is-finished .ensures) ∙ c .before .if1 .left)
 
 returns-2 : tie.Need-returns-2 Inv-loop μ-loop
-returns-2 c = sym (c .before .before .before .before .before .before .pass .ensures .scan _ ∙ scan-past _ _ _ _ _ _ (c .before .before .before .before .before .before .pass .ensures .within) (c .before .before .before .before .before .before .pass .ensures .unfinished (sym (c .before .before .before .before .before .before .before .before .is-finished .ensures) ∙ c .before .before .before .before .before .before .before .if1 .left)) _ _ _ (sym (c .before .before .before .step .ensures) ∙ c .before .row .given .1)) ∙ c .before .before .before .before .before .before .before .before .before .before .loop .inv .1
+returns-2 c =
+    let e = sym (c .before .before .before .before .before .before .is-finished .ensures) ∙ c .before .before .before .before .before .if1 .left in
+    sym (passed-past _ _ _ _ _ _ (c .before .before .before .before .before .before .before .before .pass .ensures) _ e _ _ _ (sym (c .before .before .before .step .ensures) ∙ c .before .row .given .1)) ∙ c .before .before .before .before .before .before .before .before .before .before .loop .inv .1
 
 add-i : tie.Need-add-i Inv-loop μ-loop
-add-i c = omega (arith, c .before .before .before .before .before .before .pass .ensures .within)
+add-i c = omega (arith, c .before .before .before .before .before .before .before .before .pass .ensures .bounded)
 
 loop-less : tie.Need-loop-less Inv-loop μ-loop
-loop-less c = omega (arith, c .before .before .before .before .before .before .pass .ensures .ahead, c .before .before .before .before .before .before .before .before .before .loop-test .taken)
+loop-less c = omega (arith, c .before .before .before .before .before .before .before .before .pass .ensures .ahead, c .before .before .before .before .before .before .before .before .before .loop-test .taken)
 
 loop-again : tie.Need-loop-again Inv-loop μ-loop
-loop-again c = (omega (arith, c .before .before .before .before .before .before .pass .ensures .within), sym (c .before .before .before .before .before .before .pass .ensures .scan _ ∙ scan-next _ _ _ _ _ _ (c .before .before .before .before .before .before .pass .ensures .within) (c .before .before .before .before .before .before .pass .ensures .unfinished (sym (c .before .before .before .before .before .before .before .before .is-finished .ensures) ∙ c .before .before .before .before .before .before .before .if1 .left)) _ (sym (c .before .before .before .step .ensures) ∙ c .before .n .given .1)) ∙ c .before .before .before .before .before .before .before .before .before .before .loop .inv .1)
+loop-again c =
+    let e = sym (c .before .before .before .before .before .before .is-finished .ensures) ∙ c .before .before .before .before .before .if1 .left in
+    (omega (arith, c .before .before .before .before .before .before .before .before .pass .ensures .within e), sym (passed-next _ _ _ _ _ _ (c .before .before .before .before .before .before .before .before .pass .ensures) _ e _ (sym (c .before .before .before .step .ensures) ∙ c .before .n .given .1)) ∙ c .before .before .before .before .before .before .before .before .before .before .loop .inv .1)
 
 add-answer : tie.Need-add-answer Inv-loop μ-loop
 add-answer c = omega (arith, c .before .before .before .pre, c .before .loop .inv .0)
@@ -53,9 +58,9 @@ scan-from-spec =
     μ-loop
     loop-holds
     (λ c κs. search needs)
+    (λ c κs. search needs)
     add-t19
     returns
-    (λ c κs. search needs)
     shared-slice-read-step
     (λ c κs. search needs)
     (λ c. search needs)

@@ -1,11 +1,10 @@
-use Rattle.blocks.proofs.Passing.{runs-then}
-use Rattle.blocks.specs.Runs.{start}
+use Rattle.blocks.proofs.Passing.{runs-then, runs-within}
 use borrow.Author.Needs.{needs}
 use Rattle.blocks.proofs.runs.Inside.pass_runs.Statement.{statement}
 use Rattle.blocks.proofs.runs.Inside.pass_runs.Tie as tie
 
 pass-ones-requires : tie.Need-pass-ones-requires
-pass-ones-requires c κs = c .pass-eights .ensures .passes 0 start .within
+pass-ones-requires c κs = runs-within _ _ _ _ (c .pass-eights .ensures)
 
 returns : tie.Need-returns
 returns c =

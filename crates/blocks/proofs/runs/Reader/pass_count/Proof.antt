@@ -5,13 +5,13 @@ use Rattle.blocks.proofs.runs.Reader.pass_count.Statement.{statement}
 use Rattle.blocks.proofs.runs.Reader.pass_count.Tie as tie
 
 returns : tie.Need-returns
-returns c = λ w h. passes-none w h _ _ _ (c .before .before .before .before .pre)
+returns c = (λ w h. passes-none w h _ _ _ (c .before .before .before .before .pre), c .before .before .before .before .pre)
 
 returns-2 : tie.Need-returns-2
-returns-2 c = λ w h. passes-none w h _ _ _ (c .before .before .before .before .before .pre)
+returns-2 c = (λ w h. passes-none w h _ _ _ (c .before .before .before .before .before .pre), c .before .before .before .before .before .pre)
 
 returns-3 : tie.Need-returns-3
-returns-3 c = λ w h. rw (c .count .ensures) (passes-count w h _ _ _ (rw (c .before .before .before .before .before .is-at-run .ensures, c .before .before .before .before .is-finished .ensures) at (c .before .before .before .if1 .left)) (omega (arith, c .before .before .if2 .left)))
+returns-3 c = (λ w h. rw (c .count .ensures) (passes-count w h _ _ _ (rw (c .before .before .before .before .before .is-at-run .ensures, c .before .before .before .before .is-finished .ensures) at (c .before .before .before .if1 .left)) (omega (arith, c .before .before .if2 .left))), omega (arith, c .before .before .if2 .left))
 
 pub pass-count-spec : {M : Type 1} → statement M
 pass-count-spec =

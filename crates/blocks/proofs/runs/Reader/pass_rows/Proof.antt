@@ -3,8 +3,7 @@ use native.Mathlib.Omega.{arith}
 use Prim.Native.Nat.{_+_, _-_, _≤_}
 use lib.ListN.{length}
 use Rattle.blocks.proofs.Checks.{passed}
-use Rattle.blocks.proofs.Passing.{inRow, passes-none, passes-then, passes-begin, passes-row, ends-row}
-use Rattle.blocks.specs.Runs.{start}
+use Rattle.blocks.proofs.Passing.{inRow, passes-none, passes-then, passes-begin, passes-row, ends-row, at-run-unfinished, runs-within, runs-ahead}
 use Rattle.blocks.specs.Passing.{Passes}
 use Rattle.blocks.specs.declared.runs.Reader.{Reader}
 use Rattle.blocks.specs.declared.runs.Place.the-variants.{Count}
@@ -24,18 +23,21 @@ loop-holds : tie.Need-loop-holds Inv-loop μ-loop
 loop-holds c = (search needs, search needs, passes-none _ _ _ _ _ (c .before .before .before .before .before .pre))
 
 pass-runs-requires : tie.Need-pass-runs-requires Inv-loop μ-loop
-pass-runs-requires c κs = c .loop .inv .2 .within
+pass-runs-requires c κs = c .loop .inv .2 .within (at-run-unfinished (c .loop .i .black) (c .loop .i .filled))
 
 ends-row-requires : tie.Need-ends-row-requires Inv-loop μ-loop
-ends-row-requires c κs = c .pass-runs .ensures .passes 0 start .within
+ends-row-requires c κs = runs-within _ _ _ _ (c .pass-runs .ensures)
+
+stop-at-requires : tie.Need-stop-at-requires Inv-loop μ-loop
+stop-at-requires c κs = runs-within _ _ _ _ (c .before .before .pass-runs .ensures)
 
 returns-2 : tie.Need-returns-2 Inv-loop μ-loop
 returns-2 c =
     let k = c .before .before .before .before .loop in
-    rw (c .place-of .ensures)
-    (passes-then _ _ _ _ _ _ _
+    passes-then _ _ _ _ _ _ _
     (passes-begin _ _ _ _ _ _ _ (passed (c .before .before .before .before .before .before .before .before .is-at-run .ensures) (c .before .before .before .before .before .before .before .if1 .left)) (c .before .before .before .before .before .is-black .ensures) (c .before .before .before .before .before .before .filled .ensures) (c .before .before .before .before .before .before .before .before .before .before .pre))
-    (passes-then _ _ _ _ _ _ _ (k .inv .2) (c .before .before .before .pass-runs .ensures .passes _ (record { row = k .row; repeat = k .repeat; at = Count }))))
+    (passes-then _ _ _ _ _ _ _ (k .inv .2)
+    (passes-then _ _ _ _ _ _ _ (c .before .before .before .pass-runs .ensures .passes _ (record { row = k .row; repeat = k .repeat; at = Count })) (c .stop-at .ensures)))
 
 cast-row : tie.Need-cast-row Inv-loop μ-loop
 cast-row c = omega (arith, ends-row _ _ _ _ _ (passed (c .before .ends-row .ensures) (c .if2 .left)) .1)
@@ -50,7 +52,7 @@ add-t23 : tie.Need-add-t23 Inv-loop μ-loop
 add-t23 c = omega (arith, ends-row _ _ _ _ _ (passed (c .before .before .ends-row .ensures) (c .before .if2 .left)) .2)
 
 loop-less : tie.Need-loop-less Inv-loop μ-loop
-loop-less c = omega (arith, ends-row _ _ _ _ _ (passed (c .before .before .ends-row .ensures) (c .before .if2 .left)) .2, c .before .before .before .pass-runs .ensures .passes 0 start .ahead)
+loop-less c = omega (arith, ends-row _ _ _ _ _ (passed (c .before .before .ends-row .ensures) (c .before .if2 .left)) .2, runs-ahead _ _ _ _ (c .before .before .before .pass-runs .ensures))
 
 loop-again : tie.Need-loop-again Inv-loop μ-loop
 loop-again c =
@@ -79,7 +81,7 @@ pass-rows-spec =
     (λ c. omega (arith, c .before .loop .inv .1))
     (λ c. omega (arith, c .before .loop .inv .0, c .before .loop .inv .1))
     ends-row-requires
-    (λ c κs. search needs)
+    stop-at-requires
     returns-2
     cast-row
     add-repeat
