@@ -1,4 +1,4 @@
--- A scan that passes over runs: laws of `Passes`. Assumes nothing.
+-- A scan that passes over rows and runs: laws of `Passes` and `PassesRuns`. Assumes nothing.
 use Prim.Native.Nat.{ℕ, _+_, _-_, _<_, _≤_}
 use mathlib.Core.Path.{_≡_, refl, _∙_}
 use mathlib.Core.List.{List}
@@ -184,8 +184,8 @@ module _ (w h : ℕ) (src : List ℕ) (n : ℕ) (s : Reader) (p : Passed) (x : P
     passed-past r f b q = x .scan m ∙ scan-past w h m (p .at) (p .reader) src (x .within e) e r f b q
 
 -- the reader at the run i of a row
-abbrev pub inRow : ℕ → ℕ → Inside → Reader
-inRow row repeat i = record { row = row; repeat = repeat; at = placeOf (i .black) (i .filled) }
+abbrev pub readerIn : ℕ → ℕ → Inside → Reader
+readerIn row repeat i = record { row = row; repeat = repeat; at = placeOf (i .black) (i .filled) }
 
 abbrev pub inside : ℕ → ℕ → Bool → Inside
 inside n f c = record { at = n; filled = f; black = c }

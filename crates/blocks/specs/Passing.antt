@@ -1,4 +1,4 @@
--- For the code alone: how a scan passes over runs that leave their row unfinished. No public contract names anything of this file.
+-- For the code alone: how a scan passes over whole rows, and over runs that leave their row unfinished. No public contract names anything of this file.
 use Prim.Native.Nat.{ℕ, _+_, _-_, _<_, _≤_}
 use mathlib.Core.Path.{_≡_}
 use mathlib.Core.List.{List}

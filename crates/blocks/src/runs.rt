@@ -412,7 +412,7 @@ impl Reader {
         }
     }
 
-    // Over a count, whole rows and runs, as far as the picture is unfinished. The byte that it stops at is left to `step`.
+    // Over a count, whole rows and runs, to the picture's end or to a byte that is left to `step`: a run past the width, or one near the data's end.
     fn pass(self, src: &[u8], from: usize, width: u16, height: u16) -> Passed
         requires { ⌜ from < length (now src) ⌝ }
         ensures { λ r. ⌜ Passes width height (now (src .entry)) from self r ⌝ }

@@ -3,7 +3,7 @@ use native.Mathlib.Omega.{arith}
 use Prim.Native.Nat.{_+_, _-_, _≤_}
 use lib.ListN.{length}
 use Rattle.blocks.proofs.Checks.{passed}
-use Rattle.blocks.proofs.Passing.{inRow, passes-none, passes-then, passes-begin, passes-row, ends-row, at-run-unfinished, runs-within, runs-ahead}
+use Rattle.blocks.proofs.Passing.{readerIn, passes-none, passes-then, passes-begin, passes-row, ends-row, at-run-unfinished, runs-within, runs-ahead}
 use Rattle.blocks.specs.Passing.{Passes}
 use Rattle.blocks.specs.declared.runs.Reader.{Reader}
 use Rattle.blocks.specs.declared.runs.Place.the-variants.{Count}
@@ -11,7 +11,7 @@ use Rattle.blocks.proofs.runs.Reader.pass_rows.Statement.{statement}
 use Rattle.blocks.proofs.runs.Reader.pass_rows.Tie as tie
 
 abbrev Inv-loop : tie.InvT-loop
-Inv-loop src from width height row₀ repeat₀ i₀ row repeat i = (row ≤ 65535) × (repeat ≤ 255) × Passes width height src (i₀ .at) (inRow row₀ repeat₀ i₀) (record { reader = inRow row repeat i; at = i .at })
+Inv-loop src from width height row₀ repeat₀ i₀ row repeat i = (row ≤ 65535) × (repeat ≤ 255) × Passes width height src (i₀ .at) (readerIn row₀ repeat₀ i₀) (record { reader = readerIn row repeat i; at = i .at })
 
 abbrev μ-loop : tie.MeasureT-loop
 μ-loop src from width height row₀ repeat₀ i₀ row repeat i = length src - i .at
