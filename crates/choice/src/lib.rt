@@ -80,7 +80,8 @@ const WEIGHT_BASE: u64 = 1024;
 // The number of the steps up to pitch that stands for no font, above that of every font.
 const NO_MAJOR: u64 = 4 * PITCH_BASE;
 
-// What is asked for. The weight is signed, as 32 bits in two's complement.
+// What is asked for, as C lays it out. The weight is signed, as 32 bits in two's complement.
+#[repr(C)]
 pub struct Request {
     pub symbol_set: u32,
     pub spacing: u32,

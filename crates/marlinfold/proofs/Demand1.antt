@@ -28,11 +28,13 @@ use Rattle.choice.specs.Choosing.{choosing}
 use Rattle.choice.specs.declared.Request.{Request}
 use Rattle.choice.specs.declared.Chosen.{Chosen}
 use Rattle.choice.specs.declared.Chosen.the-variants.{Number, NotStore, OutOfRange, NoFont}
+use Rattle.sheet.specs.Sheet.{Sheet, mostRequests, unanswered, choosingSheet}
+use Rattle.sheet.specs.declared.SheetAnswer.{SheetAnswer}
 use Rattle.stream.specs.Reading.{Reading, endAnswer, readingOf, reading}
 use Rattle.stream.specs.declared.reading.Ending.{Ending}
 use Rattle.stream.specs.declared.reading.Ending.the-variants.{AtEnd, BrokenAt}
 use Rattle.stream.specs.Written.{WriteOut, unwritten, written, writingFont}
-use Rattle.marlinfold.specs.Calls.{Call, make-fresh, download-font, download-character, remove-font, remove-character, choose-font, tell-font, tell-character, draw-row, draw-picture, write-font, read-stream, outputOf, Outcome, ofChange, ofChoice, ofTelling, ofDrawing, ofWriting, ofReading, outcome}
+use Rattle.marlinfold.specs.Calls.{Call, make-fresh, download-font, download-character, remove-font, remove-character, choose-font, tell-font, tell-character, draw-row, draw-picture, write-font, read-stream, choose-sheet, outputOf, Outcome, ofChange, ofChoice, ofTelling, ofDrawing, ofWriting, ofReading, ofSheet, outcome}
 use Rattle.marlinfold.specs.Demands.{listed, isIn, others, unchanged, carriedOut, Refusal, as-listed, no-room, broken, Demand1}
 
 -- the claim of an outcome
@@ -164,6 +166,12 @@ writes-font n out s =
     let w : Way (write-font n out) s WriteOut = record { of = ofWriting s; refuse = unwritten out; same = λ k. refl } in
     by-font w n _ (refl, refl, refl) (λ st r. by-check w (leb (length (written n (st .recs))) (length out)) 12 _ refl (inl refl))
 
+chooses-sheet : (rs : List Request) (out : List SheetAnswer) (s : List ℕ) → Claim (choose-sheet rs out) s
+unfolding listed outputOf others choosingSheet
+chooses-sheet rs out s =
+    let w : Way (choose-sheet rs out) s Sheet = record { of = ofSheet s; refuse = unanswered out; same = λ k. refl } in
+    by-check w (isStore s) 1 _ refl (by-check w (leb (length rs) mostRequests) 2 _ refl (by-check w (leb (length rs) (length out)) 12 _ refl (inl refl)))
+
 -- ── a character block
 module _ (n c : ℕ) (b s : List ℕ) where
   sent : Way (download-character n c b) s After
@@ -232,3 +240,4 @@ demand1 (draw-row n c row out) s = draws-row n c row out s
 demand1 (draw-picture n c out) s = draws-picture n c out s
 demand1 (write-font n out) s = writes-font n out s
 demand1 (read-stream b) s = reads b s
+demand1 (choose-sheet rs out) s = chooses-sheet rs out s

@@ -1,7 +1,9 @@
 pub mod Outcomes
+pub mod Line
 pub mod Demand1
 pub mod Demand2
 pub mod Demand3
+pub mod Sheet
 pub mod Trials
 pub mod Computing
 pub mod Occurrences

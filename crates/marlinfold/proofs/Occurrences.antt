@@ -1,17 +1,17 @@
 -- Each number that is listed for a call occurs, by computing. Assumes nothing.
 use mathlib.Core.Path.{_≡_, refl}
-use Rattle.marlinfold.specs.Calls.{Call, make-fresh, download-font, download-character, remove-font, remove-character, choose-font, tell-font, tell-character, draw-row, draw-picture, write-font, read-stream}
+use Rattle.marlinfold.specs.Calls.{Call, make-fresh, download-font, download-character, remove-font, remove-character, choose-font, tell-font, tell-character, draw-row, draw-picture, write-font, read-stream, choose-sheet}
 use Rattle.marlinfold.specs.Demands.{listed}
 use Rattle.marlinfold.specs.Occurrences.{kind, sending, at, some, occurrences, beforeIf, numbersOf, AllOccur, ListedOccur}
-use Rattle.marlinfold.specs.Trials.{A, asks}
+use Rattle.marlinfold.specs.Trials.{A, requestWith, asks}
 use Rattle.marlinfold.proofs.Computing.{computing}
 
 each : AllOccur occurrences
 unfolding computing occurrences at sending some
-each = (refl, (refl, (refl, (refl, (refl, (refl, (refl, (refl, (refl, (refl, (refl, (refl, (refl, (refl, (refl, (refl, (refl, (refl, (refl, (refl, (refl, (refl, (refl, (refl, (refl, (refl, (refl, (refl, (refl, (refl, (refl, (refl, (refl, (refl, (refl, (refl, (refl, (refl, (refl, (refl, (refl, (refl, (refl, (refl, (refl, (refl, (refl, (refl, (refl, (refl, tt))))))))))))))))))))))))))))))))))))))))))))))))))
+each = (refl, (refl, (refl, (refl, (refl, (refl, (refl, (refl, (refl, (refl, (refl, (refl, (refl, (refl, (refl, (refl, (refl, (refl, (refl, (refl, (refl, (refl, (refl, (refl, (refl, (refl, (refl, (refl, (refl, (refl, (refl, (refl, (refl, (refl, (refl, (refl, (refl, (refl, (refl, (refl, (refl, (refl, (refl, (refl, (refl, (refl, (refl, (refl, (refl, (refl, (refl, (refl, (refl, tt)))))))))))))))))))))))))))))))))))))))))))))))))))))
 
 numbers : (c : Call) → numbersOf (kind c) occurrences ≡ listed c
-unfolding occurrences beforeIf numbersOf kind at sending some A asks listed
+unfolding occurrences beforeIf numbersOf kind at sending some A requestWith asks listed
 numbers make-fresh = refl
 numbers (download-font n b) = refl
 numbers (download-character n c b) = refl
@@ -24,6 +24,7 @@ numbers (draw-row n c row out) = refl
 numbers (draw-picture n c out) = refl
 numbers (write-font n out) = refl
 numbers (read-stream b) = refl
+numbers (choose-sheet rs out) = refl
 
 pub listed-occur : ListedOccur
 listed-occur = (each, numbers)

@@ -1,4 +1,5 @@
--- Document 01, "The calls, and what they answer": the twelve calls as values, and the outcome of each, which is its exported contract.
+-- Document 01, "The calls, and what they answer", and the calls of document 02: the calls as values, and the outcome of each, which is its exported
+-- contract.
 use Prim.Native.Nat.{ℕ}
 use mathlib.Core.List.{List, [], _∷_}
 use Rattle.store.specs.Answer.{After, Telling}
@@ -8,6 +9,8 @@ use Rattle.store.specs.Drawing.{drawingRow, drawingPicture}
 use Rattle.choice.specs.Choosing.{choosing, refusalOf, fontOf}
 use Rattle.choice.specs.declared.Request.{Request}
 use Rattle.choice.specs.declared.Chosen.{Chosen}
+use Rattle.sheet.specs.Sheet.{Sheet, choosingSheet}
+use Rattle.sheet.specs.declared.SheetAnswer.{SheetAnswer}
 use Rattle.stream.specs.Reading.{Reading, reading}
 use Rattle.stream.specs.Written.{WriteOut, writingFont}
 
@@ -25,6 +28,13 @@ pub data Call : Type 0 where
   draw-picture : (n c : ℕ) (out : List ℕ) → Call
   write-font : (n : ℕ) (out : List ℕ) → Call
   read-stream : (stream : List ℕ) → Call
+  -- W-201
+  choose-sheet : (rs : List Request) (out : List SheetAnswer) → Call
+
+-- a sheet's answers as an output: the two numbers of each, one after the other
+unfoldable pub answerNumbers : List SheetAnswer → List ℕ
+answerNumbers [] = []
+answerNumbers (a ∷ l) = a .font ∷ a .refusal ∷ answerNumbers l
 
 -- the output that a call is lent; none is []
 unfoldable pub outputOf : Call → List ℕ
@@ -40,6 +50,7 @@ outputOf (draw-row n c row out) = out
 outputOf (draw-picture n c out) = out
 outputOf (write-font n out) = out
 outputOf (read-stream b) = []
+outputOf (choose-sheet rs out) = answerNumbers out
 
 -- ── what a call answers and leaves
 pub record Outcome : Type 0 where
@@ -47,7 +58,7 @@ pub record Outcome : Type 0 where
   pub refusal : ℕ
   -- the other numbers that the call answers
   pub numbers : List ℕ
-  -- the store and the output afterwards
+  -- the store and the output afterwards: all their bytes; of a sheet, the numbers of all its answers
   pub store : List ℕ
   pub out : List ℕ
 
@@ -79,6 +90,10 @@ ofWriting s a = answered (a .refusal) (a .count ∷ []) s (a .out)
 abbrev pub ofReading : Reading → Outcome
 ofReading a = answered (a .answer .refusal) (a .answer .done ∷ a .answer .refused ∷ a .answer .place ∷ []) (a .bytes) []
 
+-- a sheet: its answers are the output
+abbrev pub ofSheet : List ℕ → Sheet → Outcome
+ofSheet s a = answered (a .refusal) [] s (answerNumbers (a .answers))
+
 -- a call on the buffer s
 abbrev pub outcome : Call → List ℕ → Outcome
 outcome make-fresh s = ofChange (makingFresh s)
@@ -93,6 +108,7 @@ outcome (draw-row n c row out) s = ofDrawing s (drawingRow n c row s out)
 outcome (draw-picture n c out) s = ofDrawing s (drawingPicture n c s out)
 outcome (write-font n out) s = ofWriting s (writingFont n s out)
 outcome (read-stream b) s = ofReading (reading b s)
+outcome (choose-sheet rs out) s = ofSheet s (choosingSheet s rs out)
 
 -- what a call leaves of the store
 abbrev pub leaves : Call → List ℕ → List ℕ

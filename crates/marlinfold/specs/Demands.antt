@@ -1,6 +1,6 @@
 -- The demands, each one claim about the outcomes of calls. Document 01 in the other hand: its table of refusals for demand 1, its "Demand 3" for
 -- the third.
-use Prim.Native.Nat.{ℕ}
+use Prim.Native.Nat.{ℕ, _+_, _*_, _<_}
 use mathlib.Core.Path.{_≡_}
 use mathlib.Core.Logic.{_⊎_}
 use mathlib.Core.List.{List, [], _∷_}
@@ -17,10 +17,11 @@ use Rattle.choice.specs.Right.{Keyed, Unused, Right}
 use Rattle.choice.specs.declared.Request.{Request}
 use Rattle.choice.specs.declared.Chosen.{Chosen}
 use Rattle.choice.specs.declared.Chosen.the-variants.{Number}
+use Rattle.sheet.specs.declared.SheetAnswer.{SheetAnswer}
 use Rattle.stream.specs.Reading.{Progress, Ended, firstTarget, noneCounted, readFrom}
 use Rattle.stream.specs.declared.reading.Ending.the-variants.{BrokenAt}
 use Rattle.stream.specs.RoundTrip.{onlyFont}
-use Rattle.marlinfold.specs.Calls.{Call, make-fresh, download-font, download-character, remove-font, remove-character, choose-font, tell-font, tell-character, draw-row, draw-picture, write-font, read-stream, outputOf, Outcome, answered, ofChoice, outcome, answer, leaves, ran}
+use Rattle.marlinfold.specs.Calls.{Call, make-fresh, download-font, download-character, remove-font, remove-character, choose-font, tell-font, tell-character, draw-row, draw-picture, write-font, read-stream, choose-sheet, outputOf, Outcome, answered, ofChoice, outcome, answer, leaves, ran}
 use Rattle.marlinfold.specs.Book.{bookAfter}
 
 -- ── demand 1: a call is done, or it refuses as the table says
@@ -48,6 +49,8 @@ listed (draw-picture n c out) = 1 ∷ 2 ∷ 6 ∷ 7 ∷ 12 ∷ []
 listed (write-font n out) = 1 ∷ 2 ∷ 6 ∷ 12 ∷ []
 -- "Reading checks 1 first."
 listed (read-stream b) = 1 ∷ []
+-- W-201: "Refusals: 1, then 2 for more than 64 requests, then 12 for an answer list shorter than the request list."
+listed (choose-sheet rs out) = 1 ∷ 2 ∷ 12 ∷ []
 
 abbrev pub isIn : ℕ → List ℕ → Bool
 isIn k [] = false
@@ -67,6 +70,7 @@ others (draw-row n c row out) = 0
 others (draw-picture n c out) = 0
 others (write-font n out) = 1
 others (read-stream b) = 3
+others (choose-sheet rs out) = 0
 
 -- "unchanged", and "A refusal answers 0 for every other number"
 abbrev pub unchanged : Call → ℕ → List ℕ → Outcome
@@ -153,3 +157,13 @@ abbrev pub Demand3 : Type 0
 Demand3 =
     (s : List ℕ) → outcome make-fresh s .refusal ≡ 0 → (calls : List Call) (r : Request) → inRange r ≡ true
     → Chooses r (ran calls (leaves make-fresh s)) (bookAfter calls (leaves make-fresh s))
+
+-- ── W-201: "each entry what a single choice would give on the same store"
+-- for every sheet that is done and each of its requests: the entry's two numbers are those that choosing answers
+abbrev pub SheetBySingles : Type 0
+SheetBySingles =
+    (rs : List Request) (out : List SheetAnswer) (s : List ℕ) → outcome (choose-sheet rs out) s .refusal ≡ 0
+    → (i : ℕ) (none : Request) → i < length rs
+    → let sheet : List ℕ = outcome (choose-sheet rs out) s .out in
+    let choice : Outcome = outcome (choose-font (getD rs i none)) s in
+    (getD sheet (2 * i) 0 ≡ getD (choice .numbers) 0 0) × (getD sheet (2 * i + 1) 0 ≡ choice .refusal)

@@ -5,11 +5,11 @@ use mathlib.Core.List.{List, [], _∷_}
 use mathlib.Core.Bool.{Bool, true, false}
 use lib.Dec.{eqb}
 use lib.ListN.{replicate}
-use Rattle.marlinfold.specs.Calls.{Call, make-fresh, download-font, download-character, remove-font, remove-character, choose-font, tell-font, tell-character, draw-row, draw-picture, write-font, read-stream, outcome}
+use Rattle.marlinfold.specs.Calls.{Call, make-fresh, download-font, download-character, remove-font, remove-character, choose-font, tell-font, tell-character, draw-row, draw-picture, write-font, read-stream, choose-sheet, outcome}
 use Rattle.marlinfold.specs.Demands.{listed}
-use Rattle.marlinfold.specs.Trials.{A, asks, storeAfter}
+use Rattle.marlinfold.specs.Trials.{A, requestWith, asks, storeAfter}
 
--- the calls by the order in which document 01 names them
+-- the calls by the order in which documents 01 and 02 name them
 unfoldable pub kind : Call → ℕ
 kind make-fresh = 1
 kind (download-font n b) = 2
@@ -23,6 +23,7 @@ kind (draw-row n c row out) = 9
 kind (draw-picture n c out) = 10
 kind (write-font n out) = 11
 kind (read-stream b) = 12
+kind (choose-sheet rs out) = 13
 
 -- a first block of class 2 for font 5, w dots wide and h rows high
 unfoldable pub sending : ℕ → ℕ → List ℕ → Call
@@ -95,6 +96,9 @@ occurrences =
     ∷ at 12 [] (write-font 5 []) 6
     ∷ at 84 (A ∷ []) (write-font 5 []) 12
     ∷ at 0 [] (read-stream []) 1
+    ∷ at 0 [] (choose-sheet [] []) 1
+    ∷ at 12 [] (choose-sheet (replicate 65 (requestWith 277 1000 0 0)) []) 2
+    ∷ at 12 [] (choose-sheet (requestWith 277 1000 0 0 ∷ []) []) 12
     ∷ []
 
 abbrev pub AllOccur : List Occurrence → Type 0

@@ -8,6 +8,7 @@ use Rattle.blocks.specs.Rows.{picture}
 use Rattle.blocks.specs.declared.picture.Judged.{Judged}
 use Rattle.blocks.specs.declared.picture.Judged.the-variants.{Complete, PastWidth}
 use Rattle.choice.specs.Request.{requestOf}
+use Rattle.choice.specs.declared.Request.{Request}
 use Rattle.marlinfold.specs.Calls.{Call, make-fresh, download-font, choose-font, Answer, answer, ran}
 
 -- ── the fonts
@@ -39,9 +40,11 @@ unfoldable pub all : List Call
 all = A ∷ B ∷ C ∷ D ∷ []
 
 -- "Base request: 277, fixed, R 1000, H 1200, style 0, weight 0, face 3, portrait": with another set, R, weight (32 bits) and page
+unfoldable pub requestWith : ℕ → ℕ → ℕ → ℕ → Request
+requestWith set R w page = requestOf set 0 R 1200 0 w 3 page
+
 unfoldable pub asks : ℕ → ℕ → ℕ → ℕ → Call
-asks set R w page =
-    choose-font (requestOf set 0 R 1200 0 w 3 page)
+asks set R w page = choose-font (requestWith set R w page)
 
 -- ── the trials
 pub data Trial : Type 0 where

@@ -3,9 +3,10 @@ ghost use mathlib.Core.Path.{_≡_};
 ghost use mathlib.Core.List.{_∷_, []};
 ghost use Rattle.choice.specs.Request.{requestOf};
 ghost use Rattle.choice.specs.Choosing.{refusalOf, fontOf};
-ghost use Rattle.marlinfold.specs.Calls.{make-fresh, download-font, download-character, remove-font, remove-character, choose-font, tell-font, tell-character, draw-row, draw-picture, write-font, read-stream, answered, outcome};
+ghost use Rattle.marlinfold.specs.Calls.{make-fresh, download-font, download-character, remove-font, remove-character, choose-font, tell-font, tell-character, draw-row, draw-picture, write-font, read-stream, choose-sheet, answerNumbers, answered, outcome};
 use choice::Chosen;
 use choice::Request;
+use sheet::SheetAnswer;
 use store::characters;
 use store::download;
 use store::drawing;
@@ -61,23 +62,10 @@ pub extern "C" fn mf_remove_character(store: &mut [u8], font: u32, code: u32) ->
 fn font_chosen(a: Chosen) -> FontChosen
     ensures { λ r. ⌜ (r .refusal ≡ refusalOf a) × (r .font ≡ fontOf a) ⌝ }
 {
-    match a {
-        Chosen::Number(n) => FontChosen {
-            refusal: 0,
-            font: n,
-        },
-        Chosen::NotStore => FontChosen {
-            refusal: 1,
-            font: 0,
-        },
-        Chosen::OutOfRange => FontChosen {
-            refusal: 2,
-            font: 0,
-        },
-        Chosen::NoFont => FontChosen {
-            refusal: 11,
-            font: 0,
-        },
+    let e = sheet::answer_of(a);
+    FontChosen {
+        refusal: e.refusal,
+        font: e.font,
     }
 }
 
@@ -148,4 +136,27 @@ pub extern "C" fn mf_read_stream(store: &mut [u8], stream: &[u8]) -> StreamRead
     ensures { λ r. ⌜ answered (r .refusal) (r .done ∷ r .refused ∷ r .place ∷ []) (now (store .exit)) [] ≡ outcome (read-stream (now (stream .entry))) (now (store .entry)) ⌝ }
 {
     reading::read_stream(store, stream)
+}
+
+// W-201. The borrow checker does not cover slices of structs, so this proof is written by hand; all that is decided here is decided by the two calls.
+#[no_mangle]
+pub extern "C" fn mf_choose_sheet(
+    store: &[u8],
+    requests: &[Request],
+    answers: &mut [SheetAnswer],
+) -> u32
+    ensures { λ r. ⌜ answered r [] (now (store .entry)) (answerNumbers (now (answers .exit))) ≡ outcome (choose-sheet (now (requests .entry)) (now (answers .entry))) (now (store .entry)) ⌝ }
+{
+    let begin = sheet::begin_sheet(store, requests.len(), answers.len());
+    if begin.refusal != 0 {
+        return begin.refusal;
+    }
+    let from = begin.from;
+    let mut i: usize = 0;
+    while i < requests.len() {
+        let r = requests[i];
+        answers[i] = sheet::answer_request(store, from, r);
+        i = i + 1;
+    }
+    0
 }
