@@ -21,6 +21,8 @@
  *   A pointer is followed by its length. It must be valid for that many bytes
  *   (for writing, where it is not const). For a length of 0 nothing is read or
  *   written, but the pointer must still not be NULL.
+ *   The lists of mf_choose_sheet are arrays: their pointers are followed by the
+ *   number of entries, and aligned as C aligns such arrays.
  *   Buffers lent to one call must not overlap.
  *   Calls on different stores may run in parallel, and so may calls that only
  *   look at one store (those that take it as const), each with an output of its
@@ -66,6 +68,7 @@ enum mf_refusal {
 #define MF_FONT_MAX 32767      /* font numbers are 0..32767 */
 #define MF_CODE_MAX 255        /* character codes are 0..255 */
 #define MF_ROMAN_8 277         /* symbol set 8U: number x 32 + letter - 64 */
+#define MF_SHEET_MAX 64        /* the most requests that one sheet has */
 /* As in a header's bytes 13 and 12. */
 enum mf_spacing { MF_FIXED = 0, MF_PROPORTIONAL = 1 };
 enum mf_orientation { MF_PORTRAIT = 0, MF_LANDSCAPE = 1 };
@@ -217,6 +220,71 @@ mf_chosen mf_choose(const uint8_t *store, size_t store_len,
                     uint32_t symbol_set, uint32_t spacing, uint32_t pitch,
                     uint32_t height, uint32_t style, int32_t weight,
                     uint32_t typeface, uint32_t orientation);
+
+/* One request of a sheet: the numbers of mf_choose, in its order. */
+typedef struct {
+    uint32_t symbol_set;  /* 0..2047 */
+    uint32_t spacing;     /* MF_FIXED or MF_PROPORTIONAL */
+    uint32_t pitch;       /* hundredths of a character per inch, 0..57600 */
+    uint32_t height;      /* hundredths of a point, 0..99975 */
+    uint32_t style;       /* 0..1023 */
+    int32_t weight;       /* -7..7 */
+    uint32_t typeface;    /* 0..65535 */
+    uint32_t orientation; /* of the page: MF_PORTRAIT or MF_LANDSCAPE */
+} mf_request;
+
+/* What one request of a sheet gets. */
+typedef struct {
+    uint32_t font;    /* 0..MF_FONT_MAX; 0 if the request is refused */
+    uint32_t refusal; /* MF_DONE, MF_OUT_OF_RANGE or MF_NONE_TO_CHOOSE */
+} mf_answer;
+
+/* The library reads and writes both as numbers of 32 bits without gaps. A C11 or
+ * C++11 compiler checks here that it lays them out so. */
+#if defined(__cplusplus) && __cplusplus >= 201103L
+#define MF_CHECK_LAYOUT(holds) static_assert(holds, "not laid out as the library has it")
+#elif !defined(__cplusplus) && defined(__STDC_VERSION__) && __STDC_VERSION__ >= 201112L
+#define MF_CHECK_LAYOUT(holds) _Static_assert(holds, "not laid out as the library has it")
+#endif
+#ifdef MF_CHECK_LAYOUT
+MF_CHECK_LAYOUT(offsetof(mf_request, symbol_set) == 0);
+MF_CHECK_LAYOUT(offsetof(mf_request, spacing) == 4);
+MF_CHECK_LAYOUT(offsetof(mf_request, pitch) == 8);
+MF_CHECK_LAYOUT(offsetof(mf_request, height) == 12);
+MF_CHECK_LAYOUT(offsetof(mf_request, style) == 16);
+MF_CHECK_LAYOUT(offsetof(mf_request, weight) == 20);
+MF_CHECK_LAYOUT(offsetof(mf_request, typeface) == 24);
+MF_CHECK_LAYOUT(offsetof(mf_request, orientation) == 28);
+MF_CHECK_LAYOUT(sizeof(mf_request) == 32);
+MF_CHECK_LAYOUT(offsetof(mf_answer, font) == 0);
+MF_CHECK_LAYOUT(offsetof(mf_answer, refusal) == 4);
+MF_CHECK_LAYOUT(sizeof(mf_answer) == 8);
+#undef MF_CHECK_LAYOUT
+#endif
+
+/* Chooses for a whole sheet: answers[i] becomes what mf_choose answers for
+ * requests[i] on this store. The store is checked once for all of them, so that a
+ * sheet is much faster than a call for each request.
+ * Both counts are of entries, not of bytes. A request with a number out of range
+ * (MF_OUT_OF_RANGE), or that no font is there for (MF_NONE_TO_CHOOSE), has this in
+ * its own answer alone: the call is done, and the other requests get their fonts.
+ * Answers beyond the requests keep their bytes. A sheet of 0 requests is done and
+ * writes nothing.
+ *
+ *     mf_request requests[2] = {
+ *         {MF_ROMAN_8, MF_FIXED, 1000, 1200, 0, 0, 3, MF_PORTRAIT},
+ *         {MF_ROMAN_8, MF_PROPORTIONAL, 0, 800, 0, 3, 4, MF_PORTRAIT}};
+ *     mf_answer answers[2];
+ *     if (mf_choose_sheet(store, sizeof store, requests, 2, answers, 2) == MF_DONE
+ *         && answers[0].refusal == MF_DONE)
+ *         use(answers[0].font);
+ *
+ * Refuses the sheet as a whole, with every answer left as it was: 1 (MF_NOT_A_STORE);
+ * 2 (MF_OUT_OF_RANGE) if request_count is above MF_SHEET_MAX; 12 (MF_OUTPUT_SHORT) if
+ * answer_count is below request_count. */
+uint32_t mf_choose_sheet(const uint8_t *store, size_t store_len,
+                         const mf_request *requests, size_t request_count,
+                         mf_answer *answers, size_t answer_count);
 
 /* Copies a font's 64 kept bytes to out and answers how many characters it has.
  * Refuses: 1, 2, 6, 12 if out_len is below MF_FONT_BYTES. */

@@ -2,11 +2,13 @@
 
 use crate::block::Header;
 use crate::store::{View, FONT_MAX};
-use crate::{Refusal, Request};
+use crate::{Answer, Refusal, Request};
 
 /// "8U (Roman-8) is 277".
 const ROMAN_8: u32 = 277;
 const FIXED: u32 = 0;
+/// 02, W-201: "A label sheet asks for up to 64 fonts."
+const SHEET_MAX: usize = 64;
 
 impl Request {
     /// 01, Choosing: "A request: symbol set 0..2047, spacing 0 or 1, pitch R in
@@ -35,6 +37,34 @@ pub fn choose(view: &View, request: &Request) -> Result<u32, Refusal> {
         .min()
         .map(|best| (best & u64::from(FONT_MAX)) as u32)
         .ok_or(Refusal::NoneToChoose)
+}
+
+/// 02, W-201: "hand over a list of request records and get a list of font
+/// numbers and refusal numbers, each entry what a single choice would give on
+/// the same store. An out-of-range request refuses only its own entry."
+/// "Refusals: 1, then 2 for more than 64 requests, then 12 for an answer list
+/// shorter than the request list."
+pub fn choose_sheet(
+    view: &View,
+    requests: &[Request],
+    answers: &mut [Answer],
+) -> Result<(), Refusal> {
+    if requests.len() > SHEET_MAX {
+        return Err(Refusal::OutOfRange);
+    }
+    let Some(answers) = answers.get_mut(..requests.len()) else {
+        return Err(Refusal::OutputShort);
+    };
+    for (request, answer) in requests.iter().zip(answers) {
+        *answer = match choose(view, request) {
+            Ok(font) => Answer { font, refusal: 0 },
+            Err(refusal) => Answer {
+                font: 0,
+                refusal: refusal as u32,
+            },
+        };
+    }
+    Ok(())
 }
 
 /// Where a font stands before this request, the lowest chosen, or nothing if it

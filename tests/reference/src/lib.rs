@@ -3,8 +3,9 @@
 //!
 //! "01" in the comments is document 01, which decides every rule. What stands
 //! in quotation marks are its own words, so that each rule can be held beside
-//! its passage. "Readings" are those of docs/DECISIONS.md: how 01 is read where
-//! it leaves a doubt; README.md has what neither settles.
+//! its passage. "02" is document 02, the requests that came later, each named by
+//! its number; it amends 01. "Readings" are those of docs/DECISIONS.md: how both
+//! are read where they leave a doubt; README.md has what neither settles.
 //!
 //! Every call takes any numbers and any buffers and answers 01's number of
 //! refusal, 0 for done. None asks for memory: the store is checked once per
@@ -83,6 +84,11 @@ pub struct StreamRead {
 
 /// What choosing is asked (01, "Choosing"). The pitch is in hundredths of a
 /// character per inch, the height in hundredths of a point.
+///
+/// 02, W-201: "A record holds the request's numbers in document 01's order, ones
+/// added later last; an answer is the font number, then the refusal number; all
+/// of 32 bits." Both lie as in C, so that one list can be lent to either side.
+#[repr(C)]
 #[derive(Clone, Copy, Debug, Default, PartialEq, Eq)]
 pub struct Request {
     pub symbol_set: u32,
@@ -93,6 +99,14 @@ pub struct Request {
     pub weight: i32,
     pub typeface: u32,
     pub orientation: u32,
+}
+
+/// What one request of a sheet gets.
+#[repr(C)]
+#[derive(Clone, Copy, Debug, Default, PartialEq, Eq)]
+pub struct Answer {
+    pub font: u32,
+    pub refusal: u32,
 }
 
 /// "A call with no answer named here answers only 0."
@@ -137,6 +151,10 @@ pub fn choose(store: &[u8], request: &Request) -> Chosen {
             font: 0,
         },
     }
+}
+
+pub fn choose_sheet(store: &[u8], requests: &[Request], answers: &mut [Answer]) -> u32 {
+    number(View::of(store).and_then(|view| choice::choose_sheet(&view, requests, answers)))
 }
 
 pub fn tell_font(store: &[u8], out: &mut [u8], font: u32) -> Told {

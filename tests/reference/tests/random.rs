@@ -169,6 +169,12 @@ fn request(chance: &mut Chance) -> Request {
     request
 }
 
+fn sheet(chance: &mut Chance) -> Vec<Request> {
+    let several = chance.below(9);
+    let requests = chance.of(&[0, 1, several, several, 63, 64, 65]);
+    (0..requests).map(|_| request(chance)).collect()
+}
+
 fn stream(chance: &mut Chance, model: &Model) -> Vec<u8> {
     let mut stream = Vec::new();
     for _ in 0..chance.below(12) {
@@ -207,7 +213,7 @@ fn call(chance: &mut Chance, store: &mut [u8], model: &mut Model, met: &mut [u32
     let mut out = vec![0xAA; length];
     let mut expected = out.clone();
     let mut font_struck = false;
-    let refusal = match chance.below(24) {
+    let refusal = match chance.below(25) {
         0 if chance.once_in(20) => {
             *model = Model::fresh(store.len());
             make_fresh(store)
@@ -283,6 +289,16 @@ fn call(chance: &mut Chance, store: &mut [u8], model: &mut Model, met: &mut [u32
             let answer = model.write_font(&mut expected, font);
             assert_eq!(written, model::written(answer));
             written.refusal
+        }
+        23 => {
+            let requests = sheet(chance);
+            let mut answers = vec![UNWRITTEN; chance.of(&[63, 64, 64, 65, 70])];
+            let mut expected = answers.clone();
+            let refusal = choose_sheet(store, &requests, &mut answers);
+            let answer = model.choose_sheet(&requests, &mut expected);
+            assert_eq!(refusal, model::number(answer));
+            assert_eq!(answers, expected);
+            refusal
         }
         _ => {
             let stream = stream(chance, model);
@@ -431,6 +447,7 @@ fn chance_bytes_are_a_store_exactly_if_the_model_reads_them() {
 fn refuses_all(bytes: &mut [u8], chance: &mut Chance) {
     let before = bytes.to_vec();
     let mut out = [0xAA; 100];
+    let mut answers = [UNWRITTEN; 64];
     let (font, code) = (some_font(chance), some_code(chance));
     let refusals = [
         download_font(bytes, &header(chance), font),
@@ -438,6 +455,7 @@ fn refuses_all(bytes: &mut [u8], chance: &mut Chance) {
         remove_font(bytes, font),
         remove_character(bytes, font, code),
         choose(bytes, &request(chance)).refusal,
+        choose_sheet(bytes, &sheet(chance), &mut answers),
         tell_font(bytes, &mut out, font).refusal,
         tell_character(bytes, &mut out, font, code).refusal,
         draw_row(bytes, &mut out, font, code, 0),
@@ -445,7 +463,8 @@ fn refuses_all(bytes: &mut [u8], chance: &mut Chance) {
         write_font(bytes, &mut out, font).refusal,
         read_stream(bytes, b"?").refusal,
     ];
-    assert_eq!(refusals, [1; 11]);
+    assert_eq!(refusals, [1; 12]);
     assert_eq!(bytes, before);
     assert_eq!(out, [0xAA; 100]);
+    assert_eq!(answers, [UNWRITTEN; 64]);
 }

@@ -145,6 +145,12 @@ pub fn chosen(font: u32) -> Chosen {
     Chosen { refusal: 0, font }
 }
 
+/// An answer of a sheet that nothing has written yet.
+pub const UNWRITTEN: Answer = Answer {
+    font: 0xAAAA_AAAA,
+    refusal: 0xBBBB_BBBB,
+};
+
 /// xorshift.
 pub struct Chance(u64);
 

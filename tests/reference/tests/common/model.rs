@@ -2,7 +2,7 @@
 //! sorted maps, pictures as dots, elimination step by step, and the store's
 //! bytes made anew after each call. Nothing here is shared with the library.
 
-use marlinfold_reference::{Chosen, Request, StreamRead, Told, Written};
+use marlinfold_reference::{Answer, Chosen, Request, StreamRead, Told, Written};
 use std::collections::BTreeMap;
 
 #[derive(Clone, PartialEq, Debug)]
@@ -461,6 +461,20 @@ impl Model {
         });
         prefer(&mut left, |f| u32::from(f.1[12]) == request.orientation);
         Ok(left.iter().map(|f| f.0).min().unwrap())
+    }
+
+    pub fn choose_sheet(&self, requests: &[Request], answers: &mut [Answer]) -> Result<(), u32> {
+        if requests.len() > 64 {
+            return Err(2);
+        }
+        if answers.len() < requests.len() {
+            return Err(12);
+        }
+        for (at, request) in requests.iter().enumerate() {
+            let Chosen { refusal, font } = chosen(self.choose(request));
+            answers[at] = Answer { font, refusal };
+        }
+        Ok(())
     }
 
     pub fn write_font(&self, out: &mut [u8], font: u32) -> Result<u32, u32> {
