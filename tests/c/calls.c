@@ -1,5 +1,6 @@
-/* Calls each of the twelve functions from C and prints what document 01's
- * listing example and its trials say; tests/run compares it with calls.expected. */
+/* Calls the functions of document 01 from C and prints what its listing example
+ * and its trials say; tests/run compares it with calls.expected. The sheet has its
+ * own program, sheet.c. */
 #include "marlinfold.h"
 
 #include <stdio.h>
