@@ -11,7 +11,7 @@ TEXT = Handle with care: 12 x 3.50 (No. 7)
 
 archive = target/staticlib/libmarlinfold.a
 listing = target/bin/listing
-examples = $(addprefix target/examples/,label specimen short)
+examples = $(addprefix target/examples/,label sheet specimen short)
 crates = crates.txt $(shell find crates -type f)
 label = target/examples/label --proportional --height 10
 there = $(DESTDIR)$(PREFIX)
@@ -36,7 +36,7 @@ $(listing): $(crates) | $(archive)
 	rt check listing
 	@touch $@
 
-target/examples/%: examples/%.c examples/page.h include/marlinfold.h $(archive)
+target/examples/%: examples/%.c $(wildcard examples/*.h) include/marlinfold.h $(archive)
 	@mkdir -p $(@D)
 	$(CC) -std=c99 -Wall -Wextra -Werror -pedantic $(CFLAGS) -Iinclude $< $(archive) -o $@
 

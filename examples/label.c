@@ -5,64 +5,24 @@
  * reads soft font streams, asks the library for the font that fits best, and
  * writes the label as a PBM picture of 300 dots to the inch. It says on standard
  * error which font was chosen, and ends with the library's refusal where it
- * cannot. TEXT's bytes are the character codes.
+ * cannot. TEXT's bytes are the character codes. The options are those of
+ * request.h, and
  *
- *     --set SET        symbol set, as 8U or as its number 277   (8U)
- *     --pitch CPI      characters per inch                      (10)
- *     --proportional   proportional spacing, not fixed
- *     --height POINTS                                           (12)
- *     --style N        style word, 0..1023                      (0)
- *     --weight N       stroke weight, -7..7                     (0)
- *     --face N         typeface, 0..65535                       (3)
- *     --landscape      the page's orientation
  *     --plain          PBM in plain digits */
 #include "page.h"
+#include "request.h"
 
 #define MARGIN 12
 
 typedef struct {
-    uint32_t set, spacing, pitch, height, style, typeface, orientation;
-    int32_t weight;
+    mf_request font;
     const unsigned char *text;
     int plain;
-} request;
+} order;
 
 static void usage(void)
 {
-    stop("usage", "label [--set SET] [--pitch CPI] [--proportional] [--height POINTS] "
-                  "[--style N] [--weight N] [--face N] [--landscape] [--plain] "
-                  "TEXT FONTFILE...");
-}
-
-/* A number with up to two decimals, in hundredths; any size that fits, since the
- * library says what is out of range. */
-static uint32_t hundredths(const char *word)
-{
-    char *end;
-    double number = strtod(word, &end);
-    if (*word == '\0' || *end != '\0' || !(number >= 0 && number < 10000000))
-        stop(word, "not a number");
-    return (uint32_t)(100 * number + 0.5);
-}
-
-static long whole(const char *word)
-{
-    char *end;
-    long number = strtol(word, &end, 10);
-    if (*word == '\0' || *end != '\0' || number < -1000000 || number > 1000000)
-        stop(word, "not a number");
-    return number;
-}
-
-/* 8U is 8 x 32 + 'U' - 64; a bare number is the value itself. */
-static uint32_t symbol_set(const char *word)
-{
-    char *end;
-    long number = strtol(word, &end, 10);
-    if (end != word && *end >= 'A' && *end <= 'Z' && end[1] == '\0' && number >= 0 &&
-        number < 1000000)
-        return (uint32_t)(number * 32 + *end - 64);
-    return (uint32_t)whole(word);
+    stop("usage", "label " REQUEST_OPTIONS " [--plain] TEXT FONTFILE...");
 }
 
 /* The cursor after each character, in quarter-dots along the line. Fixed fonts
@@ -89,48 +49,25 @@ static void corner(const uint8_t *font, const uint8_t *character, long cursor, l
         *left += along;
 }
 
-/* Takes an option that has a value; answers 0 if it is none of those. */
-static int set_option(request *asked, const char *option, const char *value)
-{
-    if (strcmp(option, "--set") == 0)
-        asked->set = symbol_set(value);
-    else if (strcmp(option, "--pitch") == 0)
-        asked->pitch = hundredths(value);
-    else if (strcmp(option, "--height") == 0)
-        asked->height = hundredths(value);
-    else if (strcmp(option, "--style") == 0)
-        asked->style = (uint32_t)whole(value);
-    else if (strcmp(option, "--weight") == 0)
-        asked->weight = (int32_t)whole(value);
-    else if (strcmp(option, "--face") == 0)
-        asked->typeface = (uint32_t)whole(value);
-    else
-        return 0;
-    return 1;
-}
-
 /* Takes the words of the command line, and reads each font file into the store. */
-static request read_request(int count, char **words)
+static order read_order(int count, char **words)
 {
-    request asked = {MF_ROMAN_8, MF_FIXED, 1000, 1200, 0, 3, MF_PORTRAIT, 0, NULL, 0};
-    int files = 0, word;
+    order asked = {default_request, NULL, 0};
+    int files = 0, word, taken;
 
-    for (word = 1; word < count; word++) {
-        const char *option = words[word];
-        if (strcmp(option, "--proportional") == 0)
-            asked.spacing = MF_PROPORTIONAL;
-        else if (strcmp(option, "--landscape") == 0)
-            asked.orientation = MF_LANDSCAPE;
-        else if (strcmp(option, "--plain") == 0)
+    for (word = 1; word < count; word += taken) {
+        taken = set_option(&asked.font, words + word, count - word);
+        if (taken)
+            continue;
+        taken = 1;
+        if (strcmp(words[word], "--plain") == 0)
             asked.plain = 1;
-        else if (strncmp(option, "--", 2) == 0) {
-            if (word + 1 == count || !set_option(&asked, option, words[word + 1]))
-                usage();
-            word++;
-        } else if (!asked.text)
-            asked.text = (const unsigned char *)option;
+        else if (strncmp(words[word], "--", 2) == 0)
+            usage();
+        else if (!asked.text)
+            asked.text = (const unsigned char *)words[word];
         else {
-            read_fonts(option);
+            read_fonts(words[word]);
             files++;
         }
     }
@@ -140,26 +77,15 @@ static request read_request(int count, char **words)
 }
 
 /* The font that fits best, its kept bytes, and a line about it for the user. */
-static uint32_t choose(const request *asked, uint8_t *font)
+static uint32_t choose(const mf_request *asked, uint8_t *font)
 {
     mf_chosen chosen =
-        mf_choose(store, sizeof store, asked->set, asked->spacing, asked->pitch, asked->height,
-                  asked->style, asked->weight, asked->typeface, asked->orientation);
-    mf_told told;
+        mf_choose(store, sizeof store, asked->symbol_set, asked->spacing, asked->pitch,
+                  asked->height, asked->style, asked->weight, asked->typeface, asked->orientation);
 
     if (chosen.refusal)
         refuse("choosing", chosen.refusal);
-    told = mf_tell_font(store, sizeof store, font, MF_FONT_BYTES, chosen.font);
-    if (told.refusal)
-        refuse("font", told.refusal);
-    fprintf(stderr,
-            "font %u: set %u, %s, pitch %u, height %u, style %u, weight %d, face %u, %s, "
-            "%u characters\n",
-            (unsigned)chosen.font, (unsigned)mf_field(font, 14),
-            font[13] == MF_FIXED ? "fixed" : "proportional", (unsigned)mf_field(font, 16),
-            (unsigned)mf_field(font, 18), font[4] * 256u + font[23],
-            font[24] < 128 ? font[24] : font[24] - 256, font[26] * 256u + font[25],
-            font[12] == MF_PORTRAIT ? "portrait" : "landscape", (unsigned)told.count);
+    print_font(stderr, chosen.font, font);
     return chosen.font;
 }
 
@@ -211,13 +137,13 @@ int main(int count, char **words)
 {
     uint8_t font[MF_FONT_BYTES];
     box used = {0, 0, 0, 0};
-    request asked;
+    order asked;
     uint32_t number;
     page label;
 
     mf_make_fresh(store, sizeof store);
-    asked = read_request(count, words);
-    number = choose(&asked, font);
+    asked = read_order(count, words);
+    number = choose(&asked.font, font);
     set_line(asked.text, number, font, &used, NULL);
     label = new_page(used.right - used.left + 2 * MARGIN, used.bottom - used.top + 2 * MARGIN);
     set_line(asked.text, number, font, &used, &label);
