@@ -1,5 +1,7 @@
 //! The C interface, as include/marlinfold.h declares it; the benchmark takes it from here too.
 
+pub use marlinfold_reference::{Answer, Request};
+
 #[repr(C)]
 pub struct Chosen {
     pub refusal: u32,
@@ -57,6 +59,14 @@ extern "C" {
         typeface: u32,
         orientation: u32,
     ) -> Chosen;
+    pub fn mf_choose_sheet(
+        store: *const u8,
+        store_len: usize,
+        requests: *const Request,
+        request_count: usize,
+        answers: *mut Answer,
+        answer_count: usize,
+    ) -> u32;
     pub fn mf_tell_font(
         store: *const u8,
         store_len: usize,

@@ -1,5 +1,5 @@
-//! The twelve calls, through the C interface and of the reference, each with
-//! the same arguments and an answer of the same form.
+//! The calls, through the C interface and of the reference, each with the same
+//! arguments and an answer of the same form.
 
 use crate::c;
 use crate::chance::Chance;
@@ -29,6 +29,11 @@ pub enum Call {
         code: u32,
     },
     Choose(Request),
+    /// Its output is the list of answers, `ANSWER` bytes each.
+    ChooseSheet {
+        requests: Vec<Request>,
+        out: Vec<u8>,
+    },
     TellFont {
         out: Vec<u8>,
         font: u32,
@@ -58,13 +63,19 @@ pub enum Call {
     },
 }
 
-pub const NAMES: [&str; 12] = [
+/// "an answer is the font number, then the refusal number; all of 32 bits"
+pub const ANSWER: usize = 8;
+
+pub const CALLS: usize = 13;
+
+pub const NAMES: [&str; CALLS] = [
     "make_fresh",
     "download_font",
     "download_character",
     "remove_font",
     "remove_character",
     "choose",
+    "choose_sheet",
     "tell_font",
     "tell_character",
     "draw_row",
@@ -73,14 +84,15 @@ pub const NAMES: [&str; 12] = [
     "read_stream",
 ];
 
-/// The refusals that document 01 lists for each call, 0 among them.
-pub const POSSIBLE: [&[usize]; 12] = [
+/// The refusals that documents 01 and 02 list for each call, 0 among them.
+pub const POSSIBLE: [&[usize]; CALLS] = [
     &[0, 1],
     &[0, 1, 2, 3, 4, 5, 10],
     &[0, 1, 2, 3, 4, 5, 6, 7, 8, 9, 10],
     &[0, 1, 2, 6],
     &[0, 1, 2, 6, 7],
     &[0, 1, 2, 11],
+    &[0, 1, 2, 12],
     &[0, 1, 2, 6, 12],
     &[0, 1, 2, 6, 7, 12],
     &[0, 1, 2, 6, 7, 12],
@@ -99,19 +111,21 @@ impl Call {
             Call::RemoveFont { .. } => 3,
             Call::RemoveCharacter { .. } => 4,
             Call::Choose(_) => 5,
-            Call::TellFont { .. } => 6,
-            Call::TellCharacter { .. } => 7,
-            Call::DrawRow { .. } => 8,
-            Call::DrawPicture { .. } => 9,
-            Call::WriteFont { .. } => 10,
-            Call::ReadStream { .. } => 11,
+            Call::ChooseSheet { .. } => 6,
+            Call::TellFont { .. } => 7,
+            Call::TellCharacter { .. } => 8,
+            Call::DrawRow { .. } => 9,
+            Call::DrawPicture { .. } => 10,
+            Call::WriteFont { .. } => 11,
+            Call::ReadStream { .. } => 12,
         }
     }
 
     /// What its output holds before; empty if it has none.
     pub fn output(&self) -> &[u8] {
         match self {
-            Call::TellFont { out, .. }
+            Call::ChooseSheet { out, .. }
+            | Call::TellFont { out, .. }
             | Call::TellCharacter { out, .. }
             | Call::DrawRow { out, .. }
             | Call::DrawPicture { out, .. }
@@ -149,6 +163,12 @@ impl fmt::Display for Call {
             Call::RemoveFont { font } => write!(f, " font {font}"),
             Call::RemoveCharacter { font, code } => write!(f, " font {font} code {code}"),
             Call::Choose(request) => write!(f, " {request:?}"),
+            Call::ChooseSheet { requests, out } => write!(
+                f,
+                " {} requests, {} answers, {requests:?}",
+                requests.len(),
+                out.len() / ANSWER
+            ),
             Call::TellFont { out, font } | Call::WriteFont { out, font } => {
                 write!(f, " font {font}, output of {}", out.len())
             }
@@ -195,15 +215,25 @@ impl Answer {
     }
 }
 
+/// A sheet's entries, as answers of single choices.
+pub fn entries(out: &[u8]) -> Vec<Answer> {
+    let pairs = words(out);
+    pairs
+        .chunks_exact(2)
+        .map(|pair| Answer::one(pair[1], pair[0]))
+        .collect()
+}
+
 /// A call's answer, and what its output holds afterwards (empty if it has none).
 pub struct Outcome {
     pub answer: Answer,
     pub out: Vec<u8>,
 }
 
-/// A buffer as it is lent through the C interface, guard bytes around it.
-pub struct Lent {
-    bytes: Vec<u8>,
+/// A buffer as it is lent through the C interface, guards around it: of bytes, or
+/// of a sheet's numbers, which are aligned as such.
+pub struct Lent<T = u8> {
+    all: Vec<T>,
     start: usize,
     end: usize,
 }
@@ -217,40 +247,36 @@ pub struct Lending {
 
 const GUARD: usize = 48;
 
-fn guard_byte(at: usize) -> u8 {
-    (at as u8).wrapping_mul(37) ^ 0xA5
+fn guard<T: From<u8>>(at: usize) -> T {
+    T::from((at as u8).wrapping_mul(37) ^ 0xA5)
 }
 
 impl Lending {
-    pub fn lend(self, content: &[u8], chance: &mut Chance) -> Lent {
+    pub fn lend<T: Copy + From<u8>>(self, content: &[T], chance: &mut Chance) -> Lent<T> {
         if self.exact {
             // `to_vec` allocates no more than it holds.
-            let bytes = content.to_vec();
-            let end = bytes.len();
-            return Lent {
-                bytes,
-                start: 0,
-                end,
-            };
+            let all = content.to_vec();
+            let end = all.len();
+            return Lent { all, start: 0, end };
         }
-        // Any alignment.
+        // Any alignment of bytes.
         let start = GUARD + chance.below(16);
         let end = start + content.len();
-        let mut bytes = Vec::with_capacity(end + GUARD);
-        bytes.extend((0..start).map(guard_byte));
-        bytes.extend_from_slice(content);
-        bytes.extend((end..end + GUARD).map(guard_byte));
-        Lent { bytes, start, end }
+        let mut all = Vec::with_capacity(end + GUARD);
+        all.extend((0..start).map(guard::<T>));
+        all.extend_from_slice(content);
+        all.extend((end..end + GUARD).map(guard::<T>));
+        Lent { all, start, end }
     }
 }
 
-impl Lent {
-    pub fn content(&self) -> &[u8] {
-        &self.bytes[self.start..self.end]
+impl<T: PartialEq + From<u8>> Lent<T> {
+    pub fn content(&self) -> &[T] {
+        &self.all[self.start..self.end]
     }
 
-    pub fn content_mut(&mut self) -> &mut [u8] {
-        &mut self.bytes[self.start..self.end]
+    pub fn content_mut(&mut self) -> &mut [T] {
+        &mut self.all[self.start..self.end]
     }
 
     fn len(&self) -> usize {
@@ -259,14 +285,14 @@ impl Lent {
 
     /// Also for what the library must not write: that it doesn't is tested, so
     /// the pointer must be one through which it could.
-    fn pointer(&mut self) -> *mut u8 {
+    fn pointer(&mut self) -> *mut T {
         self.content_mut().as_mut_ptr()
     }
 
     pub fn check_guards(&self, what: &str) -> Result<(), String> {
-        let outside = (0..self.start).chain(self.end..self.bytes.len());
+        let outside = (0..self.start).chain(self.end..self.all.len());
         for at in outside {
-            if self.bytes[at] != guard_byte(at) {
+            if self.all[at] != guard(at) {
                 return Err(format!(
                     "{what}: wrote at {} of a buffer of {}",
                     at as isize - self.start as isize,
@@ -278,6 +304,65 @@ impl Lent {
     }
 }
 
+/// "A record holds the request's numbers in document 01's order, ..; all of 32
+/// bits", spelled here, not left to a struct.
+fn record(request: &Request) -> [u32; 8] {
+    [
+        request.symbol_set,
+        request.spacing,
+        request.pitch,
+        request.height,
+        request.style,
+        request.weight as u32,
+        request.typeface,
+        request.orientation,
+    ]
+}
+
+fn words(bytes: &[u8]) -> Vec<u32> {
+    let word = |four: &[u8]| u32::from_ne_bytes([four[0], four[1], four[2], four[3]]);
+    bytes.chunks_exact(4).map(word).collect()
+}
+
+fn bytes(words: &[u32]) -> Vec<u8> {
+    words.iter().flat_map(|word| word.to_ne_bytes()).collect()
+}
+
+/// The sheet's call through the C interface.
+fn our_sheet(
+    store: &mut Lent,
+    requests: &[Request],
+    before: &[u8],
+    lending: Lending,
+    chance: &mut Chance,
+) -> Result<Outcome, String> {
+    let records: Vec<u32> = requests.iter().flat_map(record).collect();
+    let mut asked = lending.lend(&records, chance);
+    let mut out = lending.lend(&words(before), chance);
+    // SAFETY: each pointer is valid for as many entries as are said, of 8 and of
+    // 2 numbers, and aligned; none overlap, and none is kept after the call.
+    let refusal = unsafe {
+        c::mf_choose_sheet(
+            store.pointer(),
+            store.len(),
+            asked.pointer().cast(),
+            requests.len(),
+            out.pointer().cast(),
+            before.len() / ANSWER,
+        )
+    };
+    store.check_guards("store")?;
+    asked.check_guards("requests")?;
+    out.check_guards("answers")?;
+    if asked.content() != records {
+        return Err("requests: changed".into());
+    }
+    Ok(Outcome {
+        answer: Answer::bare(refusal),
+        out: bytes(out.content()),
+    })
+}
+
 /// The call through the C interface.
 pub fn ours(
     call: &Call,
@@ -285,6 +370,9 @@ pub fn ours(
     lending: Lending,
     chance: &mut Chance,
 ) -> Result<Outcome, String> {
+    if let Call::ChooseSheet { requests, out } = call {
+        return our_sheet(store, requests, out, lending, chance);
+    }
     let (at, len) = (store.pointer(), store.len());
     let mut only_read: &[u8] = &[];
     let mut out = None;
@@ -341,6 +429,7 @@ pub fn ours(
                 );
                 Answer::one(chosen.refusal, chosen.font)
             }
+            Call::ChooseSheet { .. } => unreachable!("our_sheet makes it"),
             Call::TellFont { font, .. } => {
                 let told = c::mf_tell_font(at, len, to, to_len, font);
                 Answer::one(told.refusal, told.count)
@@ -403,6 +492,21 @@ pub fn theirs(call: &Call, store: &mut [u8]) -> Outcome {
         Call::Choose(request) => {
             let chosen = reference::choose(store, request);
             Answer::one(chosen.refusal, chosen.font)
+        }
+        Call::ChooseSheet { requests, out } => {
+            let mut answers: Vec<reference::Answer> = words(out)
+                .chunks_exact(2)
+                .map(|pair| reference::Answer {
+                    font: pair[0],
+                    refusal: pair[1],
+                })
+                .collect();
+            let refusal = reference::choose_sheet(store, requests, &mut answers);
+            output = answers
+                .iter()
+                .flat_map(|answer| bytes(&[answer.font, answer.refusal]))
+                .collect();
+            Answer::bare(refusal)
         }
         Call::TellFont { font, .. } => {
             let told = reference::tell_font(store, &mut output, *font);

@@ -2,7 +2,7 @@
 //! kept data ends, streams whole, cut and damaged, and buffers that are nearly
 //! stores. What to aim at is read from the reference's store.
 
-use crate::calls::{Call, Request};
+use crate::calls::{Call, Request, ANSWER};
 use crate::chance::Chance;
 use marlinfold_reference as reference;
 
@@ -624,6 +624,31 @@ impl Generator<'_> {
         request
     }
 
+    /// A sheet of few requests, of as many as it may have, or of too many; with
+    /// enough answers or too few.
+    fn sheet(&mut self, store: &[u8]) -> Call {
+        let count = match self.chance.below(8) {
+            0 => 0,
+            1 => 1,
+            2 => self.chance.of(&[63, 64, 64]),
+            3 => self.chance.of(&[65, 65, 66, 100]),
+            _ => self.chance.between(2, 12),
+        };
+        let requests: Vec<Request> = (0..count).map(|_| self.request(store)).collect();
+        let answers = match self.chance.below(8) {
+            0 => count.saturating_sub(1),
+            1 => self.chance.below(count + 1),
+            2 => self.chance.of(&[0, 63, 64]),
+            3 | 4 => count + 1 + self.chance.below(9),
+            _ => count,
+        };
+        let out = match self.chance.once_in(2) {
+            true => vec![0xFF; ANSWER * answers],
+            false => self.chance.bytes(ANSWER * answers),
+        };
+        Call::ChooseSheet { requests, out }
+    }
+
     /// An output for `needed` bytes: short, exact or longer.
     fn output(&mut self, needed: usize) -> Vec<u8> {
         let length = match self.chance.below(8) {
@@ -856,8 +881,8 @@ impl Generator<'_> {
         }
     }
 
-    /// Any of the twelve, aimed at what the store holds; a buffer that is no
-    /// store gets any call.
+    /// Any call, aimed at what the store holds; a buffer that is no store gets
+    /// any too.
     pub fn call(&mut self, store: &[u8]) -> Call {
         let shown: &[u8] = match reference::is_store(store) {
             true => store,
@@ -865,7 +890,7 @@ impl Generator<'_> {
         };
         let (font, code) = self.character_number(shown);
         let needs = |of: fn(&Kept) -> usize| character(shown, font, code).map_or(40, |c| of(&c));
-        match self.chance.below(33) {
+        match self.chance.below(35) {
             0 if self.chance.once_in(6) => Call::MakeFresh,
             0..=5 => Call::DownloadFont {
                 block: self.header(),
@@ -917,6 +942,7 @@ impl Generator<'_> {
                     font,
                 }
             }
+            30 | 31 => self.sheet(shown),
             _ => Call::ReadStream {
                 stream: self.stream(shown),
             },

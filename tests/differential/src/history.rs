@@ -2,7 +2,7 @@
 //! what demands 1 to 3 ask.
 
 use crate::book::{self, Book, Font};
-use crate::calls::{ours, theirs, Answer, Call, Lending, Lent, Request};
+use crate::calls::{entries, ours, theirs, Answer, Call, Lending, Lent, Request, ANSWER};
 use crate::chance::Chance;
 use crate::generate::{self, Generator, Reading, Theme};
 use crate::met::Met;
@@ -176,7 +176,12 @@ impl History<'_> {
     /// demand 3 asked.
     fn step(&mut self, pair: &mut Pair, call: Call) -> Found<()> {
         let before = pair.theirs.clone();
-        let answer = self.both(pair, &call)?;
+        let (answer, out) = self.both_with_output(pair, &call)?;
+        if let Call::ChooseSheet { requests, .. } = &call {
+            if answer.refusal == 0 {
+                self.sheet_one_by_one(pair, requests, &out)?;
+            }
+        }
         if let Call::ReadStream { stream } = &call {
             self.stream_one_by_one(&before, stream, &answer, pair)?;
         } else {
@@ -221,6 +226,36 @@ impl History<'_> {
         }
         if alone.content() != pair.ours.content() {
             return Err("a stream's commands made one by one leave another store".into());
+        }
+        Ok(())
+    }
+
+    /// W-201: "each entry what a single choice would give on the same store. An
+    /// out-of-range request refuses only its own entry."
+    fn sheet_one_by_one(&mut self, pair: &mut Pair, requests: &[Request], out: &[u8]) -> Found<()> {
+        let mut out_of_range = false;
+        for (request, entry) in requests.iter().zip(entries(out)) {
+            let call = Call::Choose(*request);
+            let (alone, _) = self.only_ours(&mut pair.ours, &call)?;
+            if entry != alone {
+                return Err(format!(
+                    "{call}\n  answered {alone:?}, in a sheet {entry:?}"
+                ));
+            }
+            match entry.refusal {
+                2 => {
+                    self.met.situation("sheet's entry out of range");
+                    out_of_range = true;
+                }
+                11 => self.met.situation("sheet's entry with none to choose"),
+                _ => {
+                    self.met.situation("sheet's entry done");
+                    if out_of_range {
+                        self.met
+                            .situation("sheet's entry done behind one out of range");
+                    }
+                }
+            }
         }
         Ok(())
     }
@@ -575,6 +610,26 @@ impl History<'_> {
                     } else if refusal == 0 && *row as usize + 1 == kept.height {
                         met.situation("last row drawn");
                     }
+                }
+            }
+            (Call::ChooseSheet { requests, out }, refusal) => {
+                let room = out.len() / ANSWER;
+                match (requests.len(), refusal) {
+                    (0, 0) => met.situation("sheet without requests"),
+                    (64, 0) => met.situation("sheet of 64 requests"),
+                    (65, 2) if room == 64 => {
+                        met.situation("sheet of 65 requests, answers for 64");
+                    }
+                    (_, 12) => {
+                        let alone = |request| reference::choose(before, request).refusal;
+                        if requests.iter().all(|request| alone(request) == 2) {
+                            met.situation("sheet refused with 12, all its requests out of range");
+                        }
+                    }
+                    _ => {}
+                }
+                if refusal == 0 && room > requests.len() {
+                    met.situation("sheet with answers to spare");
                 }
             }
             (Call::ReadStream { .. }, 13) if answer.numbers[0] > 0 => {

@@ -1,9 +1,9 @@
 //! What the histories met: each refusal in each call, and situations by name.
 
-use crate::calls::{Answer, Call, NAMES, POSSIBLE};
+use crate::calls::{Answer, Call, CALLS, NAMES, POSSIBLE};
 
 /// Every one must be met by a whole run.
-const SITUATIONS: [&str; 40] = [
+const SITUATIONS: [&str; 49] = [
     "font replaced",
     "font of the open character replaced",
     "font block while a character is open",
@@ -39,6 +39,15 @@ const SITUATIONS: [&str; 40] = [
     "a font struck for lack of room leaves the choice",
     "a font accepted leaves the choice",
     "a font accepted becomes the choice",
+    "sheet without requests",
+    "sheet of 64 requests",
+    "sheet of 65 requests, answers for 64",
+    "sheet with answers to spare",
+    "sheet's entry done",
+    "sheet's entry out of range",
+    "sheet's entry with none to choose",
+    "sheet's entry done behind one out of range",
+    "sheet refused with 12, all its requests out of range",
     "a changed buffer is still a store",
     "a changed buffer is no store",
     "round trip",
@@ -47,19 +56,19 @@ const SITUATIONS: [&str; 40] = [
 ];
 
 pub struct Met {
-    answers: [[u64; 14]; 12],
+    answers: [[u64; 14]; CALLS],
     situations: [u64; SITUATIONS.len()],
 }
 
 impl Met {
     pub fn new() -> Met {
         Met {
-            answers: [[0; 14]; 12],
+            answers: [[0; 14]; CALLS],
             situations: [0; SITUATIONS.len()],
         }
     }
 
-    /// A refusal that document 01 doesn't list for the call is a difference,
+    /// A refusal that no document lists for the call is a difference,
     /// whatever the reference says.
     pub fn count(&mut self, call: &Call, answer: &Answer) -> Result<(), String> {
         let (index, refusal) = (call.index(), answer.refusal as usize);
