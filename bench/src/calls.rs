@@ -3,22 +3,52 @@
 
 use crate::c;
 use marlinfold_reference as reference;
-use reference::Request;
+use reference::{Answer as Entry, Request};
+
+/// As many requests as a sheet may have.
+pub type Sheet = [Request; 64];
 
 /// One call with its numbers; blocks, streams and outputs come beside it.
 #[derive(Clone, Copy)]
 pub enum Call {
     MakeFresh,
-    DownloadFont { font: u32 },
-    DownloadCharacter { font: u32, code: u32 },
-    RemoveFont { font: u32 },
-    RemoveCharacter { font: u32, code: u32 },
+    DownloadFont {
+        font: u32,
+    },
+    DownloadCharacter {
+        font: u32,
+        code: u32,
+    },
+    RemoveFont {
+        font: u32,
+    },
+    RemoveCharacter {
+        font: u32,
+        code: u32,
+    },
     Choose(Request),
-    TellFont { font: u32 },
-    TellCharacter { font: u32, code: u32 },
-    DrawRow { font: u32, code: u32, row: u32 },
-    DrawPicture { font: u32, code: u32 },
-    WriteFont { font: u32 },
+    ChooseSheet(&'static Sheet),
+    /// The same requests, each by a call of its own.
+    ChooseEach(&'static Sheet),
+    TellFont {
+        font: u32,
+    },
+    TellCharacter {
+        font: u32,
+        code: u32,
+    },
+    DrawRow {
+        font: u32,
+        code: u32,
+        row: u32,
+    },
+    DrawPicture {
+        font: u32,
+        code: u32,
+    },
+    WriteFont {
+        font: u32,
+    },
     ReadStream,
 }
 
@@ -31,6 +61,43 @@ fn bare(refusal: u32) -> Answer {
 
 fn two(refusal: u32, number: u32) -> Answer {
     [u64::from(refusal), u64::from(number), 0, 0]
+}
+
+/// An output as a sheet's answers.
+fn entries(out: &mut [u8]) -> &mut [Entry] {
+    // SAFETY: an answer is two numbers, which any bytes are.
+    let (before, entries, after) = unsafe { out.align_to_mut() };
+    assert!(
+        before.is_empty() && after.is_empty(),
+        "an output of answers"
+    );
+    entries
+}
+
+/// Each request's answer, into its place.
+fn each(sheet: &Sheet, out: &mut [u8], choose: impl Fn(&Request) -> Entry) -> Answer {
+    for (request, entry) in sheet.iter().zip(entries(out)) {
+        *entry = choose(request);
+    }
+    bare(0)
+}
+
+fn our_choice(store: *const u8, len: usize, r: &Request) -> c::Chosen {
+    // SAFETY: the caller's pointer is valid for the length beside it.
+    unsafe {
+        c::mf_choose(
+            store,
+            len,
+            r.symbol_set,
+            r.spacing,
+            r.pitch,
+            r.height,
+            r.style,
+            r.weight,
+            r.typeface,
+            r.orientation,
+        )
+    }
 }
 
 pub fn ours(call: Call, store: &mut [u8], input: &[u8], out: &mut [u8]) -> Answer {
@@ -53,21 +120,26 @@ pub fn ours(call: Call, store: &mut [u8], input: &[u8], out: &mut [u8]) -> Answe
             Call::RemoveCharacter { font, code } => {
                 bare(c::mf_remove_character(at, len, font, code))
             }
-            Call::Choose(r) => {
-                let chosen = c::mf_choose(
-                    at,
-                    len,
-                    r.symbol_set,
-                    r.spacing,
-                    r.pitch,
-                    r.height,
-                    r.style,
-                    r.weight,
-                    r.typeface,
-                    r.orientation,
-                );
+            Call::Choose(request) => {
+                let chosen = our_choice(at, len, &request);
                 two(chosen.refusal, chosen.font)
             }
+            Call::ChooseSheet(sheet) => {
+                let out = entries(out);
+                let (to, room) = (out.as_mut_ptr(), out.len());
+                bare(c::mf_choose_sheet(
+                    at,
+                    len,
+                    sheet.as_ptr(),
+                    sheet.len(),
+                    to,
+                    room,
+                ))
+            }
+            Call::ChooseEach(sheet) => each(sheet, out, |request| {
+                let c::Chosen { refusal, font } = our_choice(at, len, request);
+                Entry { font, refusal }
+            }),
             Call::TellFont { font } => told(c::mf_tell_font(at, len, to, to_len, font)),
             Call::TellCharacter { font, code } => {
                 told(c::mf_tell_character(at, len, to, to_len, font, code))
@@ -105,6 +177,11 @@ pub fn theirs(call: Call, store: &mut [u8], input: &[u8], out: &mut [u8]) -> Ans
             let chosen = reference::choose(store, &request);
             two(chosen.refusal, chosen.font)
         }
+        Call::ChooseSheet(sheet) => bare(reference::choose_sheet(store, sheet, entries(out))),
+        Call::ChooseEach(sheet) => each(sheet, out, |request| {
+            let reference::Chosen { refusal, font } = reference::choose(store, request);
+            Entry { font, refusal }
+        }),
         Call::TellFont { font } => {
             let told = reference::tell_font(store, out, font);
             two(told.refusal, told.count)

@@ -1,6 +1,6 @@
 //! The named inputs, each in a store of 4, 16 and 64 KiB.
 
-use crate::calls::Call;
+use crate::calls::{Call, Sheet};
 use marlinfold_reference::{self as reference, Request};
 
 /// A call with all that it needs, at one size.
@@ -15,11 +15,15 @@ pub struct Input {
 /// A name, and its input for a store of a length.
 pub type Named = (&'static str, fn(usize) -> Input);
 
-pub const INPUTS: [Named; 22] = [
+pub const INPUTS: [Named; 26] = [
     ("choose, store full of fonts", choose_among_fonts),
     ("choose, class 2 characters kept", choose_beside_runs),
     ("choose, class 1 characters kept", choose_beside_dots),
     ("choose, store nearly empty", choose_nearly_empty),
+    ("sheet of 64, store full of fonts", sheet_among_fonts),
+    ("64 choices, store full of fonts", each_among_fonts),
+    ("sheet of 64, class 2 characters kept", sheet_beside_runs),
+    ("64 choices, class 2 characters kept", each_beside_runs),
     ("make fresh", make_fresh),
     ("font at the front of a full store", font_at_the_front),
     ("font in place of a full one", font_replaced),
@@ -56,6 +60,25 @@ const REQUEST: Request = Request {
     typeface: 3,
     orientation: 0,
 };
+
+/// Requests that vary as the fonts do, so that they get many of them.
+static SHEET: Sheet = {
+    let mut sheet = [REQUEST; 64];
+    let mut at = 0;
+    while at < sheet.len() {
+        let number = at as u32;
+        sheet[at].symbol_set = if number % 7 == 6 { 341 } else { 277 };
+        sheet[at].pitch = 1000 + number % 3 * 10;
+        sheet[at].height = 1200 + number % 5 * 30;
+        sheet[at].weight = (number % 15) as i32 - 7;
+        sheet[at].typeface = number % 4;
+        at += 1;
+    }
+    sheet
+};
+
+/// The bytes of its answers.
+const SHEET_OUT: usize = 8 * 64;
 
 /// A header whose fields vary with its number, so that choosing must look.
 fn header(number: usize) -> Vec<u8> {
@@ -141,6 +164,30 @@ fn full_of_characters(length: usize, spare: usize, class: u8) -> (Vec<u8>, u32) 
     (store, codes)
 }
 
+/// Ten fonts, and class 2 characters of codes 1, 2, .. in each of them in turn, as
+/// long as they fit: 60 KB of them in 64 KiB.
+fn fonts_with_runs(length: usize) -> Vec<u8> {
+    let mut store = fresh(length);
+    for number in 1..=10 {
+        let block = header(number);
+        assert_eq!(
+            reference::download_font(&mut store, &block, number as u32),
+            0
+        );
+    }
+    let data = runs(96, 20, 17);
+    let block = first_block(2, 96, 20, &data);
+    let characters = (length - 12 - 10 * 72) / (26 + data.len());
+    for at in 0..characters as u32 {
+        let (font, code) = (1 + at % 10, 1 + at / 10);
+        assert_eq!(
+            reference::download_character(&mut store, &block, font, code),
+            0
+        );
+    }
+    store
+}
+
 fn input(store: Vec<u8>, call: Call) -> Input {
     Input {
         store,
@@ -167,6 +214,31 @@ fn choose_nearly_empty(length: usize) -> Input {
     let mut store = fresh(length);
     reference::download_font(&mut store, &header(1), 5);
     input(store, Call::Choose(REQUEST))
+}
+
+fn sheet(store: Vec<u8>, call: Call) -> Input {
+    Input {
+        out: SHEET_OUT,
+        ..input(store, call)
+    }
+}
+
+fn sheet_among_fonts(length: usize) -> Input {
+    let store = full_of_fonts(length, length / 100).0;
+    sheet(store, Call::ChooseSheet(&SHEET))
+}
+
+fn each_among_fonts(length: usize) -> Input {
+    let store = full_of_fonts(length, length / 100).0;
+    sheet(store, Call::ChooseEach(&SHEET))
+}
+
+fn sheet_beside_runs(length: usize) -> Input {
+    sheet(fonts_with_runs(length), Call::ChooseSheet(&SHEET))
+}
+
+fn each_beside_runs(length: usize) -> Input {
+    sheet(fonts_with_runs(length), Call::ChooseEach(&SHEET))
 }
 
 fn make_fresh(length: usize) -> Input {

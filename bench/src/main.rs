@@ -70,6 +70,21 @@ impl Bench {
     }
 }
 
+/// A sheet's time at 64 KiB over that of a call for each of its requests. The store
+/// is checked once for a sheet: where that is most of the work, among few fonts, it
+/// must be below a tenth.
+fn sheets(measured: &[(&str, f64)]) {
+    for (name, sheet) in measured {
+        let Some(store) = name.strip_prefix("sheet of 64, ") else {
+            continue;
+        };
+        let same = |(other, _): &&(&str, f64)| other.strip_prefix("64 choices, ") == Some(store);
+        if let Some((_, each)) = measured.iter().find(same) {
+            println!("a sheet to its 64 choices: {:.3}, {store}", sheet / each);
+        }
+    }
+}
+
 fn main() {
     let part = std::env::args().nth(1).unwrap_or_default();
     println!(
@@ -81,15 +96,15 @@ fn main() {
         "", "4 KiB", "16 KiB", "64 KiB", "its 64", "ratio", "growth", "its own"
     );
     let mut worst: Vec<(f64, &str)> = Vec::new();
-    let mut measured = 0;
+    let mut measured: Vec<(&str, f64)> = Vec::new();
     for (name, make) in INPUTS {
         if !name.contains(&part) {
             continue;
         }
-        measured += 1;
         let times = SIZES.map(|size| Bench::best(make(size)));
         let (ours, theirs) = times[2];
         let ratio = ours / theirs;
+        measured.push((name, ours));
         println!(
             "{name:38} {:8.2} {:8.2} {:8.2} {:9.2} {:6.2} {:7.1} {:9.1}",
             times[0].0 / 1000.0,
@@ -106,7 +121,12 @@ fn main() {
         }
     }
     worst.sort_by(|a, b| b.0.total_cmp(&a.0));
-    println!("bench: {} of {measured} ratios above 1.00", worst.len());
+    sheets(&measured);
+    println!(
+        "bench: {} of {} ratios above 1.00",
+        worst.len(),
+        measured.len()
+    );
     for (ratio, name) in worst {
         println!("  {ratio:.2} {name}");
     }
