@@ -9,8 +9,9 @@ use lib.IntN.{pos}
 use borrow.Author.Tests.{leb-true, leb-false, eq-eqb, ne-eqb}
 use Rattle.store.specs.Fonts.{Font}
 use Rattle.blocks.specs.Field.{byte, signedWithin}
+use Rattle.blocks.specs.Header.{lastSymbolSet, lastSpacing, lastStyle, weightLimit, lastOrientation}
 use Rattle.choice.specs.Fields.{headerOf, weightOf}
-use Rattle.choice.specs.Request.{askedWeight, highestSet, highestSpacing, highestR, highestH, highestStyle, highestWeight, highestTypeface, highestOrientation, inRange}
+use Rattle.choice.specs.Request.{askedWeight, highestR, highestH, highestTypeface, inRange}
 use Rattle.choice.specs.Steps.{exact, isThicker, isThinner}
 use Rattle.choice.specs.Scores.{thickness, weightNumber, weightScore}
 use Rattle.choice.specs.declared.Request.{Request}
@@ -34,8 +35,8 @@ weight-asked : (r : Request) → inRange r ≡ true → r .weight < 2 ^ 32 → R
 unfolding inRange askedWeight
 weight-asked r t h =
     raised-request (r .weight) h
-    (sixth (leb (r .«symbol_set») highestSet) (leb (r .spacing) highestSpacing) (leb (r .pitch) highestR) (leb (r .height) highestH) (leb (r .style) highestStyle)
-    (signedWithin 32 highestWeight (r .weight)) (leb (r .typeface) highestTypeface) (leb (r .orientation) highestOrientation) t)
+    (sixth (leb (r .«symbol_set») lastSymbolSet) (leb (r .spacing) lastSpacing) (leb (r .pitch) highestR) (leb (r .height) highestH) (leb (r .style) lastStyle)
+    (signedWithin 32 weightLimit (r .weight)) (leb (r .typeface) highestTypeface) (leb (r .orientation) lastOrientation) t)
 
 -- equal as signed numbers, by two comparisons
 both : (a b : ℕ) → (leb a b && leb b a) ≡ eqb a b

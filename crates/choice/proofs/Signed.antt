@@ -10,7 +10,7 @@ use lib.IntN.{ℤ, pos, negsuc}
 use lib.Signed.{leZ, ltZ}
 use Rattle.blocks.specs.Field.{signed, signedWithin}
 use Rattle.blocks.proofs.Signed.{leb-iff, signed-within}
-use Rattle.choice.specs.Request.{highestWeight}
+use Rattle.blocks.specs.Header.{weightLimit}
 
 ltb-not : (a b : ℕ) → ltb a b ≡ not (leb b a)
 ltb-not a b = go (leb b a) refl
@@ -96,7 +96,7 @@ pub raised-byte : (n : ℕ) → n < 256 → Raised 128 8 n
 raised-byte n k = raised 128 8 n (omega arith) k (at-least-lowest 128 8 n refl k)
 
 -- a weight that a request may ask for
-pub raised-request : (n : ℕ) → n < 2 ^ 32 → signedWithin 32 highestWeight n ≡ true → Raised 128 32 n
+pub raised-request : (n : ℕ) → n < 2 ^ 32 → signedWithin 32 weightLimit n ≡ true → Raised 128 32 n
 raised-request n k t =
     raised 128 32 n (omega arith) k
-    (at-least 128 32 highestWeight n (omega arith) (omega arith) k (sym (signed-within 32 highestWeight n (omega arith) k) ∙ t))
+    (at-least 128 32 weightLimit n (omega arith) (omega arith) k (sym (signed-within 32 weightLimit n (omega arith) k) ∙ t))

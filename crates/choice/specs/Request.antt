@@ -4,6 +4,7 @@ use mathlib.Core.Bool.{Bool, _&&_}
 use lib.Dec.{leb}
 use lib.IntN.{ℤ}
 use Rattle.blocks.specs.Field.{signed, signedWithin}
+use Rattle.blocks.specs.Header.{lastSymbolSet, lastSpacing, lastStyle, weightLimit, lastOrientation}
 use Rattle.choice.specs.declared.Request.{Request}
 
 -- "A request: symbol set .., spacing .., pitch R .., height H .., style .., weight .., typeface .., page orientation": its numbers in this order
@@ -15,42 +16,25 @@ requestOf set spacing R H style weight typeface page =
 unfoldable pub askedWeight : Request → ℤ
 askedWeight r = signed 32 (r .weight)
 
--- the highest that each number may be
-abbrev pub highestSet : ℕ
-highestSet = 2047
-
-abbrev pub highestSpacing : ℕ
-highestSpacing = 1
-
--- R, "in hundredths of a character per inch"
+-- how far the numbers go for which a header has no limit of its own: R, "in hundredths of a character per inch", H, "in hundredths of a point", typeface
 abbrev pub highestR : ℕ
 highestR = 57600
 
--- H, "in hundredths of a point"
 abbrev pub highestH : ℕ
 highestH = 99975
-
-abbrev pub highestStyle : ℕ
-highestStyle = 1023
-
-abbrev pub highestWeight : ℕ
-highestWeight = 7
 
 abbrev pub highestTypeface : ℕ
 highestTypeface = 65535
 
-abbrev pub highestOrientation : ℕ
-highestOrientation = 1
-
 -- "symbol set 0..2047, spacing 0 or 1, pitch R .. 0..57,600, height H .. 0..99,975, style 0..1023, weight -7..7, typeface 0..65535, page
--- orientation 0 or 1"
+-- orientation 0 or 1": set, spacing, style, weight and orientation go as far as a header's
 unfoldable pub inRange : Request → Bool
 inRange r =
-    leb (r .«symbol_set») highestSet
-    && leb (r .spacing) highestSpacing
+    leb (r .«symbol_set») lastSymbolSet
+    && leb (r .spacing) lastSpacing
     && leb (r .pitch) highestR
     && leb (r .height) highestH
-    && leb (r .style) highestStyle
-    && signedWithin 32 highestWeight (r .weight)
+    && leb (r .style) lastStyle
+    && signedWithin 32 weightLimit (r .weight)
     && leb (r .typeface) highestTypeface
-    && leb (r .orientation) highestOrientation
+    && leb (r .orientation) lastOrientation

@@ -20,23 +20,23 @@ ghost use Rattle.choice.specs.Scores.{miss as missOf, mostCompared, pitc
 const ROMAN_8: u32 = 277;
 
 // The highest that each number of a request may be, and the lowest weight, -7, in two's complement.
-const HIGHEST_SET: u32 = 2047;
+const LAST_SYMBOL_SET: u32 = 2047;
 
-const HIGHEST_SPACING: u32 = 1;
+const LAST_SPACING: u32 = 1;
 
 const HIGHEST_R: u32 = 57600;
 
 const HIGHEST_H: u32 = 99975;
 
-const HIGHEST_STYLE: u32 = 1023;
+const LAST_STYLE: u32 = 1023;
 
-const HIGHEST_WEIGHT: u32 = 7;
+const WEIGHT_LIMIT: u32 = 7;
 
-const LOWEST_WEIGHT: u32 = 4294967289;
+const LEAST_WEIGHT: u32 = 4294967289;
 
 const HIGHEST_TYPEFACE: u32 = 65535;
 
-const HIGHEST_ORIENTATION: u32 = 1;
+const LAST_ORIENTATION: u32 = 1;
 
 // A font qualifies by its pitch up to this product.
 const PITCH_TEST_LIMIT: u64 = 120000;
@@ -347,15 +347,15 @@ fn scan(s: &[u8], from: usize, r: Request) -> Score
 fn in_range(r: Request) -> bool
     ensures { λ b. ⌜ b ≡ inRange r ⌝ }
 {
-    let weight = (r.weight <= HIGHEST_WEIGHT) | (LOWEST_WEIGHT <= r.weight);
-    (r.symbol_set <= HIGHEST_SET)
-        & (r.spacing <= HIGHEST_SPACING)
+    let weight = (r.weight <= WEIGHT_LIMIT) | (LEAST_WEIGHT <= r.weight);
+    (r.symbol_set <= LAST_SYMBOL_SET)
+        & (r.spacing <= LAST_SPACING)
         & (r.pitch <= HIGHEST_R)
         & (r.height <= HIGHEST_H)
-        & (r.style <= HIGHEST_STYLE)
+        & (r.style <= LAST_STYLE)
         & weight
         & (r.typeface <= HIGHEST_TYPEFACE)
-        & (r.orientation <= HIGHEST_ORIENTATION)
+        & (r.orientation <= LAST_ORIENTATION)
 }
 
 // The answer, from the best of all fonts.
