@@ -8,7 +8,7 @@ use borrow.Author.Tests.{le-leb}
 use lib.Dec.{T, T-not, leb, eqb, eqb-refl}
 use lib.ListN.{length, set, length-set}
 use lib.Seq.{getD-set-same, getD-set-other, set-getD}
-use Rattle.blocks.specs.Field.{byte, word, putWord, capWord, floorWord, negative, signed}
+use Rattle.blocks.specs.Field.{byte, word, putWord, capExtended, floorWord, negative, signed}
 
 -- a list that is one of two keeps what both have
 either : {A : Type 0} (P : A → Type 0) (t : Bool) (x y : A) → P x → P y → P (cond t x y)
@@ -22,15 +22,19 @@ other i a j l h = getD-set-other l i j a 0 (λ e. T-not (eqb j i) h (subst (λ (
 pub put-other : (at v j : ℕ) (l : List ℕ) → T (not (eqb j at)) → T (not (eqb j (at + 1))) → byte (putWord at v l) j ≡ byte l j
 put-other at v j l h k = other (at + 1) (v % 256) j (set l at (v / 256)) k ∙ other at (v / 256) j l h
 
-pub cap-other : (at limit j : ℕ) (l : List ℕ) → T (not (eqb j at)) → T (not (eqb j (at + 1))) → byte (capWord at limit l) j ≡ byte l j
-cap-other at limit j l h k = either (λ x. byte x j ≡ byte l j) (leb (word l at) limit) l (putWord at limit l) refl (put-other at limit j l h k)
+pub cap-other :
+    (at extended limit j : ℕ) (l : List ℕ) → T (not (eqb j at)) → T (not (eqb j (at + 1))) → T (not (eqb j extended))
+    → byte (capExtended at extended limit l) j ≡ byte l j
+cap-other at extended limit j l h k e =
+    either (λ x. byte x j ≡ byte l j) (leb (word l at) limit) l (set (putWord at limit l) extended 0) refl
+    (other extended 0 j (putWord at limit l) e ∙ put-other at limit j l h k)
 
 pub floor-other : (at j : ℕ) (l : List ℕ) → T (not (eqb j at)) → T (not (eqb j (at + 1))) → byte (floorWord at l) j ≡ byte l j
 floor-other at j l h k = either (λ x. byte x j ≡ byte l j) (negative 16 (word l at)) (putWord at 0 l) l (put-other at 0 j l h k) refl
 
 -- ---- the length
-pub cap-length : (at limit : ℕ) (l : List ℕ) → length (capWord at limit l) ≡ length l
-cap-length at limit l = either (λ x. length x ≡ length l) (leb (word l at) limit) l (putWord at limit l) refl (simp length-set)
+pub cap-length : (at extended limit : ℕ) (l : List ℕ) → length (capExtended at extended limit l) ≡ length l
+cap-length at extended limit l = either (λ x. length x ≡ length l) (leb (word l at) limit) l (set (putWord at limit l) extended 0) refl (simp length-set)
 
 pub floor-length : (at : ℕ) (l : List ℕ) → length (floorWord at l) ≡ length l
 floor-length at l = either (λ x. length x ≡ length l) (negative 16 (word l at)) (putWord at 0 l) l (simp length-set) refl
@@ -44,12 +48,16 @@ put-at at v l h =
     let low : byte (putWord at v l) (at + 1) ≡ v % 256 = getD-set-same m (at + 1) (v % 256) 0 (simp length-set h) in
     simp (high, low) (omega arith)
 
-pub cap-low : (at limit : ℕ) (l : List ℕ) → at + 1 < length l → leb (word (capWord at limit l) at) limit ≡ true
-cap-low at limit l h = go (leb (word l at) limit) refl
+pub cap-low :
+    (at extended limit : ℕ) (l : List ℕ) → at + 1 < length l → T (not (eqb at extended)) → T (not (eqb (at + 1) extended))
+    → leb (word (capExtended at extended limit l) at) limit ≡ true
+cap-low at extended limit l h p q = go (leb (word l at) limit) refl
   where
-    go : (t : Bool) → leb (word l at) limit ≡ t → leb (word (cond t l (putWord at limit l)) at) limit ≡ true
+    go : (t : Bool) → leb (word l at) limit ≡ t → leb (word (cond t l (set (putWord at limit l) extended 0)) at) limit ≡ true
     go true e = e
-    go false e = rw (put-at at limit l h) (le-leb limit limit (omega arith))
+    go false e =
+        rw (other extended 0 at (putWord at limit l) p, other extended 0 (at + 1) (putWord at limit l) q, put-at at limit l h)
+        (le-leb limit limit (omega arith))
 
 pub floor-zero : (at : ℕ) (l : List ℕ) → at + 1 < length l → negative 16 (word (floorWord at l) at) ≡ false
 unfolding negative signed

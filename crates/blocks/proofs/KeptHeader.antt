@@ -8,8 +8,8 @@ use borrow.Author.Tests.{eqb-true}
 use lib.Dec.{T, leb, ltb, ltb→lt, eqb}
 use lib.ListN.{length, set, take, length-set}
 use lib.Seq.{getD-set-same, getD-take, length-take-le, take-all}
-use Rattle.blocks.specs.Field.{byte, word, putWord, capWord, within}
-use Rattle.blocks.specs.Header.{blockLimit, headerBytes, descriptorSizeAt, formatAt, fontTypeAt, styleHighAt, reservedAt, baselineAt, cellWidthAt, cellHeightAt, orientationAt, spacingAt, symbolSetAt, pitchAt, heightAt, styleLowAt, strokeWeightAt, descriptorSize, format, pitch, height, bitmapFormat, pitchLimit, heightLimit, headerFields, headerChecks, readHeader, fixHeader, keptHeader, fixedHeader, isKeptHeader}
+use Rattle.blocks.specs.Field.{byte, word, putWord, capExtended, within}
+use Rattle.blocks.specs.Header.{blockLimit, headerBytes, descriptorSizeAt, formatAt, fontTypeAt, styleHighAt, reservedAt, baselineAt, cellWidthAt, cellHeightAt, orientationAt, spacingAt, symbolSetAt, pitchAt, heightAt, styleLowAt, strokeWeightAt, pitchExtendedAt, heightExtendedAt, descriptorSize, format, pitch, height, bitmapFormat, pitchLimit, heightLimit, headerFields, headerChecks, readHeader, fixHeader, keptHeader, fixedHeader, isKeptHeader}
 use Rattle.blocks.specs.declared.Verdict.the-variants.{Taken}
 use Rattle.blocks.proofs.Checks.{both, taken, within-low}
 use Rattle.blocks.proofs.Fields.{other, put-other, cap-other, cap-length, cap-low, stay}
@@ -33,7 +33,7 @@ holds false t h = absurd h
 
 -- where the rules change bytes
 abbrev pub changedPlaces : List ℕ
-changedPlaces = descriptorSizeAt ∷ (descriptorSizeAt + 1) ∷ reservedAt ∷ pitchAt ∷ (pitchAt + 1) ∷ heightAt ∷ (heightAt + 1) ∷ []
+changedPlaces = descriptorSizeAt ∷ (descriptorSizeAt + 1) ∷ reservedAt ∷ pitchAt ∷ (pitchAt + 1) ∷ heightAt ∷ (heightAt + 1) ∷ pitchExtendedAt ∷ heightExtendedAt ∷ []
 
 -- the bytes that the rules do not change
 pub kept-other : (b : List ℕ) (j : ℕ) → T (ltb j headerBytes && apart j changedPlaces) → byte (keptHeader b) j ≡ byte b j
@@ -47,11 +47,13 @@ kept-other b j h =
     let p₁ = holds (not (eqb j (pitchAt + 1))) _ (p₀ .1) in
     let h₀ = holds (not (eqb j heightAt)) _ (p₁ .1) in
     let h₁ = holds (not (eqb j (heightAt + 1))) _ (h₀ .1) in
+    let pₓ = holds (not (eqb j pitchExtendedAt)) _ (h₁ .1) in
+    let hₓ = holds (not (eqb j heightExtendedAt)) _ (pₓ .1) in
     let t = take headerBytes b in
     let u = putWord descriptorSizeAt headerBytes t in
     let v = set u reservedAt 0 in
-    cap-other heightAt heightLimit j (capWord pitchAt pitchLimit v) (h₀ .0) (h₁ .0)
-    ∙ cap-other pitchAt pitchLimit j v (p₀ .0) (p₁ .0)
+    cap-other heightAt heightExtendedAt heightLimit j (capExtended pitchAt pitchExtendedAt pitchLimit v) (h₀ .0) (h₁ .0) (hₓ .0)
+    ∙ cap-other pitchAt pitchExtendedAt pitchLimit j v (p₀ .0) (p₁ .0) (pₓ .0)
     ∙ other reservedAt 0 j u (r .0)
     ∙ put-other descriptorSizeAt headerBytes j t (s₀ .0) (s₁ .0)
     ∙ getD-take headerBytes b j 0 (ltb→lt j headerBytes (p .0))
@@ -64,10 +66,10 @@ kept-size b h =
     let e : length t ≡ headerBytes = length-take-le headerBytes b h in
     let u = putWord descriptorSizeAt headerBytes t in
     let v = set u reservedAt 0 in
-    let w = capWord pitchAt pitchLimit v in (
-      cap-other heightAt heightLimit 0 w tt tt ∙ cap-other pitchAt pitchLimit 0 v tt tt ∙ other reservedAt 0 0 u tt ∙ other 1 64 0 (set t 0 0) tt ∙ getD-set-same t 0 0 0 (omega arith),
-      cap-other heightAt heightLimit 1 w tt tt ∙ cap-other pitchAt pitchLimit 1 v tt tt ∙ other reservedAt 0 1 u tt ∙ getD-set-same (set t 0 0) 1 64 0 (simp length-set (omega arith)),
-      cap-other heightAt heightLimit reservedAt w tt tt ∙ cap-other pitchAt pitchLimit reservedAt v tt tt ∙ getD-set-same u reservedAt 0 0 (simp length-set (omega arith)),
+    let w = capExtended pitchAt pitchExtendedAt pitchLimit v in (
+      cap-other heightAt heightExtendedAt heightLimit 0 w tt tt tt ∙ cap-other pitchAt pitchExtendedAt pitchLimit 0 v tt tt tt ∙ other reservedAt 0 0 u tt ∙ other 1 64 0 (set t 0 0) tt ∙ getD-set-same t 0 0 0 (omega arith),
+      cap-other heightAt heightExtendedAt heightLimit 1 w tt tt tt ∙ cap-other pitchAt pitchExtendedAt pitchLimit 1 v tt tt tt ∙ other reservedAt 0 1 u tt ∙ getD-set-same (set t 0 0) 1 64 0 (simp length-set (omega arith)),
+      cap-other heightAt heightExtendedAt heightLimit reservedAt w tt tt tt ∙ cap-other pitchAt pitchExtendedAt pitchLimit reservedAt v tt tt tt ∙ getD-set-same u reservedAt 0 0 (simp length-set (omega arith)),
     )
 
 -- pitch and height at most their limits
@@ -75,10 +77,10 @@ kept-caps : (b : List ℕ) → headerBytes ≤ length b → (leb (word (keptHead
 unfolding fixHeader keptHeader
 kept-caps b h =
     let v = set (putWord descriptorSizeAt headerBytes (take headerBytes b)) reservedAt 0 in
-    let w = capWord pitchAt pitchLimit v in
+    let w = capExtended pitchAt pitchExtendedAt pitchLimit v in
     let e : length v ≡ headerBytes = simp length-set (length-take-le headerBytes b h) in (
-      rw (cap-other heightAt heightLimit pitchAt w tt tt, cap-other heightAt heightLimit (pitchAt + 1) w tt tt) (cap-low pitchAt pitchLimit v (omega arith)),
-      cap-low heightAt heightLimit w (rw (cap-length pitchAt pitchLimit v) (omega arith)),
+      rw (cap-other heightAt heightExtendedAt heightLimit pitchAt w tt tt tt, cap-other heightAt heightExtendedAt heightLimit (pitchAt + 1) w tt tt tt) (cap-low pitchAt pitchExtendedAt pitchLimit v (omega arith) tt tt),
+      cap-low heightAt heightExtendedAt heightLimit w (rw (cap-length pitchAt pitchExtendedAt pitchLimit v) (omega arith)) tt tt,
     )
 
 kept-fields : (b : List ℕ) → headerFields (keptHeader b) ≡ headerFields b

@@ -39,9 +39,9 @@ negative w n = ltZ (signed w n) (pos 0)
 abbrev pub putWord : ℕ → ℕ → List ℕ → List ℕ
 putWord at v b = set (set b at (v / 256)) (at + 1) (v % 256)
 
--- the 16-bit number at a place, made the limit if it is above it
-abbrev pub capWord : ℕ → ℕ → List ℕ → List ℕ
-capWord at limit b = cond (leb (word b at) limit) b (putWord at limit b)
+-- the 16-bit number at a place with its extended byte: made the limit and 0 if the number is above the limit
+abbrev pub capExtended : ℕ → ℕ → ℕ → List ℕ → List ℕ
+capExtended at extended limit b = cond (leb (word b at) limit) b (set (putWord at limit b) extended 0)
 
 -- the 16-bit number at a place, made 0 if it is negative as a signed number
 abbrev pub floorWord : ℕ → List ℕ → List ℕ

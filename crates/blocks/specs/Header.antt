@@ -4,7 +4,7 @@ use mathlib.Core.List.{List, [], _∷_}
 use mathlib.Core.Bool.{Bool, _&&_}
 use lib.ListN.{length, take, set}
 use lib.Dec.{leb, ltb, eqb}
-use Rattle.blocks.specs.Field.{byte, join, word, within, signedWithin, putWord, capWord}
+use Rattle.blocks.specs.Field.{byte, join, word, within, signedWithin, putWord, capExtended}
 use Rattle.blocks.specs.Check.{Check, _else_, verdict}
 use Rattle.blocks.specs.declared.Verdict.{Verdict}
 
@@ -68,6 +68,13 @@ typefaceLowAt = 25
 abbrev pub typefaceHighAt : ℕ
 typefaceHighAt = 26
 
+-- W-202: the extended bytes, "256ths of a quarter-dot"
+abbrev pub pitchExtendedAt : ℕ
+pitchExtendedAt = 40
+
+abbrev pub heightExtendedAt : ℕ
+heightExtendedAt = 41
+
 -- the fields
 abbrev pub descriptorSize : List ℕ → ℕ
 descriptorSize b = word b descriptorSizeAt
@@ -110,6 +117,12 @@ strokeWeight b = byte b strokeWeightAt
 
 abbrev pub typeface : List ℕ → ℕ
 typeface b = join (byte b typefaceHighAt) (byte b typefaceLowAt)
+
+abbrev pub pitchExtended : List ℕ → ℕ
+pitchExtended b = byte b pitchExtendedAt
+
+abbrev pub heightExtended : List ℕ → ℕ
+heightExtended b = byte b heightExtendedAt
 
 -- the format that is taken, and how far the fields go
 abbrev pub bitmapFormat : ℕ
@@ -169,8 +182,11 @@ unfoldable pub readHeader : List ℕ → Verdict
 readHeader b = verdict (headerChecks b)
 
 -- "with descriptor size 64, byte 5 zero, pitch (16) above 16,800 made 16,800, height (18) above 10,922 made 10,922"
+-- W-202: "A field cut to its limit keeps its extended byte as zero." One at its limit that was not cut keeps the byte that it has.
 unfoldable pub fixHeader : List ℕ → List ℕ
-fixHeader b = capWord heightAt heightLimit (capWord pitchAt pitchLimit (set (putWord descriptorSizeAt headerBytes b) reservedAt 0))
+fixHeader b =
+    capExtended heightAt heightExtendedAt heightLimit
+    (capExtended pitchAt pitchExtendedAt pitchLimit (set (putWord descriptorSizeAt headerBytes b) reservedAt 0))
 
 -- "Kept: the first 64 bytes", so fixed
 unfoldable pub keptHeader : List ℕ → List ℕ

@@ -2,7 +2,7 @@
 ghost use mathlib.Core.Path.{_≡_};
 ghost use Prim.Native.Nat.{_+_, _<_, _≤_};
 ghost use lib.ListN.{length, take};
-ghost use Rattle.blocks.specs.Field.{join, word, negative, signedWithin, putWord, capWord, floorWord};
+ghost use Rattle.blocks.specs.Field.{join, word, negative, signedWithin, putWord, capExtended, floorWord};
 ghost use Rattle.blocks.specs.Header.{weightLimit};
 ghost use Rattle.blocks.specs.Character.{offsetLimit};
 
@@ -59,13 +59,14 @@ pub(crate) fn put_word(s: &mut [u8], at: usize, value: u16)
     s[at + 1] = (value % 256) as u8;
 }
 
-// Makes the 16-bit field at a place at most a limit.
-pub(crate) fn cap_word(s: &mut [u8], at: usize, limit: u16)
-    requires { ⌜ at + 1 < length (now s) ⌝ }
-    ensures { λ _. ⌜ now (s .exit) ≡ capWord at limit (now (s .entry)) ⌝ }
+// Makes the 16-bit field at a place at most a limit; where that cuts it, its extended byte is 0.
+pub(crate) fn cap_extended(s: &mut [u8], at: usize, extended: usize, limit: u16)
+    requires { ⌜ (at + 1 < length (now s)) × (extended < length (now s)) ⌝ }
+    ensures { λ _. ⌜ now (s .exit) ≡ capExtended at extended limit (now (s .entry)) ⌝ }
 {
     if limit < word(s, at) {
         put_word(s, at, limit);
+        s[extended] = 0;
     }
 }
 

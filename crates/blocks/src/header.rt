@@ -42,6 +42,10 @@ const STYLE_LOW_AT: usize = 23;
 
 const STROKE_WEIGHT_AT: usize = 24;
 
+const PITCH_EXTENDED_AT: usize = 40;
+
+const HEIGHT_EXTENDED_AT: usize = 41;
+
 // The format that is taken, and how far the fields go.
 const BITMAP_FORMAT: u8 = 0;
 
@@ -115,8 +119,8 @@ fn fix_header(s: &mut [u8])
 {
     field::put_word(s, DESCRIPTOR_SIZE_AT, KEPT as u16);
     s[RESERVED_AT] = 0;
-    field::cap_word(s, PITCH_AT, PITCH_LIMIT);
-    field::cap_word(s, HEIGHT_AT, HEIGHT_LIMIT);
+    field::cap_extended(s, PITCH_AT, PITCH_EXTENDED_AT, PITCH_LIMIT);
+    field::cap_extended(s, HEIGHT_AT, HEIGHT_EXTENDED_AT, HEIGHT_LIMIT);
 }
 
 // Writes what is kept of an accepted block into the bytes lent.

@@ -5,16 +5,16 @@ use borrow.Author.Needs.{needs}
 use Rattle.blocks.proofs.header.fix_header.Statement.{statement}
 use Rattle.blocks.proofs.header.fix_header.Tie as tie
 
-cap-word-requires : tie.Need-cap-word-requires
-cap-word-requires c κs = simp length-set (omega (arith, c .before .before .before .put-word .kept .0))
+cap-extended-requires : tie.Need-cap-extended-requires
+cap-extended-requires c κs = simp length-set (omega (arith, c .before .before .before .put-word .kept .0))
 
-cap-word-requires-2 : tie.Need-cap-word-requires-2
-cap-word-requires-2 c κs = omega (arith, simp length-set at (c .before .before .before .cap-word .kept .0), c .before .before .before .before .before .before .before .put-word .kept .0)
+cap-extended-requires-2 : tie.Need-cap-extended-requires-2
+cap-extended-requires-2 c κs = omega (arith, simp length-set at (c .before .before .before .cap-extended .kept .0), c .before .before .before .before .before .before .before .put-word .kept .0)
 
 same-length : tie.Need-same-length
 same-length c =
     let k = c .before .before in
-    omega (arith, k .cap-word2 .kept .0, simp length-set at (k .before .before .before .before .cap-word .kept .0), k .before .before .before .before .before .before .before .before .put-word .kept .0)
+    omega (arith, k .cap-extended2 .kept .0, simp length-set at (k .before .before .before .before .cap-extended .kept .0), k .before .before .before .before .before .before .before .before .put-word .kept .0)
 
 returns : tie.Need-returns
 unfolding fixHeader
@@ -27,7 +27,7 @@ fix-header-spec =
     (λ c. search needs)
     (λ c κs. search needs)
     (λ c. search needs)
-    cap-word-requires
-    cap-word-requires-2
+    cap-extended-requires
+    cap-extended-requires-2
     same-length
     returns)
