@@ -8,3 +8,4 @@ pub mod Right
 pub mod Asked
 pub mod Pass
 pub mod Walk
+pub mod Examples

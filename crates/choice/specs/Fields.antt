@@ -1,11 +1,11 @@
 -- What choosing reads of a kept font. Where the fields of a header stand is the block readers' definition.
-use Prim.Native.Nat.{ℕ, _%_}
+use Prim.Native.Nat.{ℕ, _+_, _*_, _%_}
 use mathlib.Core.List.{List, [], _∷_}
 use mathlib.Core.Bool.{Bool}
 use lib.Dec.{eqb}
 use lib.IntN.{ℤ}
 use Rattle.blocks.specs.Field.{signed}
-use Rattle.blocks.specs.Header.{spacing, pitch, height, strokeWeight}
+use Rattle.blocks.specs.Header.{spacing, pitch, height, strokeWeight, pitchExtended, heightExtended}
 use Rattle.store.specs.Fonts.{Font}
 
 -- numbers as bytes: those of a buffer are below 256, so that each remainder is the byte itself
@@ -21,12 +21,17 @@ headerOf f = asBytes (f .kept)
 unfoldable pub isFixed : Font → Bool
 isFixed f = eqb (spacing (headerOf f)) 0
 
--- the number that is compared for pitch, and for height: "The extended bytes 40 and 41 are kept and count as zero when choosing."
+-- W-202: the extended bytes count "256ths of a quarter-dot"
+abbrev pub quarterDotParts : ℕ
+quarterDotParts = 256
+
+-- the number that is compared for pitch, and for height.
+-- W-202: "Pitch becomes 256 x field + byte 40, height 256 x field + byte 41."
 unfoldable pub comparedPitch : Font → ℕ
-comparedPitch f = pitch (headerOf f)
+comparedPitch f = quarterDotParts * pitch (headerOf f) + pitchExtended (headerOf f)
 
 unfoldable pub comparedHeight : Font → ℕ
-comparedHeight f = height (headerOf f)
+comparedHeight f = quarterDotParts * height (headerOf f) + heightExtended (headerOf f)
 
 unfoldable pub weightOf : Font → ℤ
 weightOf f = signed 8 (strokeWeight (headerOf f))

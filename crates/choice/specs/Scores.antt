@@ -23,7 +23,7 @@ miss b = cond b 0 1
 
 -- the greatest number that can be compared for pitch or height, and a base above every number of the pitch
 abbrev pub mostCompared : ℕ
-mostCompared = 65535
+mostCompared = 16777215
 
 abbrev pub pitchBase : ℕ
 pitchBase = 2 * (mostCompared + 1)
@@ -34,7 +34,7 @@ pitchNumber fixed fits p = cond fixed (cond fits (mostCompared - p) (mostCompare
 
 -- above every number of the height
 abbrev pub heightBound : ℕ
-heightBound = 4294967296
+heightBound = 1099511627776
 
 -- a weight byte as a number that rises with the weight: -128 is 0
 abbrev pub raised : ℕ → ℕ

@@ -10,7 +10,7 @@ use Rattle.blocks.specs.Header.{symbolSet, style, typeface, orientation}
 use Rattle.store.specs.Fonts.{Font}
 use Rattle.choice.specs.Lists.{having, every, orElse, prefer, least, greatest}
 use Rattle.choice.specs.Request.{askedWeight}
-use Rattle.choice.specs.Fields.{headerOf, isFixed, comparedPitch, comparedHeight, weightOf}
+use Rattle.choice.specs.Fields.{headerOf, isFixed, quarterDotParts, comparedPitch, comparedHeight, weightOf}
 use Rattle.choice.specs.declared.Request.{Request}
 use Rattle.choice.specs.declared.Chosen.{Chosen}
 use Rattle.choice.specs.declared.Chosen.the-variants.{Number, NoFont}
@@ -40,8 +40,9 @@ bySpacing r l = prefer (hasSpacing r) l
 
 -- 3. Pitch, only if those left are fixed. For kept pitch P: if some have R x P at most 120,000, those with the greatest P among them;
 --    else those with the least P.
+--    W-202: "The test for pitch is R x pitch at most 30,720,000"
 abbrev pub pitchTestLimit : ℕ
-pitchTestLimit = 120000
+pitchTestLimit = 30720000
 
 unfoldable pub qualifies : Request → Font → Bool
 qualifies r f = leb (r .pitch * comparedPitch f) pitchTestLimit
@@ -50,12 +51,13 @@ unfoldable pub byPitch : Request → List Font → List Font
 byPitch r l = cond (every isFixed l) (orElse (greatest leb comparedPitch (having (qualifies r) l)) (least leb comparedPitch l)) l
 
 -- 4. Least |H - 6 x kept height|, where 25 or less counts as 0.
---    A unit of kept height, a quarter-dot, is 6 hundredths of a point; 25 are a quarter of a point.
+--    W-202: "the height distance is |256 x H - 6 x height| with 6,400 or less as 0"
+--    A quarter-dot is 6 hundredths of a point; 25 of these, with 256 parts each, are a quarter of a point.
 abbrev pub quarterDot : ℕ
 quarterDot = 6
 
 abbrev pub quarterPoint : ℕ
-quarterPoint = 25
+quarterPoint = 6400
 
 -- |a - b|: a difference of natural numbers is 0 where it would be negative
 abbrev pub distance : ℕ → ℕ → ℕ
@@ -65,7 +67,7 @@ abbrev pub overQuarterPoint : ℕ → ℕ
 overQuarterPoint d = cond (leb d quarterPoint) 0 d
 
 unfoldable pub heightDistance : ℕ → ℕ → ℕ
-heightDistance H height = overQuarterPoint (distance H (quarterDot * height))
+heightDistance H height = overQuarterPoint (distance (quarterDotParts * H) (quarterDot * height))
 
 unfoldable pub heightOff : Request → Font → ℕ
 heightOff r f = heightDistance (r .height) (comparedHeight f)

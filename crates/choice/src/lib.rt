@@ -39,12 +39,14 @@ const HIGHEST_TYPEFACE: u32 = 65535;
 const LAST_ORIENTATION: u32 = 1;
 
 // A font qualifies by its pitch up to this product.
-const PITCH_TEST_LIMIT: u64 = 120000;
+const PITCH_TEST_LIMIT: u64 = 30720000;
 
-// A unit of kept height in hundredths of a point, and the distance that still counts as 0.
+// The parts of a quarter-dot that the extended bytes count; a quarter-dot in hundredths of a point; the distance that still counts as 0.
+const QUARTER_DOT_PARTS: u64 = 256;
+
 const QUARTER_DOT: u64 = 6;
 
-const QUARTER_POINT: u64 = 25;
+const QUARTER_POINT: u64 = 6400;
 
 // How many bytes of a font are kept, and where the fields stand in them.
 const KEPT: usize = 64;
@@ -69,8 +71,12 @@ const TYPEFACE_LOW: usize = 25;
 
 const TYPEFACE_HIGH: usize = 26;
 
+const PITCH_EXTENDED: usize = 40;
+
+const HEIGHT_EXTENDED: usize = 41;
+
 // The greatest number that can be compared for pitch or height, and a base above every number of the pitch.
-const MOST_COMPARED: u64 = 65535;
+const MOST_COMPARED: u64 = 16777215;
 
 const PITCH_BASE: u64 = 2 * (MOST_COMPARED + 1);
 
@@ -176,7 +182,7 @@ fn compared_pitch(f: &[u8]) -> u64
     requires { ⌜ length (now f) ≡ headerBytes ⌝ }
     ensures { λ p. ⌜ ((n : ℕ) → p ≡ comparedPitch (record { number = n; kept = now (f .entry) })) × (p ≤ mostCompared) ⌝ }
 {
-    kept_word(f, PITCH) as u64
+    QUARTER_DOT_PARTS * kept_word(f, PITCH) as u64 + kept_byte(f, PITCH_EXTENDED) as u64
 }
 
 // The number that is compared for height.
@@ -184,7 +190,7 @@ fn compared_height(f: &[u8]) -> u64
     requires { ⌜ length (now f) ≡ headerBytes ⌝ }
     ensures { λ h. ⌜ ((n : ℕ) → h ≡ comparedHeight (record { number = n; kept = now (f .entry) })) × (h ≤ mostCompared) ⌝ }
 {
-    kept_word(f, HEIGHT) as u64
+    QUARTER_DOT_PARTS * kept_word(f, HEIGHT) as u64 + kept_byte(f, HEIGHT_EXTENDED) as u64
 }
 
 // 0 for a match.
@@ -215,7 +221,7 @@ fn height_number(asked: u32, h: u64) -> u64
     requires { ⌜ h ≤ mostCompared ⌝ }
     ensures { λ r. ⌜ (r ≡ heightDistance asked h) × (r < heightBound) ⌝ }
 {
-    let a = asked as u64;
+    let a = QUARTER_DOT_PARTS * asked as u64;
     let g = QUARTER_DOT * h;
     let d = if g <= a { a - g } else { g - a };
     if d <= QUARTER_POINT { 0 } else { d }
