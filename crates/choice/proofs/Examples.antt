@@ -1,7 +1,7 @@
 -- W-202's own example, by computing. Assumes nothing.
 use Prim.Native.Nat.{ℕ}
 use mathlib.Core.Path.{_≡_, refl}
-use mathlib.Core.List.{List, [], _∷_, _++_}
+use mathlib.Core.List.{[], _∷_, _++_}
 use mathlib.Core.Bool.{true}
 use lib.ListN.{replicate}
 use Rattle.blocks.specs.Field as Field
