@@ -20,6 +20,9 @@ const FORMAT_CHARACTER: u8 = 4;
 const DESCRIPTOR_SIZE: u8 = 14;
 const PITCH_MAX: u16 = 16_800;
 const HEIGHT_MAX: u16 = 10_922;
+/// Where the extended bytes of pitch and height stand.
+const PITCH_EXTENDED: usize = 40;
+const HEIGHT_EXTENDED: usize = 41;
 
 /// "PCL fields have the high byte first."
 fn field<const N: usize>(bytes: &[u8; N], at: usize) -> u16 {
@@ -66,11 +69,19 @@ impl Header<'_> {
     pub fn symbol_set(self) -> u16 {
         field(self.0, 14)
     }
-    pub fn pitch(self) -> u16 {
+    fn pitch(self) -> u16 {
         field(self.0, 16)
     }
-    pub fn height(self) -> u16 {
+    fn height(self) -> u16 {
         field(self.0, 18)
+    }
+    /// 02, W-202: "PCL gives it as 256ths of a quarter-dot. Pitch becomes 256 x
+    /// field + byte 40, height 256 x field + byte 41."
+    pub fn exact_pitch(self) -> u32 {
+        256 * u32::from(self.pitch()) + u32::from(self.0[PITCH_EXTENDED])
+    }
+    pub fn exact_height(self) -> u32 {
+        256 * u32::from(self.height()) + u32::from(self.0[HEIGHT_EXTENDED])
     }
     /// "stroke weight (24, signed)"
     pub fn weight(self) -> i8 {
@@ -95,7 +106,8 @@ impl Header<'_> {
     }
 
     /// 01, The store: "every kept field is as the rules above leave it": an
-    /// allowed header with what "Kept: ..." makes of it already made.
+    /// allowed header with what "Kept: ..." makes of it already made. An extended
+    /// byte may be any: a field at its limit need not have been cut.
     pub fn is_kept(self) -> bool {
         self.descriptor_size() == HEADER as u16
             && self.format() == FORMAT_FONT
@@ -126,13 +138,18 @@ pub fn read_font(block: &[u8]) -> Result<[u8; HEADER], Refusal> {
     }
     // "Kept: the first 64 bytes, with descriptor size 64, byte 5 zero, pitch
     // (16) above 16,800 made 16,800, height (18) above 10,922 made 10,922."
-    let pitch = header.pitch().min(PITCH_MAX);
-    let height = header.height().min(HEIGHT_MAX);
+    // 02, W-202: "A field cut to its limit keeps its extended byte as zero."
     let mut kept = *first;
     kept[0..2].copy_from_slice(&(HEADER as u16).to_be_bytes());
     kept[5] = 0;
-    kept[16..18].copy_from_slice(&pitch.to_be_bytes());
-    kept[18..20].copy_from_slice(&height.to_be_bytes());
+    if header.pitch() > PITCH_MAX {
+        kept[16..18].copy_from_slice(&PITCH_MAX.to_be_bytes());
+        kept[PITCH_EXTENDED] = 0;
+    }
+    if header.height() > HEIGHT_MAX {
+        kept[18..20].copy_from_slice(&HEIGHT_MAX.to_be_bytes());
+        kept[HEIGHT_EXTENDED] = 0;
+    }
     Ok(kept)
 }
 

@@ -7,6 +7,10 @@ use crate::{Answer, Refusal, Request};
 /// "8U (Roman-8) is 277".
 const ROMAN_8: u32 = 277;
 const FIXED: u32 = 0;
+/// 02, W-202: "The test for pitch is R x pitch at most 30,720,000".
+const PITCH_LIMIT: u64 = 30_720_000;
+/// "the height distance is |256 x H - 6 x height| with 6,400 or less as 0."
+const HEIGHT_LEVEL: u32 = 6_400;
 /// 02, W-201: "A label sheet asks for up to 64 fonts."
 const SHEET_MAX: usize = 64;
 
@@ -35,7 +39,7 @@ pub fn choose(view: &View, request: &Request) -> Result<u32, Refusal> {
     view.fonts()
         .filter_map(|(font, header)| standing(request, font, header))
         .min()
-        .map(|best| (best & u64::from(FONT_MAX)) as u32)
+        .map(|best| best as u32 & FONT_MAX)
         .ok_or(Refusal::NoneToChoose)
 }
 
@@ -74,9 +78,9 @@ pub fn choose_sheet(
 /// rank in that step; so the steps in turn leave the font whose ranks, read one
 /// behind the other, are lowest. They stand here in one number, the first step
 /// highest.
-fn standing(request: &Request, font: u32, header: Header) -> Option<u64> {
+fn standing(request: &Request, font: u32, header: Header) -> Option<u128> {
     let mut standing = 0;
-    let mut step = |bits: u32, rank: u32| standing = standing << bits | u64::from(rank);
+    let mut step = |bits: u32, rank: u32| standing = standing << bits | u128::from(rank);
     // "1. The set asked for; if none has it, Roman-8; if none, 11."
     let set = u32::from(header.symbol_set());
     if set == request.symbol_set {
@@ -90,22 +94,29 @@ fn standing(request: &Request, font: u32, header: Header) -> Option<u64> {
     let spacing = u32::from(header.spacing());
     step(1, u32::from(spacing != request.spacing));
     // "3. Pitch, only if those left are fixed. For kept pitch P: if some have
-    // R x P at most 120,000, those with the greatest P among them; else those
-    // with the least P." Those left by step 2 all have the same spacing.
-    let pitch = u32::from(header.pitch());
+    // R x P at most [30,720,000], those with the greatest P among them; else
+    // those with the least P." Those left by step 2 all have the same spacing.
+    let pitch = header.exact_pitch();
     step(
-        16,
+        24,
         if spacing != FIXED {
             0
-        } else if request.pitch * pitch <= 120_000 {
-            0x7FFF - pitch
+        } else if u64::from(request.pitch) * u64::from(pitch) <= PITCH_LIMIT {
+            0x7F_FFFF - pitch
         } else {
-            0x8000 + pitch
+            0x80_0000 + pitch
         },
     );
-    // "4. Least |H - 6 x kept height|, where 25 or less counts as 0."
-    let distance = request.height.abs_diff(6 * u32::from(header.height()));
-    step(17, if distance <= 25 { 0 } else { distance });
+    // "4. Least [|256 x H - 6 x height|], where [6,400] or less counts as 0."
+    let distance = (256 * request.height).abs_diff(6 * header.exact_height());
+    step(
+        25,
+        if distance <= HEIGHT_LEVEL {
+            0
+        } else {
+            distance
+        },
+    );
     // "5. The style, if any has it."
     step(1, u32::from(u32::from(header.style()) != request.style));
     // "6. Weight: exact; else, for a request of 0 or more, the next thicker,

@@ -27,6 +27,7 @@ fn header(chance: &mut Chance) -> Vec<u8> {
         spacing: chance.below(2) as u8,
         pitch: chance.of(&[0, 70, 72, 120, 120, 16800, 16801, 65535]),
         height: chance.of(&[0, 195, 196, 200, 204, 205, 10922, 10923, 65535]),
+        extended: [(); 2].map(|()| chance.of(&[0, 0, 0, 1, 42, 43, 150, 151, 255])),
         style: chance.of(&[0, 0, 1, 255, 256, 1023]),
         weight: chance.below(15) as i8 - 7,
         face: chance.of(&[0, 3, 3, 4, 259, 65535]),

@@ -1,4 +1,5 @@
-//! 01, "Trials on both sides", and the sizes and examples named beside them.
+//! 01, "Trials on both sides", and the sizes and examples named beside them; what
+//! 02 says of W-202.
 
 mod common;
 
@@ -85,6 +86,191 @@ fn p9_height_within_a_quarter_point() {
         };
         assert_eq!(choose(&store, &request), chosen(font), "height {height}");
     }
+}
+
+/// The font that is chosen of two for this request, each under either number.
+fn of_two(first: Font, second: Font, request: Request) -> [u32; 2] {
+    [[(1, first), (2, second)], [(2, first), (1, second)]].map(|fonts| {
+        let chosen = choose(&with_fonts(1024, &fonts), &request);
+        assert_eq!(chosen.refusal, 0);
+        chosen.font
+    })
+}
+
+const FIRST: [u32; 2] = [1, 2];
+const SECOND: [u32; 2] = [2, 1];
+/// Neither goes before the other: the lowest number.
+const LEVEL: [u32; 2] = [1, 1];
+
+fn with_pitch(pitch: u16, byte: u8) -> Font {
+    Font {
+        pitch,
+        extended: [byte, 0],
+        ..A
+    }
+}
+
+fn with_height(height: u16, byte: u8) -> Font {
+    Font {
+        height,
+        extended: [0, byte],
+        ..A
+    }
+}
+
+/// 02, W-202: "At R 1700, 70 with 150 (18,070) qualifies and goes before 70 with
+/// 0 (17,920)."
+#[test]
+fn seventeen_to_the_inch() {
+    let request = Request {
+        pitch: 1700,
+        ..BASE
+    };
+    let (ours, donor) = (with_pitch(70, 150), with_pitch(70, 0));
+    assert_eq!(of_two(ours, donor, request), FIRST);
+    assert_eq!(of_two(donor, ours, request), SECOND);
+    // One 256th more no longer qualifies.
+    let wider = with_pitch(70, 151);
+    assert_eq!(of_two(ours, wider, request), FIRST);
+    assert_eq!(of_two(donor, wider, request), FIRST);
+    // Where neither does, the least.
+    let narrow = Request {
+        pitch: 1800,
+        ..BASE
+    };
+    assert_eq!(of_two(ours, donor, narrow), SECOND);
+    // Byte 41 is not the pitch's.
+    let of_height = Font {
+        extended: [0, 150],
+        ..A
+    };
+    let base = with_pitch(120, 0);
+    assert_eq!(of_two(of_height, base, BASE), LEVEL);
+    // Nor is the pitch looked at of proportional fonts.
+    let proportional = |font| Font { spacing: 1, ..font };
+    assert_eq!(
+        of_two(proportional(donor), proportional(ours), request),
+        LEVEL
+    );
+}
+
+/// "R x pitch at most 30,720,000", where it is just that, and in 64 bits.
+#[test]
+fn the_limit_of_the_pitch() {
+    // 1000 x 30,720
+    assert_eq!(of_two(with_pitch(120, 0), with_pitch(120, 1), BASE), FIRST);
+    assert_eq!(
+        of_two(with_pitch(119, 255), with_pitch(120, 0), BASE),
+        SECOND
+    );
+    // 57,600 x (256 x 291 + 70) is 34,304 past 2^32.
+    let most = Request {
+        pitch: 57600,
+        ..BASE
+    };
+    for wide in [(291, 70), (16800, 0), (16800, 255)] {
+        let wide = with_pitch(wide.0, wide.1);
+        assert_eq!(of_two(wide, with_pitch(2, 21), most), SECOND);
+    }
+    // 57,600 x 533 is 30,700,800; x 534 is 30,758,400.
+    assert_eq!(of_two(with_pitch(2, 21), with_pitch(2, 22), most), FIRST);
+    assert_eq!(of_two(with_pitch(2, 20), with_pitch(2, 21), most), SECOND);
+    let none = Request { pitch: 0, ..BASE };
+    let (wide, wider) = (with_pitch(16800, 0), with_pitch(16800, 255));
+    assert_eq!(of_two(wide, wider, none), SECOND);
+}
+
+/// "the height distance is |256 x H - 6 x height| with 6,400 or less as 0"
+#[test]
+fn the_height_in_256ths() {
+    let at = with_height(200, 0);
+    // 6 x 1066 is 6,396.
+    for (height, byte, expected) in [
+        (204, 42, LEVEL),
+        (204, 43, FIRST),
+        (195, 214, LEVEL),
+        (195, 213, FIRST),
+        (204, 0, LEVEL),
+        (205, 0, FIRST),
+    ] {
+        let other = with_height(height, byte);
+        assert_eq!(of_two(at, other, BASE), expected, "{height} {byte}");
+    }
+    // 256 x 1202 + 6,400 is 6 x (256 x 204 + 128).
+    let other = Request {
+        height: 1202,
+        ..BASE
+    };
+    assert_eq!(of_two(at, with_height(204, 128), other), LEVEL);
+    assert_eq!(of_two(at, with_height(204, 129), other), FIRST);
+    // Further off, the nearer by a 256th.
+    let (near, far) = (with_height(150, 1), with_height(150, 0));
+    assert_eq!(of_two(near, far, BASE), FIRST);
+    let (near, far) = (with_height(250, 0), with_height(250, 1));
+    assert_eq!(of_two(near, far, BASE), FIRST);
+    // Byte 40 is not the height's; proportional, so that it is not the pitch's.
+    let proportional = |extended| Font {
+        spacing: 1,
+        height: 150,
+        extended,
+        ..A
+    };
+    assert_eq!(
+        of_two(proportional([200, 0]), proportional([0, 0]), BASE),
+        LEVEL
+    );
+    // The ends of both ranges.
+    let highest = Request {
+        height: 99975,
+        ..BASE
+    };
+    assert_eq!(
+        of_two(with_height(10922, 0), with_height(10922, 255), highest),
+        SECOND
+    );
+}
+
+/// "A field cut to its limit keeps its extended byte as zero"; one at its limit
+/// that was not cut keeps it.
+#[test]
+fn a_cut_field_beside_its_extended_byte() {
+    // Pitch, height, both extended bytes; the same as they are kept.
+    for (sent, kept) in [
+        ((16799, 10921, [150, 7]), (16799, 10921, [150, 7])),
+        ((16800, 10922, [150, 7]), (16800, 10922, [150, 7])),
+        ((16801, 10922, [150, 7]), (16800, 10922, [0, 7])),
+        ((16800, 10923, [150, 7]), (16800, 10922, [150, 0])),
+        ((16801, 10923, [255, 255]), (16800, 10922, [0, 0])),
+        ((65535, 65535, [150, 7]), (16800, 10922, [0, 0])),
+        ((0, 0, [150, 7]), (0, 0, [150, 7])),
+    ] {
+        let font = |(pitch, height, extended)| Font {
+            pitch,
+            height,
+            extended,
+            ..A
+        };
+        let store = with_fonts(84, &[(1, font(sent))]);
+        let mut told = [0; 64];
+        assert_eq!(tell_font(&store, &mut told, 1).refusal, 0);
+        assert_eq!(told, font(kept).header(), "{sent:?}");
+        // What is kept is taken as it is.
+        assert_eq!(with_fonts(84, &[(1, font(kept))]), store);
+    }
+    // So the cut one is the narrower, and the lower.
+    let widest = Request { pitch: 0, ..BASE };
+    assert_eq!(
+        of_two(with_pitch(16801, 150), with_pitch(16800, 1), widest),
+        SECOND
+    );
+    let highest = Request {
+        height: 99975,
+        ..BASE
+    };
+    assert_eq!(
+        of_two(with_height(10923, 150), with_height(10922, 1), highest),
+        SECOND
+    );
 }
 
 /// The rows, each as it is drawn alone, held against the picture drawn whole.
@@ -252,6 +438,7 @@ fn a_font_is_kept_as_the_rules_leave_it() {
     expected[1] = 64;
     expected[5] = 0;
     expected[16..20].copy_from_slice(&[0x41, 0xA0, 0x2A, 0xAA]);
+    expected[40] = 0;
     expected.extend([0xAA; 2]);
     assert_eq!(kept[..], expected);
     // A descriptor size one past the block's length.

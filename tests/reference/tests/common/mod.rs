@@ -14,6 +14,8 @@ pub struct Font {
     pub spacing: u8,
     pub pitch: u16,
     pub height: u16,
+    /// Their extended bytes, 40 and 41.
+    pub extended: [u8; 2],
     pub style: u16,
     pub weight: i8,
     pub face: u16,
@@ -26,6 +28,7 @@ pub const A: Font = Font {
     spacing: 0,
     pitch: 120,
     height: 200,
+    extended: [0, 0],
     style: 0,
     weight: 0,
     face: 3,
@@ -65,6 +68,7 @@ impl Font {
         header[24] = self.weight as u8;
         header[25] = self.face as u8;
         header[26] = (self.face >> 8) as u8;
+        header[40..42].copy_from_slice(&self.extended);
         header[48..58].copy_from_slice(b"Courier 10");
         header
     }

@@ -68,10 +68,12 @@ fn keep_header(block: &[u8]) -> Result<Vec<u8>, u32> {
     if be(block, 16) > 16800 {
         kept[16] = (16800 / 256) as u8;
         kept[17] = (16800 % 256) as u8;
+        kept[40] = 0;
     }
     if be(block, 18) > 10922 {
         kept[18] = (10922 / 256) as u8;
         kept[19] = (10922 % 256) as u8;
+        kept[41] = 0;
     }
     Ok(kept)
 }
@@ -416,8 +418,8 @@ impl Model {
         }
         prefer(&mut left, |f| u32::from(f.1[13]) == request.spacing);
         if left.iter().all(|f| f.1[13] == 0) {
-            let pitch = |f: &(u32, &[u8])| be(f.1, 16);
-            let qualifies = |f: &(u32, &[u8])| i64::from(request.pitch) * pitch(f) <= 120_000;
+            let pitch = |f: &(u32, &[u8])| 256 * be(f.1, 16) + i64::from(f.1[40]);
+            let qualifies = |f: &(u32, &[u8])| i64::from(request.pitch) * pitch(f) <= 30_720_000;
             let best = match left.iter().filter(|f| qualifies(f)).map(pitch).max() {
                 Some(greatest) => greatest,
                 None => left.iter().map(pitch).min().unwrap(),
@@ -425,8 +427,9 @@ impl Model {
             left.retain(|f| pitch(f) == best);
         }
         let away = |f: &(u32, &[u8])| {
-            let distance = (i64::from(request.height) - 6 * be(f.1, 18)).abs();
-            if distance <= 25 {
+            let height = 256 * be(f.1, 18) + i64::from(f.1[41]);
+            let distance = (256 * i64::from(request.height) - 6 * height).abs();
+            if distance <= 6400 {
                 0
             } else {
                 distance
