@@ -1,5 +1,6 @@
 //! Demand 3's book: the fonts meant, made from the calls and their answers and
-//! never from the store; and the nine steps as document 01 words them.
+//! never from the store; and the nine steps as document 01 words them, with the
+//! numbers of W-202.
 
 use crate::calls::{Answer, Call, Request};
 use std::collections::BTreeMap;
@@ -25,10 +26,13 @@ fn kept(block: &[u8]) -> Header {
     if field(&kept, 16) > 16800 {
         kept[16] = (16800_u32 / 256) as u8;
         kept[17] = (16800_u32 % 256) as u8;
+        // "A field cut to its limit keeps its extended byte as zero."
+        kept[40] = 0;
     }
     if field(&kept, 18) > 10922 {
         kept[18] = (10922_u32 / 256) as u8;
         kept[19] = (10922_u32 % 256) as u8;
+        kept[41] = 0;
     }
     kept
 }
@@ -70,12 +74,13 @@ impl<'a> Font<'a> {
         u32::from(self.header[13])
     }
 
-    fn pitch(&self) -> u32 {
-        field(self.header, 16)
+    /// W-202: "Pitch becomes 256 x field + byte 40, height 256 x field + byte 41."
+    fn pitch(&self) -> u64 {
+        256 * u64::from(field(self.header, 16)) + u64::from(self.header[40])
     }
 
-    fn height(&self) -> u32 {
-        field(self.header, 18)
+    fn height(&self) -> i64 {
+        256 * i64::from(field(self.header, 18)) + i64::from(self.header[41])
     }
 
     fn style(&self) -> u32 {
@@ -131,7 +136,7 @@ pub fn chosen(request: &Request, fonts: &[Font]) -> Option<u32> {
     left = if_any(&left, |font| font.spacing() == request.spacing);
     // 3
     if left.iter().all(|font| font.spacing() == 0) {
-        let fits = |pitch: u32| u64::from(request.pitch) * u64::from(pitch) <= 120_000;
+        let fits = |pitch: u64| u64::from(request.pitch) * pitch <= 30_720_000;
         let pitches = || left.iter().map(Font::pitch);
         let wanted = match pitches().filter(|&pitch| fits(pitch)).max() {
             Some(greatest) => greatest,
@@ -140,8 +145,9 @@ pub fn chosen(request: &Request, fonts: &[Font]) -> Option<u32> {
         left.retain(|font| font.pitch() == wanted);
     }
     // 4
-    let distance = |font: &Font| match request.height.abs_diff(6 * font.height()) {
-        ..=25 => 0,
+    let asked = 256 * i64::from(request.height);
+    let distance = |font: &Font| match (asked - 6 * font.height()).abs() {
+        ..=6400 => 0,
         far => far,
     };
     let least = left.iter().map(distance).min()?;

@@ -190,15 +190,27 @@ impl Generator<'_> {
         block[13] = chance.of(&[0, 0, 1]);
         let set = chance.of(&[277, 277, 277, 341, 85, 0, 2047]);
         put_high16(&mut block, 14, set);
-        // 79 x 1519 is 120,001.
+        // 79 x 1519 is 120,001; 57,600 x (256 x 291 + 70) is just past 2^32.
         let pitch = chance.of(&[
-            0, 70, 72, 79, 100, 120, 120, 120, 121, 16799, 16800, 16801, 65535,
+            0, 2, 70, 70, 72, 79, 100, 120, 120, 120, 121, 291, 16799, 16800, 16801, 65535,
         ]);
         put_high16(&mut block, 16, pitch);
         let height = chance.of(&[
-            0, 150, 195, 196, 200, 200, 204, 205, 10921, 10922, 10923, 65535,
+            0, 150, 195, 195, 196, 200, 200, 204, 204, 205, 10921, 10922, 10923, 65535,
         ]);
         put_high16(&mut block, 18, height);
+        // With R 1700, 70 and 150 qualify, 151 don't; with H 1200, 204 and 42 are
+        // level with 200, 43 aren't, and so are 195 and 214, not 213; with H 1202,
+        // 204 and 128 are just level.
+        for at in [40, 41] {
+            block[at] = match chance.below(3) {
+                0 => chance.byte(),
+                1 => chance.of(&[
+                    1, 20, 21, 22, 42, 43, 70, 128, 129, 149, 150, 151, 213, 214, 255,
+                ]),
+                _ => 0,
+            };
+        }
         block[24] = match chance.once_in(2) {
             true => chance.of(&[0, 3, 1, 255]),
             false => (chance.below(15) as u8).wrapping_sub(7),
@@ -586,7 +598,7 @@ impl Generator<'_> {
             symbol_set: chance.of(&[277, 277, 277, 341, 85, 21, 0, 2047]),
             spacing: chance.of(&[0, 0, 1]),
             pitch: chance.of(&[0, 1, 7, 8, 1000, 1001, 1200, 1519, 1666, 1667, 1700, 57600]),
-            height: chance.of(&[0, 900, 1174, 1175, 1200, 1225, 1226, 65532, 99975]),
+            height: chance.of(&[0, 900, 1174, 1175, 1200, 1202, 1225, 1226, 65532, 99975]),
             style: chance.of(&[0, 0, 0, 1, 255, 256, 1023]),
             weight: chance.below(15) as i32 - 7,
             typeface: chance.of(&[3, 3, 4, 0, 259, 65535]),
@@ -597,11 +609,13 @@ impl Generator<'_> {
             if chance.once_in(2) {
                 request.symbol_set = high16(font, 14) as u32;
             }
-            let pitch = high16(font, 16).max(1) as u32;
-            request.pitch = (120_000 / pitch + chance.of(&[0, 0, 1])).min(57_600);
-            let height = 6 * high16(font, 18) as i64;
-            let beside = chance.of(&[-27, -26, -25, -24, 0, 24, 25, 26, 27]);
-            request.height = (height + beside).clamp(0, 99_975) as u32;
+            let pitch = (256 * high16(font, 16) + usize::from(font[40])).max(1) as u32;
+            request.pitch = (30_720_000 / pitch + chance.of(&[0, 0, 1])).min(57_600);
+            // At the font's height, or where 6,400 off is just reached.
+            let height = 6 * (256 * high16(font, 18) + usize::from(font[41])) as i64;
+            let beside = chance.of(&[-6400, 0, 6400]);
+            let near = (height + beside) / 256 + chance.of(&[-1, 0, 0, 1, 1]);
+            request.height = near.clamp(0, 99_975) as u32;
         }
         request
     }
@@ -986,7 +1000,7 @@ impl Generator<'_> {
                 }
                 (false, _) => {
                     let record = records[chance.below(records.len())];
-                    record.at + chance.below(record.length.min(40))
+                    record.at + chance.below(record.length.min(52))
                 }
             }
             .min(bytes.len() - 1);

@@ -326,7 +326,32 @@ impl History<'_> {
         if choice.symbol_set() != request.symbol_set {
             self.met.situation("Roman-8 chosen for another set");
         }
+        if fonts.len() <= 16 {
+            self.chosen_by_extended_bytes(request, book, choice.number);
+        }
         Ok(Some(choice.number))
+    }
+
+    /// Counts choices that would be others if document 01's rule still held: an
+    /// extended byte "wrongly counts .. as zero" (W-202).
+    fn chosen_by_extended_bytes(&mut self, request: &Request, book: &Book, choice: u32) {
+        for (at, situation) in [
+            (40, "choice by the pitch's extended byte"),
+            (41, "choice by the height's extended byte"),
+        ] {
+            let mut without = book.clone();
+            for header in without.fonts.values_mut() {
+                header[at] = 0;
+            }
+            let fonts: Vec<Font> = without
+                .fonts
+                .iter()
+                .map(|(&number, header)| Font::new(number, header))
+                .collect();
+            if book::chosen(request, &fonts) != Some(choice) {
+                self.met.situation(situation);
+            }
+        }
     }
 
     /// "one more call that removes a font that wasn't chosen, also for lack of
@@ -441,6 +466,16 @@ impl History<'_> {
             true => "a changed buffer is still a store",
             false => "a changed buffer is no store",
         });
+        // A kept header may hold any extended byte beside any allowed field.
+        let fonts = generate::records(&pair.theirs);
+        let changed = first_difference(&bytes, &pair.theirs);
+        if fonts.iter().any(|font| {
+            let places = [40, 41].map(|byte| Some(font.at + 8 + byte));
+            font.code.is_none() && places.contains(&changed)
+        }) && reference::is_store(&bytes)
+        {
+            self.met.situation("extended byte changed in a store");
+        }
         let mut copy = self.pair(&bytes);
         for _ in 0..3 {
             let call = self.generator().call(&copy.theirs);
@@ -535,6 +570,9 @@ impl History<'_> {
         let open = generate::open(before);
         let kept = |font: u32| generate::records(before).iter().any(|r| r.font == font);
         let met = &mut *self.met;
+        if let (Call::DownloadFont { block, .. }, 0) = (call, answer.refusal) {
+            fields_cut(block, met);
+        }
         match (call, answer.refusal) {
             (Call::DownloadFont { font, .. }, 0) if kept(*font) => {
                 met.situation("font replaced");
@@ -640,6 +678,20 @@ impl History<'_> {
             }
             _ => {}
         }
+    }
+}
+
+/// Which fields of an accepted header are cut, or just not, beside an extended byte.
+fn fields_cut(block: &[u8], met: &mut Met) {
+    for (name, at, limit, extended) in [("pitch", 16, 16800, 40), ("height", 18, 10922, 41)] {
+        let field = u16::from_be_bytes([block[at], block[at + 1]]);
+        if block[extended] == 0 || field < limit {
+            continue;
+        }
+        met.situation(&match field == limit {
+            true => format!("{name} at its limit, its extended byte kept"),
+            false => format!("{name} cut, its extended byte lost"),
+        });
     }
 }
 

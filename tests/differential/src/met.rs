@@ -3,7 +3,7 @@
 use crate::calls::{Answer, Call, CALLS, NAMES, POSSIBLE};
 
 /// Every one must be met by a whole run.
-const SITUATIONS: [&str; 49] = [
+const SITUATIONS: [&str; 56] = [
     "font replaced",
     "font of the open character replaced",
     "font block while a character is open",
@@ -39,6 +39,13 @@ const SITUATIONS: [&str; 49] = [
     "a font struck for lack of room leaves the choice",
     "a font accepted leaves the choice",
     "a font accepted becomes the choice",
+    "pitch cut, its extended byte lost",
+    "pitch at its limit, its extended byte kept",
+    "height cut, its extended byte lost",
+    "height at its limit, its extended byte kept",
+    "choice by the pitch's extended byte",
+    "choice by the height's extended byte",
+    "extended byte changed in a store",
     "sheet without requests",
     "sheet of 64 requests",
     "sheet of 65 requests, answers for 64",
