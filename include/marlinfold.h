@@ -157,7 +157,9 @@ uint32_t mf_make_fresh(uint8_t *store, size_t store_len);
  * number. The font is kept without characters; a font that had this number is
  * removed first with all its characters.
  * Kept are the block's first 64 bytes with descriptor size 64, byte 5 zero, and
- * pitch (16) and height (18) cut to 16800 and 10922.
+ * pitch (16) and height (18) cut to 16800 and 10922. Their extended bytes (40 for
+ * the pitch, 41 for the height) are kept as sent, save that the one of a field that
+ * was cut is made 0.
  * Refuses: 1, 2, 3 for a length not 64..32767, 4 for a format (byte 2) other than
  * 0 or a descriptor size (0) not 64..block_len; 5 for a type (3) not 0..2, a style
  * word (byte 4 high, 23 low) above 1023, a cell width (8) or height (10) of 0, a
@@ -207,6 +209,9 @@ uint32_t mf_remove_character(uint8_t *store, size_t store_len,
  *   7. the typeface, if any has it
  *   8. the orientation, if any has it
  *   9. the lowest number
+ * A font's pitch and height are compared in 256ths of a quarter-dot, 1200 of which
+ * make an inch: the pitch is 256 x field 16 + byte 40 of its kept bytes, the height
+ * 256 x field 18 + byte 41. So field 70 with extended byte 150 is 17 to the inch.
  *   symbol_set   0..2047
  *   spacing      MF_FIXED or MF_PROPORTIONAL
  *   pitch        hundredths of a character per inch, 0..57600

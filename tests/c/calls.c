@@ -146,6 +146,68 @@ static void choosing(void)
     choose("weight -8", 277, -8, MF_PORTRAIT);
 }
 
+/* Font with this pitch, height and their extended bytes, else as A. */
+static void extended(uint32_t font, unsigned pitch, unsigned pitch_byte, unsigned height,
+                     unsigned height_byte)
+{
+    uint8_t block[64];
+    header(block, 277, MF_FIXED, height, 0, 3, MF_PORTRAIT);
+    block[16] = (uint8_t)(pitch / 256);
+    block[17] = (uint8_t)(pitch % 256);
+    block[40] = (uint8_t)pitch_byte;
+    block[41] = (uint8_t)height_byte;
+    if (mf_download_font(store, sizeof store, block, sizeof block, font))
+        puts("refused");
+}
+
+static void choose_size(const char *name, uint32_t pitch, uint32_t height)
+{
+    mf_chosen chosen = mf_choose(store, sizeof store, 277, MF_FIXED, pitch, height, 0, 0, 3,
+                                 MF_PORTRAIT);
+    printf("%s: refusal %u, font %u\n", name, (unsigned)chosen.refusal, (unsigned)chosen.font);
+}
+
+static void tell_extended(const char *name, uint32_t font)
+{
+    uint8_t kept[MF_FONT_BYTES];
+    mf_tell_font(store, sizeof store, kept, sizeof kept, font);
+    printf("%s: pitch %u %u, height %u %u\n", name, (unsigned)mf_field(kept, 16), kept[40],
+           (unsigned)mf_field(kept, 18), kept[41]);
+}
+
+/* Document 02, W-202: "At R 1700, 70 with 150 (18,070) qualifies and goes before 70
+ * with 0 (17,920)", whichever has the lower number; what is kept of a cut field; P8
+ * and P9 as they stand. */
+static void seventeen(void)
+{
+    mf_make_fresh(store, sizeof store);
+    extended(1, 70, 150, 200, 0);
+    extended(2, 70, 0, 200, 0);
+    choose_size("W-202 R 1700, 70 with 150 is 1", 1700, 1200);
+    extended(1, 70, 0, 200, 0);
+    extended(2, 70, 150, 200, 0);
+    choose_size("W-202 R 1700, 70 with 150 is 2", 1700, 1200);
+    extended(1, 70, 151, 200, 0);
+    choose_size("W-202 R 1700, 70 with 151 is 1", 1700, 1200);
+    extended(1, 70, 0, 204, 43);
+    extended(2, 70, 0, 204, 42);
+    choose_size("W-202 H 1200, 204 with 42 is 2", 1700, 1200);
+    extended(1, 16801, 150, 10923, 7);
+    extended(2, 16800, 150, 10922, 7);
+    tell_extended("cut", 1);
+    tell_extended("at the limits", 2);
+    choose_size("W-202 R 0, 16800 with 150 is 2", 0, 1200);
+    extended(1, 120, 0, 200, 0);
+    extended(2, 72, 0, 200, 0);
+    choose_size("P8 R 1200", 1200, 1200);
+    choose_size("P8 R 1700", 1700, 1200);
+    extended(1, 120, 0, 204, 0);
+    extended(2, 120, 0, 200, 0);
+    choose_size("P9 204 is level", 1000, 1200);
+    extended(1, 120, 0, 205, 0);
+    choose_size("P9 205 isn't", 1000, 1200);
+}
+
 static uint32_t character(unsigned class_, unsigned width, unsigned height, const uint8_t *data,
                           size_t length)
 {
@@ -268,6 +330,7 @@ int main(void)
 {
     listing();
     choosing();
+    seventeen();
     drawing();
     writing();
     refusals();
