@@ -211,7 +211,7 @@ uint32_t mf_remove_character(uint8_t *store, size_t store_len,
  *   9. the lowest number
  * A font's pitch and height are compared in 256ths of a quarter-dot, 1200 of which
  * make an inch: the pitch is 256 x field 16 + byte 40 of its kept bytes, the height
- * 256 x field 18 + byte 41. So field 70 with extended byte 150 is 17 to the inch.
+ * 256 x field 18 + byte 41. Field 70 with byte 150 is 17 characters to the inch.
  *   symbol_set   0..2047
  *   spacing      MF_FIXED or MF_PROPORTIONAL
  *   pitch        hundredths of a character per inch, 0..57600

@@ -92,6 +92,8 @@ fn header(number: usize) -> Vec<u8> {
     block[18..20].copy_from_slice(&(200 + (number % 5) as u16).to_be_bytes());
     block[24] = (number % 8) as u8;
     block[25] = (number % 4) as u8;
+    block[40] = (number % 2 * 150) as u8;
+    block[41] = (number % 2 * 100) as u8;
     block
 }
 
