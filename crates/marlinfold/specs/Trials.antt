@@ -1,7 +1,7 @@
 -- Document 01, "Trials on both sides": P1 to P12, one table and one claim.
 use Prim.Native.Nat.{ℕ, _/_, _%_}
 use mathlib.Core.Path.{_≡_}
-use mathlib.Core.List.{List, [], _∷_}
+use mathlib.Core.List.{List, [], _∷_, _++_}
 use lib.ListN.{replicate}
 use Rattle.blocks.specs.Picture.{judge}
 use Rattle.blocks.specs.Rows.{picture}
@@ -12,11 +12,14 @@ use Rattle.choice.specs.declared.Request.{Request}
 use Rattle.marlinfold.specs.Calls.{Call, make-fresh, download-font, choose-font, Answer, answer, ran}
 
 -- ── the fonts
--- a font block by orientation, spacing, set, pitch, height, weight byte and typeface; style 0
-unfoldable pub header : ℕ → ℕ → ℕ → ℕ → ℕ → ℕ → ℕ → List ℕ
-header page spacing set p h w face =
+-- a font block by orientation, spacing, set, pitch, height, weight byte, typeface and the extended bytes of pitch and height (W-202); style 0
+unfoldable pub extended : ℕ → ℕ → ℕ → ℕ → ℕ → ℕ → ℕ → ℕ → ℕ → List ℕ
+extended page spacing set p h w face x y =
     0 ∷ 64 ∷ 0 ∷ 0 ∷ 0 ∷ 0 ∷ 0 ∷ 15 ∷ 0 ∷ 20 ∷ 0 ∷ 20 ∷ page ∷ spacing ∷ set / 256 ∷ set % 256 ∷ p / 256 ∷ p % 256 ∷ h / 256 ∷ h % 256
-    ∷ 0 ∷ 0 ∷ 0 ∷ 0 ∷ w ∷ face % 256 ∷ face / 256 ∷ replicate 37 0
+    ∷ 0 ∷ 0 ∷ 0 ∷ 0 ∷ w ∷ face % 256 ∷ face / 256 ∷ (replicate 13 0 ++ (x ∷ y ∷ replicate 22 0))
+
+unfoldable pub header : ℕ → ℕ → ℕ → ℕ → ℕ → ℕ → ℕ → List ℕ
+header page spacing set p h w face = extended page spacing set p h w face 0 0
 
 -- "A, B, C share set 277, fixed, pitch 120, height 200, style 0, face 3. A: 5, weight 0. B: 2, weight 3. C: 9, as A, landscape."
 unfoldable pub A : Call
@@ -35,6 +38,10 @@ D = download-font 7 (header 0 1 341 0 150 0 4)
 -- A's like under number n with another pitch and height
 unfoldable pub like : ℕ → ℕ → ℕ → Call
 like n p h = download-font n (header 0 0 277 p h 0 3)
+
+-- and with an extended byte of the pitch
+unfoldable pub finer : ℕ → ℕ → ℕ → Call
+finer n p x = download-font n (extended 0 0 277 p 200 0 3 x 0)
 
 unfoldable pub all : List Call
 all = A ∷ B ∷ C ∷ D ∷ []
@@ -92,6 +99,11 @@ table =
     ∷ chooses (A ∷ like 3 120 204 ∷ []) (asks 277 1000 0 0) (namesFont 3)
     ∷ chooses (A ∷ like 6 120 204 ∷ []) (asks 277 1000 0 0) (namesFont 5)
     ∷ chooses (A ∷ like 3 120 205 ∷ []) (asks 277 1000 0 0) (namesFont 5)
+    -- W-202: at R 1700, 70 with 150 qualifies and goes before 70 with 0, whichever has the lower number;
+    ∷ chooses (finer 5 70 150 ∷ finer 6 70 0 ∷ []) (asks 277 1700 0 0) (namesFont 5)
+    ∷ chooses (finer 5 70 0 ∷ finer 6 70 150 ∷ []) (asks 277 1700 0 0) (namesFont 6)
+    -- a field cut to its limit has its extended byte as zero, one at its limit keeps it: where none qualifies, the least goes first
+    ∷ chooses (finer 5 16800 1 ∷ finer 6 16801 255 ∷ []) (asks 277 1000 0 0) (namesFont 6)
     -- P10 width 10, height 3, data 1 2 3 5 0 0 10: rows 56 0, 56 0, 255 192.
     ∷ draws 10 3 (1 ∷ 2 ∷ 3 ∷ 5 ∷ 0 ∷ 0 ∷ 10 ∷ []) (Complete 7) (56 ∷ 0 ∷ 56 ∷ 0 ∷ 255 ∷ 192 ∷ [])
     -- P11 width 300, height 1, data 0 255 0 45: a white row, complete.
