@@ -8,6 +8,7 @@
  * cannot. TEXT's bytes are the character codes. The options are those of
  * request.h, and
  *
+ *     --turn N         the label turned clockwise by N quarters, 0..3 (0)
  *     --plain          PBM in plain digits */
 #include "page.h"
 #include "request.h"
@@ -16,13 +17,14 @@
 
 typedef struct {
     mf_request font;
+    uint32_t turn;
     const unsigned char *text;
     int plain;
 } order;
 
 static void usage(void)
 {
-    stop("usage", "label " REQUEST_OPTIONS " [--plain] TEXT FONTFILE...");
+    stop("usage", "label " REQUEST_OPTIONS " [--turn N] [--plain] TEXT FONTFILE...");
 }
 
 /* The cursor after each character, in quarter-dots along the line. Fixed fonts
@@ -52,7 +54,7 @@ static void corner(const uint8_t *font, const uint8_t *character, long cursor, l
 /* Takes the words of the command line, and reads each font file into the store. */
 static order read_order(int count, char **words)
 {
-    order asked = {default_request, NULL, 0};
+    order asked = {default_request, 0, NULL, 0};
     int files = 0, word, taken;
 
     for (word = 1; word < count; word += taken) {
@@ -62,6 +64,10 @@ static order read_order(int count, char **words)
         taken = 1;
         if (strcmp(words[word], "--plain") == 0)
             asked.plain = 1;
+        else if (strcmp(words[word], "--turn") == 0 && word + 1 < count) {
+            asked.turn = (uint32_t)whole(words[word + 1]);
+            taken = 2;
+        }
         else if (strncmp(words[word], "--", 2) == 0)
             usage();
         else if (!asked.text)
@@ -133,6 +139,24 @@ static void set_line(const unsigned char *text, uint32_t number, const uint8_t *
         take_in(used, 0, 0, (cursor + 2) / 4, 0);
 }
 
+/* The label turned by so many quarters, 0 leaving it as it is. */
+static page turned(page label, uint32_t turn)
+{
+    page made;
+    uint32_t refusal;
+
+    if (turn == 0)
+        return label;
+    made = turn == 2 ? new_page(label.width, label.height) : new_page(label.height, label.width);
+    refusal = mf_turn_picture(label.dots, label.row_bytes * (size_t)label.height, made.dots,
+                              made.row_bytes * (size_t)made.height, (uint32_t)label.width,
+                              (uint32_t)label.height, turn);
+    if (refusal)
+        refuse("turning", refusal);
+    free(label.dots);
+    return made;
+}
+
 int main(int count, char **words)
 {
     uint8_t font[MF_FONT_BYTES];
@@ -147,6 +171,7 @@ int main(int count, char **words)
     set_line(asked.text, number, font, &used, NULL);
     label = new_page(used.right - used.left + 2 * MARGIN, used.bottom - used.top + 2 * MARGIN);
     set_line(asked.text, number, font, &used, &label);
+    label = turned(label, asked.turn);
     write_page(&label, asked.plain);
     free(label.dots);
     return 0;

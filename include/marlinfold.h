@@ -79,8 +79,9 @@ enum mf_orientation { MF_PORTRAIT = 0, MF_LANDSCAPE = 1 };
 #define MF_FONT_BYTES 64       /* what mf_tell_font copies */
 #define MF_CHARACTER_BYTES 16  /* what mf_tell_character copies */
 #define MF_BLOCK_MAX 32767     /* the longest block */
-#define MF_PICTURE_MAX 32768   /* the largest picture: any output so long takes any picture */
+#define MF_PICTURE_MAX 32768   /* the largest drawn picture: any output so long takes any */
 #define MF_ROW_MAX 2048        /* the longest row: any output so long takes any row */
+#define MF_SIDE_MAX 16384      /* the greatest width and height, in dots */
 
 /* Room that a store needs: 12 bytes, then for each font and each character
  * these, with the character's kept data beside them. */
@@ -316,6 +317,27 @@ uint32_t mf_draw_row(const uint8_t *store, size_t store_len,
 uint32_t mf_draw_picture(const uint8_t *store, size_t store_len,
                          uint8_t *out, size_t out_len,
                          uint32_t font, uint32_t code);
+
+/* Turns a picture clockwise into a second buffer: any rows of dots in the form
+ * that mf_draw_picture draws, a whole page as well as a character.
+ *   picture  height rows of mf_row_bytes(width) bytes, from the top, without
+ *            gaps; bits beyond the width and bytes behind the rows are not
+ *            looked at
+ *   out      gets the turned picture, with bits beyond its width 0. A half turn
+ *            needs mf_picture_bytes(width, height) bytes; a quarter and three
+ *            quarters make width rows of height dots, so they need
+ *            mf_picture_bytes(height, width), which may be more than
+ *            MF_PICTURE_MAX.
+ *   width    of the picture before the turn, 1..MF_SIDE_MAX
+ *   height   the same
+ *   turn     1 a quarter, 2 a half, 3 three quarters
+ * It needs no store. Turned by a quarter, the left column becomes the top row,
+ * read from the bottom.
+ * Refuses: 2 for a number out of range or too few bytes in picture, 12 if out_len
+ * is too short. */
+uint32_t mf_turn_picture(const uint8_t *picture, size_t picture_len,
+                         uint8_t *out, size_t out_len,
+                         uint32_t width, uint32_t height, uint32_t turn);
 
 /* Writes a font with its characters as a command stream and answers its length.
  * Read into a fresh store of the same length, it gives the same font again; which

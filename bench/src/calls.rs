@@ -50,6 +50,7 @@ pub enum Call {
         font: u32,
     },
     ReadStream,
+    TurnPicture { width: u32, height: u32, turn: u32 },
 }
 
 /// The refusal and the other numbers.
@@ -158,6 +159,13 @@ pub fn ours(call: Call, store: &mut [u8], input: &[u8], out: &mut [u8]) -> Answe
                 let read = c::mf_read_stream(at, len, block, block_len);
                 [u64::from(read.refusal), read.done, read.refused, read.place]
             }
+            Call::TurnPicture {
+                width,
+                height,
+                turn,
+            } => bare(c::mf_turn_picture(
+                block, block_len, to, to_len, width, height, turn,
+            )),
         }
     }
 }
@@ -200,5 +208,10 @@ pub fn theirs(call: Call, store: &mut [u8], input: &[u8], out: &mut [u8]) -> Ans
             let read = reference::read_stream(store, input);
             [u64::from(read.refusal), read.done, read.refused, read.place]
         }
+        Call::TurnPicture {
+            width,
+            height,
+            turn,
+        } => bare(reference::turn_picture(input, out, width, height, turn)),
     }
 }

@@ -15,7 +15,7 @@ pub struct Input {
 /// A name, and its input for a store of a length.
 pub type Named = (&'static str, fn(usize) -> Input);
 
-pub const INPUTS: [Named; 26] = [
+pub const INPUTS: [Named; 32] = [
     ("choose, store full of fonts", choose_among_fonts),
     ("choose, class 2 characters kept", choose_beside_runs),
     ("choose, class 1 characters kept", choose_beside_dots),
@@ -48,6 +48,24 @@ pub const INPUTS: [Named; 26] = [
     ("read a stream of characters", read_characters),
     ("read a stream of falling fonts", read_falling_fonts),
     ("read a stream of continuations", read_continuations),
+    ("turn 1024 x 256 dots by a quarter", |length| {
+        turn(1024, 256, 1, length)
+    }),
+    ("turn 1024 x 256 dots by a half", |length| {
+        turn(1024, 256, 2, length)
+    }),
+    ("turn 1024 x 256 dots by three quarters", |length| {
+        turn(1024, 256, 3, length)
+    }),
+    ("turn 300 x 3000 dots by a quarter", |length| {
+        turn(300, 3000, 1, length)
+    }),
+    ("turn 300 x 3000 dots by a half", |length| {
+        turn(300, 3000, 2, length)
+    }),
+    ("turn 300 x 3000 dots by three quarters", |length| {
+        turn(300, 3000, 3, length)
+    }),
 ];
 
 const REQUEST: Request = Request {
@@ -455,5 +473,24 @@ fn read_continuations(length: usize) -> Input {
     Input {
         given: stream,
         ..input(fresh(length), Call::ReadStream)
+    }
+}
+
+/// A picture of that height at 64 KiB, and of so much fewer rows at less.
+fn turn(width: u32, height: u32, turn: u32, length: usize) -> Input {
+    let height = height * (length / 1024) as u32 / 64;
+    let (across, down) = (width.div_ceil(8), height.div_ceil(8));
+    let bytes = (across * height) as usize;
+    Input {
+        given: (0..bytes).map(|at| (at * at / 7 + at) as u8).collect(),
+        out: bytes.max((down * width) as usize),
+        ..input(
+            Vec::new(),
+            Call::TurnPicture {
+                width,
+                height,
+                turn,
+            },
+        )
     }
 }

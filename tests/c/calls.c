@@ -291,6 +291,48 @@ static void writing(void)
     printf("one byte short: %u, %u\n", (unsigned)written.refusal, (unsigned)written.length);
 }
 
+static void show_rows(const uint8_t *rows, unsigned width, unsigned height)
+{
+    unsigned x, y;
+    for (y = 0; y < height; y++) {
+        for (x = 0; x < mf_row_bytes(width) * 8; x++)
+            putchar(rows[y * mf_row_bytes(width) + x / 8] & 0x80 >> x % 8 ? '#' : '.');
+        putchar('\n');
+    }
+}
+
+/* W-203: an F of 5 x 7 dots, black beyond its width, turned each way; then refusals,
+ * which leave the output. Rows are shown with their padding. */
+static void turning(void)
+{
+    const uint8_t letter[8] = {0xFF, 0x87, 0x87, 0xF7, 0x87, 0x87, 0x87, 0xFF};
+    uint8_t turned[8];
+    unsigned turn;
+    for (turn = 1; turn <= 3; turn++) {
+        memset(turned, 0x55, sizeof turned);
+        printf("turn %u: %u\n", turn,
+               (unsigned)mf_turn_picture(letter, 7, turned, sizeof turned, 5, 7, turn));
+        show_rows(turned, 8, 8);
+    }
+    memset(turned, 0x55, sizeof turned);
+#define TURN(length, room, width, height, by) \
+    printf("turn %d of %d x %d, %d bytes into %d: %u\n", by, width, height, length, room, \
+           (unsigned)mf_turn_picture(letter, length, turned, room, width, height, by))
+    TURN(7, 7, 5, 7, 0);
+    TURN(7, 7, 5, 7, 4);
+    TURN(7, 7, 0, 7, 1);
+    TURN(7, 7, MF_SIDE_MAX + 1, 7, 1);
+    TURN(7, 7, 5, 0, 1);
+    TURN(7, 7, 5, MF_SIDE_MAX + 1, 1);
+    TURN(6, 7, 5, 7, 2);
+    TURN(6, 0, 5, 7, 2);
+    TURN(7, 6, 5, 7, 2);
+    TURN(7, 4, 5, 7, 1);
+    TURN(8, 7, 9, 4, 3);
+    show_rows(turned, 8, 1);
+    TURN(8, 5, 5, 7, 3);
+}
+
 /* The header's names against the numbers answered; document 01's edges. */
 static void refusals(void)
 {
@@ -333,6 +375,7 @@ int main(void)
     seventeen();
     drawing();
     writing();
+    turning();
     refusals();
     return 0;
 }

@@ -53,7 +53,7 @@ const LAST_FONT_TYPE: u8 = 2;
 
 const LAST_STYLE: u16 = 1023;
 
-const LAST_ORIENTATION: u8 = 1;
+const LAST_ORIENTATION: u8 = 3;
 
 const LAST_SPACING: u8 = 1;
 

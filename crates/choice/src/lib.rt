@@ -36,7 +36,7 @@ const LEAST_WEIGHT: u32 = 4294967289;
 
 const HIGHEST_TYPEFACE: u32 = 65535;
 
-const LAST_ORIENTATION: u32 = 1;
+const LAST_ORIENTATION: u32 = 3;
 
 // A font qualifies by its pitch up to this product.
 const PITCH_TEST_LIMIT: u64 = 30720000;

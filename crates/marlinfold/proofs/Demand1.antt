@@ -33,8 +33,9 @@ use Rattle.sheet.specs.declared.SheetAnswer.{SheetAnswer}
 use Rattle.stream.specs.Reading.{Reading, endAnswer, readingOf, reading}
 use Rattle.stream.specs.declared.reading.Ending.{Ending}
 use Rattle.stream.specs.declared.reading.Ending.the-variants.{AtEnd, BrokenAt}
+use Rattle.turning.specs.Turn.{turnable, turnedSize, turned, unturned, turningPicture}
 use Rattle.stream.specs.Written.{WriteOut, unwritten, written, writingFont}
-use Rattle.marlinfold.specs.Calls.{Call, make-fresh, download-font, download-character, remove-font, remove-character, choose-font, tell-font, tell-character, draw-row, draw-picture, write-font, read-stream, choose-sheet, outputOf, Outcome, ofChange, ofChoice, ofTelling, ofDrawing, ofWriting, ofReading, ofSheet, outcome}
+use Rattle.marlinfold.specs.Calls.{Call, make-fresh, download-font, download-character, remove-font, remove-character, choose-font, tell-font, tell-character, draw-row, draw-picture, write-font, read-stream, choose-sheet, turn-picture, outputOf, Outcome, ofChange, ofChoice, ofTelling, ofDrawing, ofWriting, ofReading, ofTurning, ofSheet, outcome}
 use Rattle.marlinfold.specs.Demands.{listed, isIn, others, unchanged, carriedOut, Refusal, as-listed, no-room, broken, Demand1}
 
 -- the claim of an outcome
@@ -172,6 +173,16 @@ chooses-sheet rs out s =
     let w : Way (choose-sheet rs out) s Sheet = record { of = ofSheet s; refuse = unanswered out; same = λ k. refl } in
     by-check w (isStore s) 1 _ refl (by-check w (leb (length rs) mostRequests) 2 _ refl (by-check w (leb (length rs) (length out)) 12 _ refl (inl refl)))
 
+turns-picture : (t w h : ℕ) (pic out s : List ℕ) → Claim (turn-picture t w h pic out) s
+unfolding listed outputOf others turningPicture
+turns-picture t w h pic out s = go (turnable t w h (length pic)) (leb (turnedSize t w h) (length out))
+  where
+    go : (a b : Bool) → Told (turn-picture t w h pic out) s
+        (ofTurning s (cond a (cond b (record { answer = 0; bytes = turned t w h pic ++ drop (turnedSize t w h) out }) (unturned out 12)) (unturned out 2)))
+    go true true = inl refl
+    go true false = inr (as-listed (turn-picture t w h pic out) 12 refl)
+    go false b = inr (as-listed (turn-picture t w h pic out) 2 refl)
+
 -- ── a character block
 module _ (n c : ℕ) (b s : List ℕ) where
   sent : Way (download-character n c b) s After
@@ -241,3 +252,4 @@ demand1 (draw-picture n c out) s = draws-picture n c out s
 demand1 (write-font n out) s = writes-font n out s
 demand1 (read-stream b) s = reads b s
 demand1 (choose-sheet rs out) s = chooses-sheet rs out s
+demand1 (turn-picture t w h pic out) s = turns-picture t w h pic out s

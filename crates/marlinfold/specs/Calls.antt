@@ -11,6 +11,7 @@ use Rattle.choice.specs.declared.Request.{Request}
 use Rattle.choice.specs.declared.Chosen.{Chosen}
 use Rattle.sheet.specs.Sheet.{Sheet, choosingSheet}
 use Rattle.sheet.specs.declared.SheetAnswer.{SheetAnswer}
+use Rattle.turning.specs.Turn.{Turning, turningPicture}
 use Rattle.stream.specs.Reading.{Reading, reading}
 use Rattle.stream.specs.Written.{WriteOut, writingFont}
 
@@ -30,6 +31,7 @@ pub data Call : Type 0 where
   read-stream : (stream : List ℕ) → Call
   -- W-201
   choose-sheet : (rs : List Request) (out : List SheetAnswer) → Call
+  turn-picture : (t w h : ℕ) (pic out : List ℕ) → Call
 
 -- a sheet's answers as an output: the two numbers of each, one after the other
 unfoldable pub answerNumbers : List SheetAnswer → List ℕ
@@ -51,6 +53,7 @@ outputOf (draw-picture n c out) = out
 outputOf (write-font n out) = out
 outputOf (read-stream b) = []
 outputOf (choose-sheet rs out) = answerNumbers out
+outputOf (turn-picture t w h pic out) = out
 
 -- ── what a call answers and leaves
 pub record Outcome : Type 0 where
@@ -94,6 +97,10 @@ ofReading a = answered (a .answer .refusal) (a .answer .done ∷ a .answer .refu
 abbrev pub ofSheet : List ℕ → Sheet → Outcome
 ofSheet s a = answered (a .refusal) [] s (answerNumbers (a .answers))
 
+-- turning (W-203) no number; it is lent no store, and whatever buffer stands beside it is left as it was
+abbrev pub ofTurning : List ℕ → Turning → Outcome
+ofTurning s a = answered (a .answer) [] s (a .bytes)
+
 -- a call on the buffer s
 abbrev pub outcome : Call → List ℕ → Outcome
 outcome make-fresh s = ofChange (makingFresh s)
@@ -109,6 +116,7 @@ outcome (draw-picture n c out) s = ofDrawing s (drawingPicture n c s out)
 outcome (write-font n out) s = ofWriting s (writingFont n s out)
 outcome (read-stream b) s = ofReading (reading b s)
 outcome (choose-sheet rs out) s = ofSheet s (choosingSheet s rs out)
+outcome (turn-picture t w h pic out) s = ofTurning s (turningPicture t w h pic out)
 
 -- what a call leaves of the store
 abbrev pub leaves : Call → List ℕ → List ℕ

@@ -21,7 +21,7 @@ use Rattle.sheet.specs.declared.SheetAnswer.{SheetAnswer}
 use Rattle.stream.specs.Reading.{Progress, Ended, firstTarget, noneCounted, readFrom}
 use Rattle.stream.specs.declared.reading.Ending.the-variants.{BrokenAt}
 use Rattle.stream.specs.RoundTrip.{onlyFont}
-use Rattle.marlinfold.specs.Calls.{Call, make-fresh, download-font, download-character, remove-font, remove-character, choose-font, tell-font, tell-character, draw-row, draw-picture, write-font, read-stream, choose-sheet, outputOf, Outcome, answered, ofChoice, outcome, answer, leaves, ran}
+use Rattle.marlinfold.specs.Calls.{Call, make-fresh, download-font, download-character, remove-font, remove-character, choose-font, tell-font, tell-character, draw-row, draw-picture, write-font, read-stream, choose-sheet, turn-picture, outputOf, Outcome, answered, ofChoice, outcome, answer, leaves, ran}
 use Rattle.marlinfold.specs.Book.{bookAfter}
 
 -- ── demand 1: a call is done, or it refuses as the table says
@@ -51,6 +51,8 @@ listed (write-font n out) = 1 ∷ 2 ∷ 6 ∷ 12 ∷ []
 listed (read-stream b) = 1 ∷ []
 -- W-201: "Refusals: 1, then 2 for more than 64 requests, then 12 for an answer list shorter than the request list."
 listed (choose-sheet rs out) = 1 ∷ 2 ∷ 12 ∷ []
+-- W-203: "2 for a turn not 1 to 3, a width or height not 1 to 16,384, or a picture with too few bytes; then 12 for a short output"
+listed (turn-picture t w h pic out) = 2 ∷ 12 ∷ []
 
 abbrev pub isIn : ℕ → List ℕ → Bool
 isIn k [] = false
@@ -71,6 +73,7 @@ others (draw-picture n c out) = 0
 others (write-font n out) = 1
 others (read-stream b) = 3
 others (choose-sheet rs out) = 0
+others (turn-picture t w h pic out) = 0
 
 -- "unchanged", and "A refusal answers 0 for every other number"
 abbrev pub unchanged : Call → ℕ → List ℕ → Outcome

@@ -5,7 +5,7 @@ use mathlib.Core.List.{List, [], _∷_}
 use mathlib.Core.Bool.{Bool, true, false}
 use lib.Dec.{eqb}
 use lib.ListN.{replicate}
-use Rattle.marlinfold.specs.Calls.{Call, make-fresh, download-font, download-character, remove-font, remove-character, choose-font, tell-font, tell-character, draw-row, draw-picture, write-font, read-stream, choose-sheet, outcome}
+use Rattle.marlinfold.specs.Calls.{Call, make-fresh, download-font, download-character, remove-font, remove-character, choose-font, tell-font, tell-character, draw-row, draw-picture, write-font, read-stream, choose-sheet, turn-picture, outcome}
 use Rattle.marlinfold.specs.Demands.{listed}
 use Rattle.marlinfold.specs.Trials.{A, requestWith, asks, storeAfter}
 
@@ -24,6 +24,7 @@ kind (draw-picture n c out) = 10
 kind (write-font n out) = 11
 kind (read-stream b) = 12
 kind (choose-sheet rs out) = 13
+kind (turn-picture t w h pic out) = 14
 
 -- a first block of class 2 for font 5, w dots wide and h rows high
 unfoldable pub sending : ℕ → ℕ → List ℕ → Call
@@ -99,6 +100,8 @@ occurrences =
     ∷ at 0 [] (choose-sheet [] []) 1
     ∷ at 12 [] (choose-sheet (replicate 65 (requestWith 277 1000 0 0)) []) 2
     ∷ at 12 [] (choose-sheet (requestWith 277 1000 0 0 ∷ []) []) 12
+    ∷ at 0 [] (turn-picture 4 1 1 (128 ∷ []) (0 ∷ [])) 2
+    ∷ at 0 [] (turn-picture 1 1 1 (128 ∷ []) []) 12
     ∷ []
 
 abbrev pub AllOccur : List Occurrence → Type 0

@@ -35,6 +35,10 @@ C = download-font 9 (header 1 0 277 120 200 0 3)
 unfoldable pub D : Call
 D = download-font 7 (header 0 1 341 0 150 0 4)
 
+-- W-203: 12, as A, reverse portrait
+unfoldable pub E : Call
+E = download-font 12 (header 2 0 277 120 200 0 3)
+
 -- A's like under number n with another pitch and height
 unfoldable pub like : ℕ → ℕ → ℕ → Call
 like n p h = download-font n (header 0 0 277 p h 0 3)
@@ -104,6 +108,9 @@ table =
     ∷ chooses (finer 5 70 0 ∷ finer 6 70 150 ∷ []) (asks 277 1700 0 0) (namesFont 6)
     -- a field cut to its limit has its extended byte as zero, one at its limit keeps it: where none qualifies, the least goes first
     ∷ chooses (finer 5 16800 1 ∷ finer 6 16801 255 ∷ []) (asks 277 1000 0 0) (namesFont 6)
+    -- W-203: a page turned upside down takes a reverse portrait font, if there is one; else the lowest number
+    ∷ chooses (E ∷ all) (asks 277 1000 0 2) (namesFont 12)
+    ∷ chooses (E ∷ all) (asks 277 1000 0 3) (namesFont 5)
     -- P10 width 10, height 3, data 1 2 3 5 0 0 10: rows 56 0, 56 0, 255 192.
     ∷ draws 10 3 (1 ∷ 2 ∷ 3 ∷ 5 ∷ 0 ∷ 0 ∷ 10 ∷ []) (Complete 7) (56 ∷ 0 ∷ 56 ∷ 0 ∷ 255 ∷ 192 ∷ [])
     -- P11 width 300, height 1, data 0 255 0 45: a white row, complete.

@@ -3,7 +3,7 @@ ghost use mathlib.Core.Path.{_≡_};
 ghost use mathlib.Core.List.{_∷_, []};
 ghost use Rattle.choice.specs.Request.{requestOf};
 ghost use Rattle.choice.specs.Choosing.{refusalOf, fontOf};
-ghost use Rattle.marlinfold.specs.Calls.{make-fresh, download-font, download-character, remove-font, remove-character, choose-font, tell-font, tell-character, draw-row, draw-picture, write-font, read-stream, choose-sheet, answerNumbers, answered, outcome};
+ghost use Rattle.marlinfold.specs.Calls.{make-fresh, download-font, download-character, remove-font, remove-character, choose-font, tell-font, tell-character, draw-row, draw-picture, write-font, read-stream, choose-sheet, turn-picture, answerNumbers, answered, outcome};
 use choice::Chosen;
 use choice::Request;
 use sheet::SheetAnswer;
@@ -16,6 +16,7 @@ use stream::reading;
 use stream::reading::StreamRead;
 use stream::write;
 use stream::write::Written;
+use turning::turn;
 
 // The chosen font's number, or the refusal.
 #[repr(C)]
@@ -159,4 +160,18 @@ pub extern "C" fn mf_choose_sheet(
         i = i + 1;
     }
     0
+}
+
+// W-203
+#[no_mangle]
+pub extern "C" fn mf_turn_picture(
+    picture: &[u8],
+    out: &mut [u8],
+    width: u32,
+    height: u32,
+    turn: u32,
+) -> u32
+    ensures { λ r. ⌜ answered r [] [] (now (out .exit)) ≡ outcome (turn-picture turn width height (now (picture .entry)) (now (out .entry))) [] ⌝ }
+{
+    turn::turn_picture(picture, out, width, height, turn)
 }

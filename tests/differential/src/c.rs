@@ -112,4 +112,13 @@ extern "C" {
         stream: *const u8,
         stream_len: usize,
     ) -> StreamRead;
+    pub fn mf_turn_picture(
+        picture: *const u8,
+        picture_len: usize,
+        out: *mut u8,
+        out_len: usize,
+        width: u32,
+        height: u32,
+        turn: u32,
+    ) -> u32;
 }

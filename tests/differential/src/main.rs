@@ -16,6 +16,7 @@ mod chance;
 mod generate;
 mod history;
 mod met;
+mod turning;
 
 use calls::Lending;
 use met::Met;
@@ -150,7 +151,8 @@ fn run(given: &Arguments, first: u64) -> Met {
             given.small,
             given.trace,
             &mut met,
-        );
+        )
+        .and_then(|()| turning::run(given.seed, number, lending, given.trace));
         if let Err(difference) = found {
             println!("seed {} history {number}: {difference}", given.seed);
             DIFFERENCES.fetch_add(1, Ordering::Relaxed);
@@ -182,7 +184,7 @@ fn main() -> ExitCode {
             }
         }
     });
-    let never = met.report();
+    let never = met.report() + turning::report();
     println!("{} calls compared", met.calls());
     let mut differences = DIFFERENCES.load(Ordering::Relaxed);
     let whole = !given.small && given.count >= ENOUGH;

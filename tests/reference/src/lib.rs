@@ -17,6 +17,7 @@ mod choice;
 mod runs;
 mod store;
 mod stream;
+mod turn;
 
 use store::{Store, View};
 
@@ -201,4 +202,8 @@ pub fn read_stream(store: &mut [u8], stream: &[u8]) -> StreamRead {
             ..StreamRead::default()
         },
     }
+}
+
+pub fn turn_picture(picture: &[u8], out: &mut [u8], width: u32, height: u32, turn: u32) -> u32 {
+    number(turn::turn_picture(picture, out, width, height, turn))
 }

@@ -1,0 +1,10 @@
+pub mod Table
+pub mod DotLaws
+pub mod PictureLaws
+pub mod Places
+pub mod MirrorLaws
+pub mod SwapLaws
+pub mod BlockLaws
+pub mod Answers
+pub mod Turns
+pub mod Examples
