@@ -37,18 +37,26 @@ static long advance(const uint8_t *font, const uint8_t *character)
     return (long)mf_field(character, 14);
 }
 
+/* A place on the paper so far along the line: to the right, in a landscape font up,
+ * in the reverse ones to the left and down. */
+static void go_along(const uint8_t *font, long along, long *left, long *top)
+{
+    switch (font[12]) {
+    case MF_PORTRAIT: *left += along; break;
+    case MF_LANDSCAPE: *top -= along; break;
+    case MF_REVERSE_PORTRAIT: *left -= along; break;
+    default: *top += along; break;
+    }
+}
+
 /* Where the picture's corner is for a cursor: offsets are from the cursor, to
- * the right and up. On a landscape page the line runs up the paper. */
+ * the right and up. */
 static void corner(const uint8_t *font, const uint8_t *character, long cursor, long *left,
                    long *top)
 {
-    long along = (cursor + 2) / 4;
     *left = mf_signed_field(character, 6);
     *top = -(long)mf_signed_field(character, 8);
-    if (font[12] == MF_LANDSCAPE)
-        *top -= along;
-    else
-        *left += along;
+    go_along(font, (cursor + 2) / 4, left, top);
 }
 
 /* Takes the words of the command line, and reads each font file into the store. */
@@ -133,10 +141,11 @@ static void set_line(const unsigned char *text, uint32_t number, const uint8_t *
             fprintf(stderr, "code %u: %s, left blank\n", *text, mf_refusal_name(refusal));
         cursor += advance(font, refusal ? NULL : kept);
     }
-    if (!label && font[12] == MF_LANDSCAPE)
-        take_in(used, 0, -(cursor + 2) / 4, 0, 0);
-    else if (!label)
-        take_in(used, 0, 0, (cursor + 2) / 4, 0);
+    if (!label) {
+        left = top = 0;
+        go_along(font, (cursor + 2) / 4, &left, &top);
+        take_in(used, left, top, left, top);
+    }
 }
 
 /* The label turned by so many quarters, 0 leaving it as it is. */

@@ -8,7 +8,8 @@
  *     --style N        style word, 0..1023                      (0)
  *     --weight N       stroke weight, -7..7                     (0)
  *     --face N         typeface, 0..65535                       (3)
- *     --landscape      the page's orientation */
+ *     --landscape      the page's orientation; also --reverse-portrait and
+ *                      --reverse-landscape */
 #ifndef REQUEST_H
 #define REQUEST_H
 
@@ -16,7 +17,7 @@
 
 #define REQUEST_OPTIONS \
     "[--set SET] [--pitch CPI] [--proportional] [--height POINTS] [--style N] [--weight N] " \
-    "[--face N] [--landscape]"
+    "[--face N] [--landscape | --reverse-portrait | --reverse-landscape]"
 
 static const mf_request default_request = {MF_ROMAN_8, MF_FIXED, 1000, 1200, 0, 0, 3, MF_PORTRAIT};
 
@@ -79,6 +80,10 @@ static int set_option(mf_request *asked, char **words, int count)
         asked->spacing = MF_PROPORTIONAL;
     else if (strcmp(words[0], "--landscape") == 0)
         asked->orientation = MF_LANDSCAPE;
+    else if (strcmp(words[0], "--reverse-portrait") == 0)
+        asked->orientation = MF_REVERSE_PORTRAIT;
+    else if (strcmp(words[0], "--reverse-landscape") == 0)
+        asked->orientation = MF_REVERSE_LANDSCAPE;
     else
         return count > 1 && set_number(asked, words[0], words[1]) ? 2 : 0;
     return 1;
@@ -87,6 +92,8 @@ static int set_option(mf_request *asked, char **words, int count)
 /* Copies a kept font's bytes and prints a line about it. */
 static void print_font(FILE *to, uint32_t number, uint8_t *font)
 {
+    static const char *const orientation[] = {"portrait", "landscape", "reverse portrait",
+                                              "reverse landscape"};
     mf_told told = mf_tell_font(store, sizeof store, font, MF_FONT_BYTES, number);
     if (told.refusal)
         refuse("font", told.refusal);
@@ -97,7 +104,7 @@ static void print_font(FILE *to, uint32_t number, uint8_t *font)
             font[13] == MF_FIXED ? "fixed" : "proportional", (unsigned)mf_field(font, 16),
             (unsigned)mf_field(font, 18), font[4] * 256u + font[23],
             font[24] < 128 ? font[24] : font[24] - 256, font[26] * 256u + font[25],
-            font[12] == MF_PORTRAIT ? "portrait" : "landscape", (unsigned)told.count);
+            orientation[font[12]], (unsigned)told.count);
 }
 
 #endif

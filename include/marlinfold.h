@@ -71,7 +71,12 @@ enum mf_refusal {
 #define MF_SHEET_MAX 64        /* the most requests that one sheet has */
 /* As in a header's bytes 13 and 12. */
 enum mf_spacing { MF_FIXED = 0, MF_PROPORTIONAL = 1 };
-enum mf_orientation { MF_PORTRAIT = 0, MF_LANDSCAPE = 1 };
+enum mf_orientation {
+    MF_PORTRAIT = 0,
+    MF_LANDSCAPE = 1,
+    MF_REVERSE_PORTRAIT = 2,
+    MF_REVERSE_LANDSCAPE = 3
+};
 
 /* Sizes in bytes. */
 #define MF_STORE_MIN 12
@@ -164,8 +169,8 @@ uint32_t mf_make_fresh(uint8_t *store, size_t store_len);
  * Refuses: 1, 2, 3 for a length not 64..32767, 4 for a format (byte 2) other than
  * 0 or a descriptor size (0) not 64..block_len; 5 for a type (3) not 0..2, a style
  * word (byte 4 high, 23 low) above 1023, a cell width (8) or height (10) of 0, a
- * baseline (6) not below the cell height, an orientation (12) or spacing (13) not
- * 0 or 1, a symbol set (14) above 2047, a stroke weight (24, signed) not -7..7;
+ * baseline (6) not below the cell height, an orientation (12) not 0..3, a spacing
+ * (13) not 0 or 1, a symbol set (14) above 2047, a stroke weight (24, signed) not -7..7;
  * 10, which here leaves the store as it was. */
 uint32_t mf_download_font(uint8_t *store, size_t store_len,
                           const uint8_t *block, size_t block_len,
@@ -220,7 +225,7 @@ uint32_t mf_remove_character(uint8_t *store, size_t store_len,
  *   style        0..1023
  *   weight       -7..7
  *   typeface     0..65535
- *   orientation  of the page: MF_PORTRAIT or MF_LANDSCAPE
+ *   orientation  of the page: MF_PORTRAIT .. MF_REVERSE_LANDSCAPE, 0..3
  * Refuses: 1, 2, 11 if no font has the set asked for or Roman-8. */
 mf_chosen mf_choose(const uint8_t *store, size_t store_len,
                     uint32_t symbol_set, uint32_t spacing, uint32_t pitch,
@@ -236,7 +241,7 @@ typedef struct {
     uint32_t style;       /* 0..1023 */
     int32_t weight;       /* -7..7 */
     uint32_t typeface;    /* 0..65535 */
-    uint32_t orientation; /* of the page: MF_PORTRAIT or MF_LANDSCAPE */
+    uint32_t orientation; /* of the page: MF_PORTRAIT .. MF_REVERSE_LANDSCAPE */
 } mf_request;
 
 /* What one request of a sheet gets. */

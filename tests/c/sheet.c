@@ -115,7 +115,8 @@ static void fields(void)
     FOLLOWS(weight, -3, -8, 24, 253);
     FOLLOWS(weight, 7, 8, 24, 7);
     FOLLOWS(typeface, 259, 65536, 26, 1);
-    FOLLOWS(orientation, MF_LANDSCAPE, 2, 12, 1);
+    FOLLOWS(orientation, MF_LANDSCAPE, 4, 12, 1);
+    FOLLOWS(orientation, MF_REVERSE_LANDSCAPE, 4, 12, 3);
 }
 
 /* Fonts 100, 101, .. of heights 100, 110, .., and a sheet that asks for them from

@@ -186,7 +186,7 @@ impl Generator<'_> {
         put_high16(&mut block, 6, baseline);
         let width = chance.of(&[1, 30, 256, 65535]);
         put_high16(&mut block, 8, width);
-        block[12] = chance.of(&[0, 0, 0, 1]);
+        block[12] = chance.of(&[0, 0, 0, 0, 0, 0, 0, 0, 0, 1, 2, 3]);
         block[13] = chance.of(&[0, 0, 1]);
         let set = chance.of(&[277, 277, 277, 341, 85, 0, 2047]);
         put_high16(&mut block, 14, set);
@@ -253,7 +253,7 @@ impl Generator<'_> {
                     let baseline = chance.of(&[height.saturating_sub(1), height, height + 1]);
                     put_high16(&mut block, 6, baseline.min(65535));
                 }
-                7 => block[12] = chance.of(&[1, 2, 3, 255]),
+                7 => block[12] = chance.of(&[3, 4, 255]),
                 8 => block[13] = chance.of(&[1, 2, 255]),
                 9 => {
                     let set = chance.of(&[2047, 2048, 4096, 32768, 65535]);
@@ -489,7 +489,7 @@ impl Generator<'_> {
             0 => block[0] = chance.of(&[0, 3, 5, 20, 255]),
             1 => block[2] = chance.of(&[13, 15, 0, 255]),
             2 => block[3] = chance.of(&[0, 3, 4, 255]),
-            3 => block[4] = chance.of(&[1 - orientation.min(1), 2, 255]),
+            3 => block[4] = chance.of(&[(orientation + 1) % 4, 4, 255]),
             4 | 5 => block[5] = chance.byte(),
             6 | 7 => put_high16(&mut block, 6, chance.of(&OFFSETS)),
             8 | 9 => put_high16(&mut block, 8, chance.of(&OFFSETS)),
@@ -602,7 +602,7 @@ impl Generator<'_> {
             style: chance.of(&[0, 0, 0, 1, 255, 256, 1023]),
             weight: chance.below(15) as i32 - 7,
             typeface: chance.of(&[3, 3, 4, 0, 259, 65535]),
-            orientation: chance.of(&[0, 0, 1]),
+            orientation: chance.of(&[0, 0, 0, 0, 1, 1, 2, 3]),
         };
         if !fonts.is_empty() && chance.once_in(2) {
             let font = fonts[chance.below(fonts.len())];
@@ -632,7 +632,7 @@ impl Generator<'_> {
                 4 => request.style = chance.of(&[1024, 65_536, u32::MAX]),
                 5 => request.weight = chance.of(&[8, -8, 249, 256, i32::MIN, i32::MAX]),
                 6 => request.typeface = chance.of(&[65_536, 65_539, u32::MAX]),
-                _ => request.orientation = chance.of(&[2, 256, u32::MAX]),
+                _ => request.orientation = chance.of(&[4, 256, u32::MAX]),
             }
         }
         request

@@ -99,7 +99,7 @@ impl Header<'_> {
             && self.cell_width() >= 1
             && self.cell_height() >= 1
             && self.baseline() < self.cell_height()
-            && self.orientation() <= 1
+            && self.orientation() <= 3 // 02, W-203
             && self.spacing() <= 1
             && self.symbol_set() <= 2047
             && (-7..=7).contains(&self.weight())

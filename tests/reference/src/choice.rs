@@ -18,7 +18,7 @@ impl Request {
     /// 01, Choosing: "A request: symbol set 0..2047, spacing 0 or 1, pitch R in
     /// hundredths of a character per inch 0..57,600, height H in hundredths of
     /// a point 0..99,975, style 0..1023, weight -7..7, typeface 0..65535, page
-    /// orientation 0 or 1."
+    /// orientation 0 or 1"; 02, W-203: "Orientation becomes 0 to 3".
     fn is_in_range(&self) -> bool {
         self.symbol_set <= 2047
             && self.spacing <= 1
@@ -27,7 +27,7 @@ impl Request {
             && self.style <= 1023
             && (-7..=7).contains(&self.weight)
             && self.typeface <= 65_535
-            && self.orientation <= 1
+            && self.orientation <= 3
     }
 }
 

@@ -121,7 +121,7 @@ fn the_order_of_checks() {
             ..BASE
         },
         Request {
-            orientation: 2,
+            orientation: 4,
             ..BASE
         },
     ];
@@ -137,7 +137,7 @@ fn the_order_of_checks() {
         style: 1023,
         weight: 7,
         typeface: 65535,
-        orientation: 1,
+        orientation: 3,
     };
     assert_eq!(choose(&store, &ends), chosen(5));
 
@@ -454,7 +454,7 @@ fn what_is_a_store() {
         (108, 128),
         (113, 6),
         (nine + 6, 5),
-        (nine + 8 + 12, 2),
+        (nine + 8 + 12, 4),
         (end, 1),
         (end + 4, 1),
         (399, 1),
@@ -522,7 +522,7 @@ fn each_field_of_a_header_on_both_sides() {
     let bytes: &[(usize, &[u8], &[u8])] = &[
         (3, &[0, 1, 2], &[3, 255]),
         (4, &[0, 3], &[4, 255]),
-        (12, &[0, 1], &[2, 255]),
+        (12, &[0, 1, 2, 3], &[4, 255]),
         (13, &[0, 1], &[2, 255]),
         (23, &[0, 255], &[]),
         (24, &[0, 7, 249, 255], &[8, 127, 128, 248]),

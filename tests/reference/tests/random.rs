@@ -31,7 +31,7 @@ fn header(chance: &mut Chance) -> Vec<u8> {
         style: chance.of(&[0, 0, 1, 255, 256, 1023]),
         weight: chance.below(15) as i8 - 7,
         face: chance.of(&[0, 3, 3, 4, 259, 65535]),
-        orientation: chance.of(&[0, 0, 0, 1]),
+        orientation: chance.of(&[0, 0, 0, 0, 0, 0, 0, 0, 0, 1, 2, 3]),
     };
     let mut block = font.header().to_vec();
     if chance.once_in(4) {
@@ -157,7 +157,7 @@ fn request(chance: &mut Chance) -> Request {
         style: chance.of(&[0, 0, 1, 256, 1023]),
         weight: chance.below(15) as i32 - 7,
         typeface: chance.of(&[0, 3, 4, 259]),
-        orientation: chance.below(2) as u32,
+        orientation: chance.below(4) as u32,
     };
     if chance.once_in(20) {
         match chance.below(4) {
@@ -404,7 +404,7 @@ fn a_stream_is_its_commands_made_one_by_one() {
         assert_eq!(together, alone);
         assert_eq!(together, model.bytes());
     }
-    assert!(no_room > 300, "{no_room}");
+    assert!(no_room > 250, "{no_room}");
 }
 
 #[test]

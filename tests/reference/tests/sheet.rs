@@ -107,7 +107,7 @@ fn a_refused_entry_stands_alone() {
             ..BASE
         },
         Request {
-            orientation: 2,
+            orientation: 4,
             ..BASE
         },
     ];

@@ -52,7 +52,7 @@ fn keep_header(block: &[u8]) -> Result<Vec<u8>, u32> {
         be(block, 8) < 1,
         be(block, 10) < 1,
         be(block, 6) >= be(block, 10),
-        block[12] > 1,
+        block[12] > 3,
         block[13] > 1,
         be(block, 14) > 2047,
         weight < -7,
@@ -387,7 +387,7 @@ impl Model {
     }
 
     pub fn choose(&self, request: &Request) -> Result<u32, u32> {
-        let tops = [2047, 1, 57600, 99975, 1023, 65535, 1];
+        let tops = [2047, 1, 57600, 99975, 1023, 65535, 3];
         let numbers = [
             request.symbol_set,
             request.spacing,
