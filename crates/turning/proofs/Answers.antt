@@ -9,9 +9,9 @@ use borrow.Author.Tests.{leb-true, leb-false, le-leb, lt-leb, eqb-true, eqb-fals
 use lib.Dec.{leb, eqb}
 use lib.ListN.{length, drop}
 use Rattle.blocks.specs.Field.{within}
-use Rattle.blocks.specs.Character.{rowSize, pictureSize}
+use Rattle.blocks.specs.Character.{sideLimit, rowSize, pictureSize}
 use Rattle.blocks.proofs.Checks.{both}
-use Rattle.turning.specs.Turn.{sideLimit, turned, turnedSize, turnable, turningPicture}
+use Rattle.turning.specs.Turn.{turned, turnedSize, turnable, turningPicture}
 
 -- what a picture of so many bytes that can be turned is
 pub record Good (t w h size : ℕ) : Type 0 where

@@ -6,7 +6,7 @@ use mathlib.Core.Bool.{Bool, false, _&&_, cond}
 use lib.Dec.{leb, eqb}
 use lib.ListN.{length, getD, drop, take}
 use Rattle.blocks.specs.Field.{within}
-use Rattle.blocks.specs.Character.{rowSize, pictureSize}
+use Rattle.blocks.specs.Character.{sideLimit, rowSize, pictureSize}
 use Rattle.blocks.specs.Dots.{pack, unpack}
 use Rattle.blocks.specs.Rows.{bitmapRow}
 
@@ -56,9 +56,6 @@ unfoldable pub turned : ℕ → ℕ → ℕ → List ℕ → List ℕ
 turned t w h s = packRows (rowSize (turnedWidth t w h)) (turnRows t w (pictureRows w h s))
 
 -- "2 for a turn not 1 to 3, a width or height not 1 to 16,384, or a picture with too few bytes"
-abbrev pub sideLimit : ℕ
-sideLimit = 16384
-
 unfoldable pub turnable : ℕ → ℕ → ℕ → ℕ → Bool
 turnable t w h size = within 1 3 t && (within 1 sideLimit w && (within 1 sideLimit h && leb (pictureSize w h) size))
 

@@ -3,9 +3,9 @@ ghost use mathlib.Core.Path.{_≡_};
 ghost use mathlib.Core.List.{List, _++_};
 ghost use Prim.Native.Nat.{ℕ, _+_, _*_, _-_, _≤_, _<_, _%_, _^_};
 ghost use lib.ListN.{length, getD, take, drop};
-ghost use Rattle.blocks.specs.Character.{pictureSize};
+ghost use Rattle.blocks.specs.Character.{sideLimit, pictureSize};
 ghost use Rattle.turning.specs.Mirror.{mirror, Mirrors, joinedDots, halfByte};
-ghost use Rattle.turning.specs.Turn.{sideLimit, turned};
+ghost use Rattle.turning.specs.Turn.{turned};
 use crate::block;
 
 // The 256 bytes mirrored: the entry of a byte has its dots in reverse.
