@@ -41,7 +41,7 @@
  * What drawing needs
  *   At most this many bytes of stack on x86-64, beside what memset and memmove
  *   of the C library take: mf_draw_row 608, mf_draw_picture 704,
- *   mf_turn_picture 592. */
+ *   mf_turn_picture 656. */
 #ifndef MARLINFOLD_H
 #define MARLINFOLD_H
 
@@ -211,8 +211,8 @@ uint32_t mf_remove_character(uint8_t *store, size_t store_len,
  * each among the fonts that the one before leaves.
  *   1. the symbol set asked for, else Roman-8
  *   2. the spacing asked for, else the other
- *   3. of fixed fonts, the least pitch not below the one asked for, else the
- *      greatest
+ *   3. of fixed fonts, those with the fewest characters to the inch that are not
+ *      below the number asked for; if all are below it, those with the most
  *   4. the nearest height; 25 hundredths of a point off or less count as none
  *   5. the style, if any has it
  *   6. the weight; else, for 0 or more, the next thicker, failing that the nearest
@@ -220,9 +220,10 @@ uint32_t mf_remove_character(uint8_t *store, size_t store_len,
  *   7. the typeface, if any has it
  *   8. the orientation, if any has it
  *   9. the lowest number
- * A font's pitch and height are compared in 256ths of a quarter-dot, 1200 of which
- * make an inch: the pitch is 256 x field 16 + byte 40 of its kept bytes, the height
- * 256 x field 18 + byte 41. Field 70 with byte 150 is 17 characters to the inch.
+ * A font's pitch field is the width of a character and its height field a height,
+ * both in quarter-dots, of which 1200 make an inch. Compared are 256 x field 16 +
+ * byte 40 of its kept bytes and 256 x field 18 + byte 41: the greater the first, the
+ * fewer characters to the inch. Field 70 with byte 150 is 17 of them.
  *   symbol_set   0..2047
  *   spacing      MF_FIXED or MF_PROPORTIONAL
  *   pitch        hundredths of a character per inch, 0..57600

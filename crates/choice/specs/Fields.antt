@@ -25,13 +25,16 @@ isFixed f = eqb (spacing (headerOf f)) 0
 abbrev pub quarterDotParts : ℕ
 quarterDotParts = 256
 
--- the number that is compared for pitch, and for height.
+-- the number that is compared, by a field and its extended byte.
 -- W-202: "Pitch becomes 256 x field + byte 40, height 256 x field + byte 41."
+abbrev pub compared : ℕ → ℕ → ℕ
+compared field extended = quarterDotParts * field + extended
+
 unfoldable pub comparedPitch : Font → ℕ
-comparedPitch f = quarterDotParts * pitch (headerOf f) + pitchExtended (headerOf f)
+comparedPitch f = compared (pitch (headerOf f)) (pitchExtended (headerOf f))
 
 unfoldable pub comparedHeight : Font → ℕ
-comparedHeight f = quarterDotParts * height (headerOf f) + heightExtended (headerOf f)
+comparedHeight f = compared (height (headerOf f)) (heightExtended (headerOf f))
 
 unfoldable pub weightOf : Font → ℤ
 weightOf f = signed 8 (strokeWeight (headerOf f))

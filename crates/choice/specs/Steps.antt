@@ -38,9 +38,8 @@ hasSpacing r f = Bool·beq (isFixed f) (eqb (r .spacing) 0)
 unfoldable pub bySpacing : Request → List Font → List Font
 bySpacing r l = prefer (hasSpacing r) l
 
--- 3. Pitch, only if those left are fixed. For kept pitch P: if some have R x P at most 120,000, those with the greatest P among them;
---    else those with the least P.
---    W-202: "The test for pitch is R x pitch at most 30,720,000"
+-- 3. Pitch, only if those left are fixed. For kept pitch P: if some have R x P at most the limit, those with the greatest P among them;
+--    else those with the least P. W-202: "The test for pitch is R x pitch at most 30,720,000".
 abbrev pub pitchTestLimit : ℕ
 pitchTestLimit = 30720000
 
@@ -50,9 +49,8 @@ qualifies r f = leb (r .pitch * comparedPitch f) pitchTestLimit
 unfoldable pub byPitch : Request → List Font → List Font
 byPitch r l = cond (every isFixed l) (orElse (greatest leb comparedPitch (having (qualifies r) l)) (least leb comparedPitch l)) l
 
--- 4. Least |H - 6 x kept height|, where 25 or less counts as 0.
---    W-202: "the height distance is |256 x H - 6 x height| with 6,400 or less as 0"
---    A quarter-dot is 6 hundredths of a point; 25 of these, with 256 parts each, are a quarter of a point.
+-- 4. The least distance. W-202: "the height distance is |256 x H - 6 x height| with 6,400 or less as 0".
+--    A quarter-dot is 6 hundredths of a point; a quarter of a point is 25 hundredths, in 256ths of a hundredth 6,400.
 abbrev pub quarterDot : ℕ
 quarterDot = 6
 
@@ -112,7 +110,7 @@ hasTypeface r f = eqb (typeface (headerOf f)) (r .typeface)
 unfoldable pub byTypeface : Request → List Font → List Font
 byTypeface r l = prefer (hasTypeface r) l
 
--- 8. The page's orientation, if any has it.
+-- 8. The page's orientation, if any has it. (W-203: 0 to 3.)
 unfoldable pub hasOrientation : Request → Font → Bool
 hasOrientation r f = eqb (orientation (headerOf f)) (r .orientation)
 
