@@ -161,8 +161,8 @@ abbrev pub headerForm : List ℕ → Bool
 headerForm b = eqb (format b) bitmapFormat && within headerBytes (length b) (descriptorSize b)
 
 -- "Then, else 5: type (3) 0..2; style word (byte 4 high, byte 23 low) 0..1023; cell width (8) and height (10) at least 1; baseline (6) below
--- cell height; orientation (12) 0 to 3 (W-203: 0 portrait, 1 landscape, 2 reverse portrait, 3 reverse landscape); spacing (13) 0 fixed or 1 proportional; symbol set (14) 0..2047; stroke weight
--- (24, signed) -7..7."
+-- cell height; .. spacing (13) 0 fixed or 1 proportional; symbol set (14) 0..2047; stroke weight (24, signed) -7..7." W-203: "Orientation
+-- becomes 0 to 3 in headers and requests (2 reverse portrait, 3 reverse landscape)"
 abbrev pub headerFields : List ℕ → Bool
 headerFields b =
     leb (fontType b) lastFontType

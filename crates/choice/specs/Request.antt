@@ -26,8 +26,8 @@ highestH = 99975
 abbrev pub highestTypeface : ℕ
 highestTypeface = 65535
 
--- "symbol set 0..2047, spacing 0 or 1, pitch R .. 0..57,600, height H .. 0..99,975, style 0..1023, weight -7..7, typeface 0..65535, page
--- orientation 0 or 1" (W-203: 0 to 3): set, spacing, style, weight and orientation go as far as a header's
+-- "symbol set 0..2047, spacing 0 or 1, pitch R .. 0..57,600, height H .. 0..99,975, style 0..1023, weight -7..7, typeface 0..65535", page
+-- orientation 0 to 3 (W-203): set, spacing, style, weight and orientation go as far as a header's
 unfoldable pub inRange : Request → Bool
 inRange r =
     leb (r .«symbol_set») lastSymbolSet

@@ -4,7 +4,11 @@ use mathlib.Core.Path.{_≡_}
 use mathlib.Core.List.{List, [], _∷_}
 use Rattle.choice.specs.Choosing.{refusalOf, fontOf}
 use Rattle.choice.specs.declared.Chosen.{Chosen}
-use Rattle.marlinfold.specs.Calls.{answered, ofChoice}
+use Rattle.turning.specs.Turn.{Turning}
+use Rattle.marlinfold.specs.Calls.{answered, ofChoice, ofTurning}
 
 pub chosen-by : {s : List ℕ} {x a : Chosen} {k n : ℕ} → k ≡ refusalOf x → n ≡ fontOf x → x ≡ a → answered k (n ∷ []) s [] ≡ ofChoice s a
 chosen-by p q e = rw (p, q, e)
+
+pub turned-by : (a : Turning) {k : ℕ} {out : List ℕ} → k ≡ a .answer → out ≡ a .bytes → (s : List ℕ) → answered k [] s out ≡ ofTurning s a
+turned-by a p q s = rw (p, q)

@@ -31,6 +31,7 @@ pub data Call : Type 0 where
   read-stream : (stream : List ℕ) → Call
   -- W-201
   choose-sheet : (rs : List Request) (out : List SheetAnswer) → Call
+  -- W-203; it is lent no store
   turn-picture : (t w h : ℕ) (pic out : List ℕ) → Call
 
 -- a sheet's answers as an output: the two numbers of each, one after the other

@@ -1,4 +1,4 @@
--- Document 01, "Trials on both sides": P1 to P12, one table and one claim.
+-- Document 01, "Trials on both sides": P1 to P12, and those of the later requests, one table and one claim.
 use Prim.Native.Nat.{ℕ, _/_, _%_}
 use mathlib.Core.Path.{_≡_}
 use mathlib.Core.List.{List, [], _∷_, _++_}

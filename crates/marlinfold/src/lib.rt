@@ -1,6 +1,7 @@
-// The calls that C makes. Each is one call of a crate below, and its contract is its line of `outcome`. A slice is a pointer and a length in C.
+// The calls that C makes. Each is one call of a crate below, save the sheet, a loop of one, and its contract is its line of `outcome`. A slice is a pointer and a length in C.
 ghost use mathlib.Core.Path.{_≡_};
-ghost use mathlib.Core.List.{_∷_, []};
+ghost use Prim.Native.Nat.{ℕ};
+ghost use mathlib.Core.List.{List, _∷_, []};
 ghost use Rattle.choice.specs.Request.{requestOf};
 ghost use Rattle.choice.specs.Choosing.{refusalOf, fontOf};
 ghost use Rattle.marlinfold.specs.Calls.{make-fresh, download-font, download-character, remove-font, remove-character, choose-font, tell-font, tell-character, draw-row, draw-picture, write-font, read-stream, choose-sheet, turn-picture, answerNumbers, answered, outcome};
@@ -171,7 +172,7 @@ pub extern "C" fn mf_turn_picture(
     height: u32,
     turn: u32,
 ) -> u32
-    ensures { λ r. ⌜ answered r [] [] (now (out .exit)) ≡ outcome (turn-picture turn width height (now (picture .entry)) (now (out .entry))) [] ⌝ }
+    ensures { λ r. ⌜ ((s : List ℕ) → answered r [] s (now (out .exit)) ≡ outcome (turn-picture turn width height (now (picture .entry)) (now (out .entry))) s) ⌝ }
 {
     turn::turn_picture(picture, out, width, height, turn)
 }

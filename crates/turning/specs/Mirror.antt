@@ -1,4 +1,4 @@
--- For the code alone: how the half turn is made, and the rule of the table of mirrored bytes.
+-- W-203: "a written-out table of the 256 bytes mirrored, whose rule anyone can check": the rule, and behind it how the half turn is made.
 use Prim.Native.Nat.{ℕ, suc, _+_, _*_, _-_, _/_, _%_}
 use mathlib.Core.Path.{_≡_}
 use mathlib.Core.List.{List, [], _∷_, reverse}
@@ -20,6 +20,7 @@ mirrorsFrom b (x ∷ table) = eqb x (mirror b) && mirrorsFrom (suc b) table
 unfoldable pub Mirrors : List ℕ → Type 0
 Mirrors table = (length table ≡ 256) × T (mirrorsFrom 0 table)
 
+-- ── for the code alone
 -- eight of the sixteen dots of two bytes, from a place of the left one on; `scale` is two to the power of that place
 unfoldable pub joinedDots : ℕ → ℕ → ℕ → ℕ
 joinedDots left right scale = (left * 256 + right) * scale / 256 % 256
