@@ -2,8 +2,7 @@
 
 Read are the functions of ENTRIES in crates/marlinfold/src/lib.rt, the files whose functions they call,
 and every file of the repository that those name by a path (`use` lines and paths in the code), and so
-on. What is not seen here, an array of the kit's libraries or the second copy of a constant table, the
-frames of the archive show.
+on. What is not seen here, an array of the kit's libraries, the frames of the archive show.
 """
 import os
 import re
@@ -69,7 +68,7 @@ class Sources:
     def __init__(self, root):
         self.crates = os.path.join(root, "crates")
         self.names = sorted(os.listdir(self.crates))
-        self.texts, self.constants = {}, {}
+        self.texts, self.constants, self.double = {}, {}, set()
 
     def read(self, crate, file):
         with open(os.path.join(self.crates, crate, "src", file), encoding="utf-8") as source:
@@ -99,7 +98,10 @@ class Sources:
         whole = self.read(crate, file)
         text, constants = without_constants(whole)
         self.texts[crate, file] = text
-        self.constants.update(constants)
+        for name, (kind, value) in constants.items():
+            known = self.constants.setdefault(name, (kind, value))
+            if known != (kind, value):
+                self.double.add(name)
         for owner, named in self.paths(crate, whole):
             self.reach(owner, named)
 
@@ -126,7 +128,7 @@ class Sources:
         text = re.sub(r"\b(\d[\d_]*)(?:[ui]\d+|[ui]size)?\b", lambda m: m[1].replace("_", ""), text)
         for name in re.findall(r"(?:\w+::)*[A-Za-z]\w*", text):
             last = name.split("::")[-1]
-            if last not in self.constants:
+            if last not in self.constants or last in self.double:
                 raise Unread(f"the size {text}")
             text = re.sub(rf"(?<![\w:]){name}\b", f"({self.number(self.constants[last][1])})", text)
         if not re.fullmatch(r"[\d\s()+*/-]+", text):
@@ -176,9 +178,23 @@ class Sources:
             if is_type and value and self.table(value[1]) and not re.search(r"\bmut \w+\s*:$", before):
                 continue  # a constant table by another name
             yield array, self.size(array)
-        for name, value in re.findall(r"\blet mut (\w+)(?:\s*:[^=]*)? = ([\w:]+);", text):
-            if self.table(value):
-                yield f"mut {name} = {value}", self.size(self.constants[value.split("::")[-1]][0])
+        self.tables_lent_alone(text)
+
+    def tables_lent_alone(self, text):
+        """A constant table may get another name, be lent to read, or be indexed: any other use may copy it."""
+        tables = {name for name, (kind, _) in self.constants.items() if kind.startswith("[")}
+        named = r"\blet (\w+)(?:\s*:[^=]*)? = (?:\w+::)*(\w+);"
+        others = {name for name, value in re.findall(named, text) if value in tables}
+        rest = re.sub(r"\buse [^;]*;", "", re.sub(named, lambda m: "" if m[2] in tables else m[0], text))
+        for name in sorted(tables):
+            for match in re.finditer(rf"\b{name}\b", rest):
+                if not re.search(r"(?<!&)&\s*(\w+::)*$", rest[:match.start()]) and rest[match.end():match.end() + 1] != "[":
+                    raise Unread(f"what becomes of the table {name}")
+        for name in sorted(others):
+            if re.search(rf"= {name};|&\s*mut {name}\b", rest):
+                raise Unread(f"what becomes of the table {name}")
+        if re.search(r"\*\s*&", rest):
+            raise Unread("a value behind a reference that is made for it")
 
 
 def check(root, entries):
