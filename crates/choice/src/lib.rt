@@ -11,7 +11,7 @@ ghost use Rattle.blocks.specs.Header.{headerBytes, style, typeface};
 ghost use Rattle.store.specs.Records.{Place, Begun};
 ghost use Rattle.store.specs.Fonts.{fontsAt, fontsOf};
 ghost use Rattle.store.specs.declared.records.Begin.the-variants.{At};
-ghost use Rattle.choice.specs.Request.{requestOf, inRange};
+ghost use Rattle.choice.specs.Request.{inRange};
 ghost use Rattle.choice.specs.Fields.{asBytes, comparedPitch, comparedHeight};
 ghost use Rattle.choice.specs.Steps.{pitchTestLimit, heightDistance, takesPart};
 ghost use Rattle.choice.specs.Choosing.{choosingAmong, choosing};
@@ -112,31 +112,6 @@ struct Score {
     major: u64,
     minor: u64,
     number: u32,
-}
-
-// A request of its numbers, in document 01's order.
-pub fn request_of(
-    symbol_set: u32,
-    spacing: u32,
-    pitch: u32,
-    height: u32,
-    style: u32,
-    weight: u32,
-    typeface: u32,
-    orientation: u32,
-) -> Request
-    ensures { λ r. ⌜ r ≡ requestOf «symbol_set» spacing pitch height style weight typeface orientation ⌝ }
-{
-    Request {
-        symbol_set,
-        spacing,
-        pitch,
-        height,
-        style,
-        weight,
-        typeface,
-        orientation,
-    }
 }
 
 // A kept byte.
