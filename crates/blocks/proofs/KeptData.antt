@@ -2,17 +2,17 @@
 -- is kept is what a store may hold. Assumes nothing.
 use Prim.Native.Nat.{ℕ, _<_, _≤_}
 use mathlib.Core.Path.{_≡_, refl, sym, ap, _∙_}
-use mathlib.Core.List.{List, [], _++_}
+use mathlib.Core.List.{List, _++_}
 use mathlib.Core.Bool.{Bool, true, false, cond}
 use native.Mathlib.Omega.{arith}
 use borrow.Author.Tests.{le-leb, lt-leb, leb-true, leb-false, eq-eqb, ne-eqb, eqb-true}
 use lib.Dec.{leb, eqb}
 use lib.ListN.{length, take, drop, length-append, take-append-drop}
-use lib.Seq.{length-take-le, take-nil, take-take}
+use lib.Seq.{length-take-le}
 use Rattle.blocks.specs.Character.{bitmapClass, pictureSize, dataLimit}
 use Rattle.blocks.specs.Runs.{scanFrom, start}
 use Rattle.blocks.specs.Rows.{bitmapRow, runsRow, rowsFrom, rowsDrawn, count, rowDots, picture}
-use Rattle.blocks.specs.Picture.{judge, judgeBitmap, judgeScan, PastRun, keptBy, keptData, held, heldBy}
+use Rattle.blocks.specs.Picture.{judge, judgeBitmap, judgeScan, PastRun, keptData, held, heldBy}
 use Rattle.blocks.specs.declared.runs.Reader.{Reader}
 use Rattle.blocks.specs.declared.runs.Scanned.{Scanned}
 use Rattle.blocks.specs.declared.runs.Scanned.the-variants.{Complete as ScanComplete, Open, PastWidth as ScanPast}
@@ -169,22 +169,6 @@ module _ (k w h : ℕ) where
   pub kept-length : (d : List ℕ) (n : ℕ) → judge k w h d ≡ Complete n → length (keptData k w h d) ≡ n
   kept-length d n e = ap length (kept-complete d n e) ∙ length-take-le n d (complete-within d n e)
 
-  kept-none : (j : Judged) → keptBy j [] ≡ []
-  kept-none (Complete n) = take-nil n
-  kept-none Incomplete = refl
-  kept-none (PastWidth row f b) = refl
-
-  again-by : (d : List ℕ) (j : Judged) → judge k w h d ≡ j → keptData k w h (keptBy j d) ≡ keptBy j d
-  unfolding keptData
-  again-by d (Complete n) e = rw (take-complete d n e) (take-take n n d (omega arith))
-  again-by d Incomplete e = rw e
-  again-by d (PastWidth row f b) e = kept-none (judge k w h [])
-
-  -- what is kept is kept as it is
-  pub kept-again : (d : List ℕ) → keptData k w h (keptData k w h d) ≡ keptData k w h d
-  unfolding keptData
-  kept-again d = again-by d (judge k w h d) refl
-
   judged-by : (d : List ℕ) (j : Judged) → judge k w h d ≡ j → ((row f b : ℕ) → j ≡ PastWidth row f b → ⊥) → judge k w h (keptData k w h d) ≡ j
   judged-by d (Complete n) e past = rw (kept-complete d n e) (take-complete d n e)
   judged-by d Incomplete e past = rw (kept-incomplete d e) e
@@ -225,15 +209,6 @@ module _ (k w h : ℕ) where
   unfinished-judged d e = unfinished-as (length d) (leb (length d) dataLimit) (judge k w h d) refl e
 
   -- ---- the first part of data
-  -- a run past the width stays one, whatever follows
-  pub past-prefix : (xs ys : List ℕ) (row f b : ℕ) → judge k w h xs ≡ PastWidth row f b → judge k w h (xs ++ ys) ≡ PastWidth row f b
-  unfolding judge
-  past-prefix xs ys row f b e = past-as w h (eqb k 1) xs ys row f b e
-
-  -- so the first part of acceptable data is acceptable
-  pub acceptable-prefix : (xs ys : List ℕ) → ((row f b : ℕ) → judge k w h (xs ++ ys) ≡ PastWidth row f b → ⊥) → (row f b : ℕ) → judge k w h xs ≡ PastWidth row f b → ⊥
-  acceptable-prefix xs ys past row f b e = past row f b (past-prefix xs ys row f b e)
-
   pub incomplete-prefix : (xs ys : List ℕ) → judge k w h (xs ++ ys) ≡ Incomplete → judge k w h xs ≡ Incomplete
   unfolding judge
   incomplete-prefix xs ys e = incomplete-as w h (eqb k 1) xs ys e

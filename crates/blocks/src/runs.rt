@@ -309,7 +309,7 @@ impl Reader {
         }
     }
 
-    // One byte of data. The colour is no branch, since whether a run ends the row does not depend on it.
+    // One byte of data: whether a run ends the row, or passes it, does not depend on its colour.
     pub fn step(self, width: u16, height: u16, byte: u8) -> Stepped
         ensures { λ r. ⌜ r ≡ stepRun width height self byte ⌝ }
     {
