@@ -1,24 +1,14 @@
--- What a list of checks that takes a block says of each, and what `if !test(..)` tells of the test's definition. Assumes nothing.
+-- What a list of checks that takes a block says of each. Assumes nothing.
 use Prim.Native.Nat.{ℕ, _≤_}
-use mathlib.Core.Path.{_≡_, refl, sym, _∙_}
-use mathlib.Core.Bool.{Bool, true, false, not, _&&_}
+use mathlib.Core.Path.{_≡_, refl}
+use mathlib.Core.Bool.{Bool, true, false}
 use mathlib.Core.List.{List, [], _∷_}
-use borrow.Author.Tests.{leb-true, not-true, not-false}
+use borrow.Author.Tests.{leb-true}
 use lib.Dec.{leb}
-use Rattle.blocks.specs.Field.{within}
+use Rattle.pictures.specs.Size.{within}
+use Rattle.pictures.proofs.Tests.{both}
 use Rattle.blocks.specs.Check.{Check, verdict}
 use Rattle.blocks.specs.declared.Verdict.the-variants.{Taken}
-
-pub failed : {r t : Bool} → r ≡ t → not r ≡ true → t ≡ false
-failed {r} e h = sym e ∙ not-true r h
-
-pub passed : {r t : Bool} → r ≡ t → not r ≡ false → t ≡ true
-passed {r} e h = sym e ∙ not-false r h
-
--- two tests that hold together
-pub both : (s t : Bool) → (s && t) ≡ true → (s ≡ true) × (t ≡ true)
-both true t e = (refl, e)
-both false t e = let z : true ≡ false = sym e in (sym z, cc)
 
 pub within-low : (low high n : ℕ) → within low high n ≡ true → low ≤ n
 within-low low high n e = leb-true low n (both (leb low n) (leb n high) e .0)

@@ -12,7 +12,8 @@ use Rattle.blocks.specs.Field.{byte, negative}
 use Rattle.blocks.specs.Character.{descriptorBytes, formatAt, continuedAt, descriptorSizeAt, classAt, orientationAt, reservedAt, leftOffsetAt, topOffsetAt, widthAt, heightAt, deltaXAt, format, continued, descriptorSize, class, deltaX, characterFormat, sizeTaken, kindOf, takenClass, heldClass, firstLength, firstForm, firstFields, firstSize, firstChecks, readFirst, fixFirst, keptFirst, fixedFirst, isKeptFirst}
 use Rattle.blocks.specs.declared.Verdict.the-variants.{Taken, Refused}
 use Rattle.blocks.specs.declared.character.Kind.the-variants.{First, Continuation, Unknown}
-use Rattle.blocks.proofs.Checks.{both, taken}
+use Rattle.blocks.proofs.Checks.{taken}
+use Rattle.pictures.proofs.Tests.{both}
 use Rattle.blocks.proofs.Fields.{other, floor-other, floor-length, floor-zero, stay}
 
 pub first-long : (b : List ℕ) (o : ℕ) → readFirst b o ≡ Taken → descriptorBytes ≤ length b

@@ -8,10 +8,12 @@ use borrow.Author.Tests.{eqb-true}
 use lib.Dec.{T, leb, ltb, ltb→lt, eqb}
 use lib.ListN.{length, set, take, length-set}
 use lib.Seq.{getD-set-same, getD-take, length-take-le, take-all}
-use Rattle.blocks.specs.Field.{byte, word, putWord, capExtended, within}
+use Rattle.blocks.specs.Field.{byte, word, putWord, capExtended}
+use Rattle.pictures.specs.Size.{within}
 use Rattle.blocks.specs.Header.{blockLimit, headerBytes, descriptorSizeAt, formatAt, fontTypeAt, styleHighAt, reservedAt, baselineAt, cellWidthAt, cellHeightAt, orientationAt, spacingAt, symbolSetAt, pitchAt, heightAt, styleLowAt, strokeWeightAt, pitchExtendedAt, heightExtendedAt, descriptorSize, format, pitch, height, bitmapFormat, pitchLimit, heightLimit, headerFields, headerChecks, readHeader, fixHeader, keptHeader, fixedHeader, isKeptHeader}
 use Rattle.blocks.specs.declared.Verdict.the-variants.{Taken}
-use Rattle.blocks.proofs.Checks.{both, taken, within-low}
+use Rattle.blocks.proofs.Checks.{taken, within-low}
+use Rattle.pictures.proofs.Tests.{both}
 use Rattle.blocks.proofs.Fields.{other, put-other, cap-other, cap-length, cap-low, stay}
 
 pub header-long : (b : List ℕ) → readHeader b ≡ Taken → headerBytes ≤ length b

@@ -1,17 +1,5 @@
 pub mod Checks
 pub mod Signed
-pub mod Lists
 pub mod Fields
 pub mod KeptHeader
 pub mod KeptFirst
-pub mod Scanning
-pub mod Passing
-pub mod Packing
-pub mod Lines
-pub mod Copies
-pub mod Pictures
-pub mod Bitmaps
-pub mod Completeness
-pub mod Used
-pub mod KeptData
-pub mod Examples

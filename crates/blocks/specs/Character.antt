@@ -1,10 +1,11 @@
 -- Document 01, "The character block": a block's kind, a first block's checks in their order, and what is kept of its descriptor.
-use Prim.Native.Nat.{ℕ, _+_, _*_, _/_}
+use Prim.Native.Nat.{ℕ}
 use mathlib.Core.List.{List, [], _∷_}
 use mathlib.Core.Bool.{Bool, _&&_, not, cond}
 use lib.ListN.{length, take, set}
 use lib.Dec.{leb, eqb}
-use Rattle.blocks.specs.Field.{byte, word, within, signedWithin, negative, floorWord}
+use Rattle.blocks.specs.Field.{byte, word, signedWithin, negative, floorWord}
+use Rattle.pictures.specs.Size.{bitmapClass, runsClass, within, sideLimit, pictureSize, dataLimit}
 use Rattle.blocks.specs.Check.{Check, _else_, verdict}
 use Rattle.blocks.specs.Header.{blockLimit}
 use Rattle.blocks.specs.declared.Verdict.{Verdict}
@@ -83,25 +84,16 @@ height b = word b heightAt
 abbrev pub deltaX : List ℕ → ℕ
 deltaX b = word b deltaXAt
 
--- the format and the descriptor size that are taken, and the classes
+-- the format and the descriptor size that are taken
 abbrev pub characterFormat : ℕ
 characterFormat = 4
 
 abbrev pub sizeTaken : ℕ
 sizeTaken = 14
 
-abbrev pub bitmapClass : ℕ
-bitmapClass = 1
-
-abbrev pub runsClass : ℕ
-runsClass = 2
-
--- how far the fields go
+-- how far an offset goes
 abbrev pub offsetLimit : ℕ
 offsetLimit = 16384
-
-abbrev pub sideLimit : ℕ
-sideLimit = 16384
 
 -- "Length 2..32767, else 3"
 unfoldable pub characterLength : List ℕ → Bool
@@ -142,18 +134,7 @@ firstFields b o =
     && within 1 sideLimit (width b)
     && within 1 sideLimit (height b)
 
--- "height rows of width/8 rounded up bytes"
-abbrev pub rowSize : ℕ → ℕ
-rowSize w = (w + 7) / 8
-
-abbrev pub pictureSize : ℕ → ℕ → ℕ
-pictureSize w h = h * rowSize w
-
--- a picture, and a character's kept data, have at most so many bytes
-abbrev pub dataLimit : ℕ
-dataLimit = 32768
-
--- "above 32,768 bytes in all is 9"
+-- "A picture has height rows of width/8 rounded up bytes; above 32,768 bytes in all is 9."
 abbrev pub firstSize : List ℕ → Bool
 firstSize b = leb (pictureSize (width b) (height b)) dataLimit
 

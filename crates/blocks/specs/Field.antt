@@ -19,10 +19,6 @@ join high low = high * 256 + low
 abbrev pub word : List ℕ → ℕ → ℕ
 word b at = join (byte b at) (byte b (at + 1))
 
--- low up to high, both allowed
-abbrev pub within : ℕ → ℕ → ℕ → Bool
-within low high n = leb low n && leb n high
-
 -- a field of w bits, read as a two's complement number
 unfoldable pub signed : ℕ → ℕ → ℤ
 signed w n = cond (ltb n (2 ^ w / 2)) (pos n) (subℕ n (2 ^ w))

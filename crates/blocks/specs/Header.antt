@@ -4,7 +4,8 @@ use mathlib.Core.List.{List, [], _∷_}
 use mathlib.Core.Bool.{Bool, _&&_}
 use lib.ListN.{length, take, set}
 use lib.Dec.{leb, ltb, eqb}
-use Rattle.blocks.specs.Field.{byte, join, word, within, signedWithin, putWord, capExtended}
+use Rattle.blocks.specs.Field.{byte, join, word, signedWithin, putWord, capExtended}
+use Rattle.pictures.specs.Size.{within}
 use Rattle.blocks.specs.Check.{Check, _else_, verdict}
 use Rattle.blocks.specs.declared.Verdict.{Verdict}
 

@@ -2,9 +2,3 @@ pub mod Field
 pub mod Check
 pub mod Header
 pub mod Character
-pub mod Runs
-pub mod Passing
-pub mod Picture
-pub mod Dots
-pub mod Rows
-pub mod Drawing

@@ -2,40 +2,17 @@
 ghost use mathlib.Core.Path.{_≡_};
 ghost use Prim.Native.Nat.{_≤_};
 ghost use lib.ListN.{length};
-ghost use Rattle.blocks.specs.Field.{within};
-ghost use Rattle.blocks.specs.Character.{
-  descriptorBytes,
-  continuationBytes,
-  class,
-  width,
-  height,
-  characterLength,
-  kindOf,
-  takenClass,
-  heldClass,
-  firstForm,
-  sideLimit,
-  firstFields,
-  firstSize,
-  rowSize,
-  pictureSize,
-  readFirst,
-  fixFirst,
-  keptFirst,
-  isKeptFirst,
-  fixedFirst,
-};
+ghost use Rattle.pictures.specs.Size.{within, sideLimit};
+ghost use Rattle.blocks.specs.Character.{descriptorBytes, continuationBytes, class, width, height, characterLength, kindOf, takenClass, heldClass, firstForm, firstFields, firstSize, readFirst, fixFirst, keptFirst, isKeptFirst, fixedFirst};
 use crate::Verdict;
 use crate::field;
 use crate::header;
+use pictures::size;
 
 // So many bytes of a first block are its descriptor, and so many stand before a continuation's data.
 pub const KEPT: usize = 16;
 
 pub const CONTINUATION: usize = 2;
-
-// A picture, and a character's kept data, have at most so many bytes.
-pub const DATA_LIMIT: usize = 32768;
 
 // Where the fields stand.
 const FORMAT_AT: usize = 0;
@@ -60,14 +37,10 @@ const HEIGHT_AT: usize = 12;
 
 const DELTA_X_AT: usize = 14;
 
-// The format and the descriptor size that are taken, and the classes.
+// The format and the descriptor size that are taken.
 const FORMAT: u8 = 4;
 
 const SIZE_TAKEN: u8 = 14;
-
-pub const BITMAP: u8 = 1;
-
-pub const RUNS: u8 = 2;
 
 // How far a width or a height goes.
 const SIDE_LIMIT: u16 = 16384;
@@ -128,14 +101,14 @@ pub fn kind_of(block: &[u8]) -> Kind
 fn taken_class(k: u8) -> bool
     ensures { λ r. ⌜ r ≡ takenClass k ⌝ }
 {
-    (BITMAP <= k) & (k <= RUNS)
+    (size::BITMAP <= k) & (k <= size::RUNS)
 }
 
 // The classes of the characters in a store.
 fn held_class(k: u8) -> bool
     ensures { λ r. ⌜ r ≡ heldClass k ⌝ }
 {
-    (BITMAP <= k) & (k <= RUNS)
+    (size::BITMAP <= k) & (k <= size::RUNS)
 }
 
 fn first_form(block: &[u8]) -> bool
@@ -163,25 +136,11 @@ fn first_fields(block: &[u8], orientation: u8) -> bool
         & side_allowed(height(block))
 }
 
-// The bytes of a row.
-pub fn row_size(width: u16) -> usize
-    ensures { λ r. ⌜ r ≡ rowSize width ⌝ }
-{
-    ((width as usize) + 7) / 8
-}
-
-// The bytes of a picture.
-pub fn picture_size(width: u16, height: u16) -> usize
-    ensures { λ r. ⌜ r ≡ pictureSize width height ⌝ }
-{
-    (height as usize) * row_size(width)
-}
-
 fn first_size(block: &[u8]) -> bool
     requires { ⌜ descriptorBytes ≤ length (now block) ⌝ }
     ensures { λ r. ⌜ r ≡ firstSize (now (block .entry)) ⌝ }
 {
-    picture_size(width(block), height(block)) <= DATA_LIMIT
+    size::picture_size(width(block), height(block)) <= size::DATA_LIMIT
 }
 
 // The checks of a first block, in document 01's order, for a font of this orientation.

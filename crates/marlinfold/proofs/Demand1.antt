@@ -9,12 +9,13 @@ use lib.Dec.{leb, ltb}
 use lib.ListN.{length, drop}
 use Rattle.blocks.specs.Check.{Check, verdict}
 use Rattle.blocks.specs.Header.{headerBytes, orientation, headerChecks, readHeader, keptHeader}
-use Rattle.blocks.specs.Character.{descriptorBytes, continuationBytes, dataLimit, width, height, rowSize, pictureSize, characterLength, kindOf, firstChecks, readFirst, keptFirst}
+use Rattle.blocks.specs.Character.{descriptorBytes, continuationBytes, width, height, characterLength, kindOf, firstChecks, readFirst, keptFirst}
+use Rattle.pictures.specs.Size.{dataLimit, rowSize, pictureSize}
 use Rattle.blocks.specs.declared.Verdict.the-variants.{Refused}
 use Rattle.blocks.specs.declared.character.Kind.{Kind}
 use Rattle.blocks.specs.declared.character.Kind.the-variants.{First, Continuation, Unknown}
-use Rattle.blocks.specs.declared.picture.Judged.{Judged}
-use Rattle.blocks.specs.declared.picture.Judged.the-variants.{Complete, Incomplete, PastWidth}
+use Rattle.pictures.specs.declared.picture.Judged.{Judged}
+use Rattle.pictures.specs.declared.picture.Judged.the-variants.{Complete, Incomplete, PastWidth}
 use Rattle.store.specs.Layout.{leastStore, mostStore, lastFont, keyOf}
 use Rattle.store.specs.Num.{_&_}
 use Rattle.store.specs.Model.{Rec, Store, decode}

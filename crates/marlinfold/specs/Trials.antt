@@ -3,10 +3,10 @@ use Prim.Native.Nat.{ℕ, _/_, _%_}
 use mathlib.Core.Path.{_≡_}
 use mathlib.Core.List.{List, [], _∷_, _++_}
 use lib.ListN.{replicate}
-use Rattle.blocks.specs.Picture.{judge}
-use Rattle.blocks.specs.Rows.{picture}
-use Rattle.blocks.specs.declared.picture.Judged.{Judged}
-use Rattle.blocks.specs.declared.picture.Judged.the-variants.{Complete, PastWidth}
+use Rattle.pictures.specs.Picture.{judge}
+use Rattle.pictures.specs.Rows.{picture}
+use Rattle.pictures.specs.declared.picture.Judged.{Judged}
+use Rattle.pictures.specs.declared.picture.Judged.the-variants.{Complete, PastWidth}
 use Rattle.choice.specs.Request.{requestOf}
 use Rattle.choice.specs.declared.Request.{Request}
 use Rattle.marlinfold.specs.Calls.{Call, make-fresh, download-font, choose-font, Answer, answer, ran}

@@ -10,16 +10,17 @@ use lib.Dec.{leb, eqb}
 use borrow.Author.Tests.{leb-true, le-leb, eq-eqb}
 use Rattle.blocks.specs.Check.{Check, verdict}
 use Rattle.blocks.specs.Header.{orientation, headerChecks, readHeader, keptHeader}
-use Rattle.blocks.specs.Character.{class, width, height, characterLength, kindOf, firstChecks, readFirst, keptFirst, isKeptFirst, dataLimit, descriptorBytes, continuationBytes}
-use Rattle.blocks.specs.Picture.{judge, keptData}
+use Rattle.blocks.specs.Character.{class, width, height, characterLength, kindOf, firstChecks, readFirst, keptFirst, isKeptFirst, descriptorBytes, continuationBytes}
+use Rattle.pictures.specs.Size.{dataLimit}
+use Rattle.pictures.specs.Picture.{judge, keptData}
 use Rattle.blocks.specs.declared.Verdict.the-variants.{Taken, Refused}
 use Rattle.blocks.specs.declared.character.Kind.{Kind}
 use Rattle.blocks.specs.declared.character.Kind.the-variants.{First, Continuation, Unknown}
-use Rattle.blocks.specs.declared.picture.Judged.{Judged}
-use Rattle.blocks.specs.declared.picture.Judged.the-variants.{Complete, Incomplete, PastWidth}
+use Rattle.pictures.specs.declared.picture.Judged.{Judged}
+use Rattle.pictures.specs.declared.picture.Judged.the-variants.{Complete, Incomplete, PastWidth}
 use Rattle.blocks.proofs.KeptHeader.{kept-header, kept-length, header-long}
 use Rattle.blocks.proofs.KeptFirst.{kept-first}
-use Rattle.blocks.proofs.KeptData.{held-whole, held-unfinished}
+use Rattle.pictures.proofs.KeptData.{held-whole, held-unfinished}
 use Rattle.store.specs.Layout.{keyOf, lastCode, lastFont, leastStore, markRecord, mostStore}
 use Rattle.store.specs.Num.{_&_}
 use Rattle.store.specs.Model.{Rec, font, character, Store, under, alone, sorted, markOk, heldUnder, isKept, run, encode, decode, total}

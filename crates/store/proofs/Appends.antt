@@ -10,14 +10,15 @@ use lib.Seq.{take-all}
 use lib.Dec.{eqb}
 use borrow.Author.Tests.{le-leb, eq-eqb}
 use Rattle.blocks.specs.Header.{orientation, isKeptHeader, keptHeader, blockLimit}
-use Rattle.blocks.specs.Character.{class, width, height, characterLength, kindOf, dataLimit, descriptorBytes}
-use Rattle.blocks.specs.Picture.{judge, keptData, held}
-use Rattle.blocks.specs.declared.picture.Judged.the-variants.{Complete, Incomplete}
-use Rattle.blocks.specs.declared.picture.Held.{Held}
-use Rattle.blocks.specs.declared.picture.Held.the-variants.{Whole, Unfinished, Foreign}
+use Rattle.blocks.specs.Character.{class, width, height, characterLength, kindOf, descriptorBytes}
+use Rattle.pictures.specs.Size.{dataLimit}
+use Rattle.pictures.specs.Picture.{judge, keptData, held}
+use Rattle.pictures.specs.declared.picture.Judged.the-variants.{Complete, Incomplete}
+use Rattle.pictures.specs.declared.picture.Held.{Held}
+use Rattle.pictures.specs.declared.picture.Held.the-variants.{Whole, Unfinished, Foreign}
 use Rattle.blocks.proofs.KeptHeader.{is-kept-header}
 use Rattle.blocks.proofs.KeptFirst.{is-kept-block, is-kept-length}
-use Rattle.blocks.proofs.KeptData.{whole-judged, unfinished-judged, kept-complete, kept-incomplete, incomplete-prefix, complete-prefix}
+use Rattle.pictures.proofs.KeptData.{whole-judged, unfinished-judged, kept-complete, kept-incomplete, incomplete-prefix, complete-prefix}
 use Rattle.store.specs.Layout.{keyOf, characterRecord, lastCode, lastFont, markRecord, mostStore, fontRecord}
 use Rattle.store.specs.Num.{_&_}
 use Rattle.store.specs.Model.{Rec, font, character, Store, key, number, place, heldOf, heldUnder, isKept, isUnfinished, sorted, markOk, run, encode, total, sizeOf}

@@ -11,14 +11,15 @@ use lib.Seq.{take-all, take-append-add, take-append-le}
 use lib.Dec.{eqb, leb}
 use borrow.Author.Tests.{eqb-true, eqb-false, eq-eqb, ne-eqb, le-leb, lt-leb}
 use Rattle.blocks.specs.Header.{orientation}
-use Rattle.blocks.specs.Character.{class, width, height, isKeptFirst, dataLimit, descriptorBytes, continuationBytes}
-use Rattle.blocks.specs.Picture.{judge, keptData, held}
+use Rattle.blocks.specs.Character.{class, width, height, isKeptFirst, descriptorBytes, continuationBytes}
+use Rattle.pictures.specs.Size.{dataLimit}
+use Rattle.pictures.specs.Picture.{judge, keptData, held}
 use Rattle.blocks.specs.declared.Verdict.the-variants.{Taken}
-use Rattle.blocks.specs.declared.picture.Held.{Held}
-use Rattle.blocks.specs.declared.picture.Held.the-variants.{Whole, Unfinished, Foreign}
-use Rattle.blocks.specs.declared.picture.Judged.{Judged}
-use Rattle.blocks.specs.declared.picture.Judged.the-variants.{Complete, Incomplete, PastWidth}
-use Rattle.blocks.proofs.KeptData.{complete-within, kept-complete, kept-incomplete, kept-judged, held-whole, held-unfinished, unfinished-judged, incomplete-prefix}
+use Rattle.pictures.specs.declared.picture.Held.{Held}
+use Rattle.pictures.specs.declared.picture.Held.the-variants.{Whole, Unfinished, Foreign}
+use Rattle.pictures.specs.declared.picture.Judged.{Judged}
+use Rattle.pictures.specs.declared.picture.Judged.the-variants.{Complete, Incomplete, PastWidth}
+use Rattle.pictures.proofs.KeptData.{complete-within, kept-complete, kept-incomplete, kept-judged, held-whole, held-unfinished, unfinished-judged, incomplete-prefix}
 use Rattle.store.specs.Layout.{keyOf, characterKeptAt, characterRecord, markCodeAt, markFontAt, markOnAt}
 use Rattle.store.specs.Num.{_&_, field}
 use Rattle.store.specs.Model.{Rec, character, Under, under, alone, sorted, heldOf, heldUnder, isKept, isUnfinished, unfinished, opened, markOk, markIn, key}

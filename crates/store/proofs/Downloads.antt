@@ -9,7 +9,8 @@ use lib.ListN.{length, take, drop, replicate, length-append, length-drop}
 use lib.Seq.{take-all}
 use borrow.Author.Tests.{le-leb, lt-leb, eq-eqb}
 use Rattle.blocks.specs.Header.{orientation}
-use Rattle.blocks.specs.Character.{dataLimit, descriptorBytes}
+use Rattle.blocks.specs.Character.{descriptorBytes}
+use Rattle.pictures.specs.Size.{dataLimit}
 use Rattle.store.specs.Layout.{keyOf, characterRecord, lastCode, lastFont, markRecord}
 use Rattle.store.specs.Num.{_&_, le, Bytes}
 use Rattle.store.specs.Model.{Rec, font, character, under, alone, bytesOf, run, markBytes, encode, allowed, heldOf, heldUnder, isKept, isUnfinished, unfinished, opened, markOk, number, place, sizeOf, total}

@@ -7,9 +7,10 @@ use native.Mathlib.Omega.{arith}
 use lib.ListN.{length, take, drop}
 use borrow.Author.Tests.{le-leb, lt-leb, lt-ltb, le-ltb}
 use Rattle.blocks.specs.Header.{orientation}
-use Rattle.blocks.specs.Character.{class, width, height, rowSize, pictureSize, isKeptFirst, descriptorBytes}
-use Rattle.blocks.specs.Rows.{rowBytes, picture}
-use Rattle.blocks.proofs.Pictures.{length-row, length-picture}
+use Rattle.blocks.specs.Character.{class, width, height, isKeptFirst, descriptorBytes}
+use Rattle.pictures.specs.Size.{rowSize, pictureSize}
+use Rattle.pictures.specs.Rows.{rowBytes, picture}
+use Rattle.pictures.proofs.Pictures.{length-row, length-picture}
 use Rattle.store.specs.Layout.{characterKeptAt, characterRecord}
 use Rattle.store.specs.Answer.{refuse}
 use Rattle.store.specs.Drawing.{rowOf, pictureOf, drawingRow, drawingPicture}

@@ -9,16 +9,17 @@ use lib.Seq.{take-all}
 use lib.Dec.{leb}
 use borrow.Author.Tests.{le-leb, leb-true}
 use Rattle.blocks.specs.Header.{orientation, blockLimit}
-use Rattle.blocks.specs.Character.{class, width, height, characterLength, kindOf, readFirst, keptFirst, dataLimit, descriptorBytes}
-use Rattle.blocks.specs.Picture.{judge, keptData}
+use Rattle.blocks.specs.Character.{class, width, height, characterLength, kindOf, readFirst, keptFirst, descriptorBytes}
+use Rattle.pictures.specs.Size.{dataLimit}
+use Rattle.pictures.specs.Picture.{judge, keptData}
 use Rattle.blocks.specs.declared.Verdict.the-variants.{Taken, Refused}
 use Rattle.blocks.specs.declared.character.Kind.the-variants.{First}
-use Rattle.blocks.specs.declared.picture.Held.the-variants.{Whole, Unfinished}
-use Rattle.blocks.specs.declared.picture.Judged.{Judged}
-use Rattle.blocks.specs.declared.picture.Judged.the-variants.{Complete, Incomplete, PastWidth}
-use Rattle.blocks.proofs.Checks.{both}
+use Rattle.pictures.specs.declared.picture.Held.the-variants.{Whole, Unfinished}
+use Rattle.pictures.specs.declared.picture.Judged.{Judged}
+use Rattle.pictures.specs.declared.picture.Judged.the-variants.{Complete, Incomplete, PastWidth}
+use Rattle.pictures.proofs.Tests.{both}
 use Rattle.blocks.proofs.KeptFirst.{first-long, kept-first, kept-other}
-use Rattle.blocks.proofs.KeptData.{complete-within, kept-complete, kept-incomplete, kept-length, held-whole, held-unfinished}
+use Rattle.pictures.proofs.KeptData.{complete-within, kept-complete, kept-incomplete, kept-length, held-whole, held-unfinished}
 use Rattle.store.specs.Model.{heldOf, heldUnder, isKept}
 use Rattle.store.specs.Answer.{onStore, finding, refuse}
 use Rattle.store.specs.Download.{withinWidth}

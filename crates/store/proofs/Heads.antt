@@ -10,8 +10,8 @@ use lib.Seq.{drop-drop, getD-take, getD-drop}
 use lib.Dec.{eqb, leb}
 use borrow.Author.Tests.{le-leb, lt-leb, eq-eqb, ne-eqb, lt-ltb, le-ltb}
 use Rattle.blocks.specs.Header.{isKeptHeader, headerBytes, orientationAt}
-use Rattle.blocks.specs.declared.picture.Held.{Held}
-use Rattle.blocks.specs.declared.picture.Held.the-variants.{Foreign}
+use Rattle.pictures.specs.declared.picture.Held.{Held}
+use Rattle.pictures.specs.declared.picture.Held.the-variants.{Foreign}
 use Rattle.blocks.specs.Character.{descriptorBytes}
 use Rattle.store.specs.Layout.{characterKeptAt, characterKind, characterRecord, codeAt, fontKeptAt, fontKind, fontOrientationAt, fontRecord, kindAt, lastCode, lastFont, numberAt}
 use Rattle.store.specs.Num.{_&_, field}

@@ -9,7 +9,7 @@ use lib.Dec.{leb}
 use borrow.Author.Tests.{leb-true}
 use Rattle.blocks.specs.Character.{characterLength, kindOf}
 use Rattle.blocks.specs.declared.character.Kind.the-variants.{First, Continuation, Unknown}
-use Rattle.blocks.proofs.Checks.{both}
+use Rattle.pictures.proofs.Tests.{both}
 use Rattle.store.specs.Layout.{lastCode, lastFont}
 use Rattle.store.specs.Model.{decode}
 use Rattle.store.specs.Answer.{onStore, finding, numbered, refuse}

@@ -12,12 +12,14 @@ use borrow.Author.Tests.{eqb-true, leb-true, le-leb}
 use Rattle.store.specs.Layout.{characterKeptAt, characterKind, characterRecord, codeAt, fontKeptAt, fontKind, fontRecord, kindAt, lastCode, lastFont, numberAt}
 use Rattle.store.specs.Num.{num, le, field, allZero, Bytes}
 use Rattle.blocks.specs.Header.{isKeptHeader, headerBytes}
-use Rattle.blocks.specs.Character.{class, width, height, leftOffset, topOffset, readFirst, firstChecks, isKeptFirst, dataLimit, descriptorBytes}
-use Rattle.blocks.specs.Picture.{held}
-use Rattle.blocks.specs.declared.picture.Held.the-variants.{Foreign}
+use Rattle.blocks.specs.Character.{class, width, height, leftOffset, topOffset, readFirst, firstChecks, isKeptFirst, descriptorBytes}
+use Rattle.pictures.specs.Size.{dataLimit, within}
+use Rattle.pictures.specs.Picture.{held}
+use Rattle.pictures.specs.declared.picture.Held.the-variants.{Foreign}
 use Rattle.blocks.proofs.KeptHeader.{is-kept-length as header-length}
-use Rattle.blocks.specs.Field.{within, byte, signedWithin}
-use Rattle.blocks.proofs.Checks.{taken, within-low, both as both-of}
+use Rattle.blocks.specs.Field.{byte, signedWithin}
+use Rattle.blocks.proofs.Checks.{taken, within-low}
+use Rattle.pictures.proofs.Tests.{both as both-of}
 use Rattle.blocks.proofs.KeptFirst.{is-kept-first, is-kept-length as first-length}
 use Rattle.store.specs.Model.{Rec, font, character, fontHead, fontIn, characterHead, characterIn, bytesOf, heldOf, heldUnder, isKept, allowed, Under, guard, headRec, sizeOf}
 use Rattle.store.proofs.Numbers.{num-le, part, cut, zeros-field, both-l, both-r}

@@ -8,7 +8,7 @@ use native.Mathlib.Omega.{arith}
 use lib.ListN.{length}
 use lib.Dec.{leb}
 use borrow.Author.Tests.{le-leb, lt-leb, leb-true}
-use Rattle.blocks.proofs.Checks.{both}
+use Rattle.pictures.proofs.Tests.{both}
 use Rattle.store.specs.Layout.{keyOf, lastCode, lastFont}
 use Rattle.store.specs.Num.{Bytes}
 use Rattle.store.specs.Model.{Rec, font, character, Store, alone, decode}

@@ -7,7 +7,8 @@ use native.Mathlib.Omega.{arith}
 use lib.ListN.{length, take, drop}
 use lib.Seq.{drop-drop}
 use Rattle.blocks.specs.Header.{headerBytes}
-use Rattle.blocks.specs.Character.{dataLimit, descriptorBytes}
+use Rattle.blocks.specs.Character.{descriptorBytes}
+use Rattle.pictures.specs.Size.{dataLimit}
 use Rattle.store.specs.Layout.{keyOf, characterKeptAt, characterRecord, fontKeptAt, fontRecord, lastCode, lastFont, markRecord, mostStore}
 use Rattle.store.specs.Model.{Rec, font, character, alone, bytesOf, sizeOf, total}
 use Rattle.store.specs.Order.{keep, below, after}

@@ -5,14 +5,15 @@ use mathlib.Core.Bool.{Bool, cond}
 use lib.Dec.{eqb, leb}
 use lib.ListN.{length, drop}
 use Rattle.blocks.specs.Header.{orientation}
-use Rattle.blocks.specs.Character.{descriptorBytes, continuationBytes, dataLimit, class, width, height, characterLength, kindOf, kindNumber, readFirst, keptFirst}
-use Rattle.blocks.specs.Picture.{judge, judgedNumber, keptData}
+use Rattle.blocks.specs.Character.{descriptorBytes, continuationBytes, class, width, height, characterLength, kindOf, kindNumber, readFirst, keptFirst}
+use Rattle.pictures.specs.Size.{dataLimit}
+use Rattle.pictures.specs.Picture.{judge, judgedNumber, keptData}
 use Rattle.blocks.specs.declared.Verdict.{Verdict}
 use Rattle.blocks.specs.declared.Verdict.the-variants.{Taken, Refused}
 use Rattle.blocks.specs.declared.character.Kind.{Kind}
 use Rattle.blocks.specs.declared.character.Kind.the-variants.{First, Continuation, Unknown}
-use Rattle.blocks.specs.declared.picture.Judged.{Judged}
-use Rattle.blocks.specs.declared.picture.Judged.the-variants.{Complete, Incomplete, PastWidth}
+use Rattle.pictures.specs.declared.picture.Judged.{Judged}
+use Rattle.pictures.specs.declared.picture.Judged.the-variants.{Complete, Incomplete, PastWidth}
 use Rattle.store.specs.Layout.{keyOf}
 use Rattle.store.specs.Num.{_&_}
 use Rattle.store.specs.Model.{character, Mark, Store, heldOf, isUnfinished, encode, decode}

@@ -3,8 +3,9 @@ use Prim.Native.Nat.{ℕ}
 use mathlib.Core.List.{List}
 use lib.Dec.{leb, ltb}
 use lib.ListN.{length}
-use Rattle.blocks.specs.Character.{class, width, height, rowSize, pictureSize}
-use Rattle.blocks.specs.Rows.{rowBytes, picture}
+use Rattle.blocks.specs.Character.{class, width, height}
+use Rattle.pictures.specs.Size.{rowSize, pictureSize}
+use Rattle.pictures.specs.Rows.{rowBytes, picture}
 use Rattle.store.specs.Answer.{checked, onCharacter, After, refuse}
 use Rattle.store.specs.Calls.{keptOf, dataOf, onto}
 

@@ -8,9 +8,9 @@ use lib.ListN.{length, take, drop, replicate}
 use lib.Dec.{eqb, leb}
 use Rattle.blocks.specs.Header.{headerBytes, orientation, isKeptHeader}
 use Rattle.blocks.specs.Character.{descriptorBytes, class, width, height, isKeptFirst}
-use Rattle.blocks.specs.Picture.{held}
-use Rattle.blocks.specs.declared.picture.Held.{Held}
-use Rattle.blocks.specs.declared.picture.Held.the-variants.{Whole, Unfinished, Foreign}
+use Rattle.pictures.specs.Picture.{held}
+use Rattle.pictures.specs.declared.picture.Held.{Held}
+use Rattle.pictures.specs.declared.picture.Held.the-variants.{Whole, Unfinished, Foreign}
 use Rattle.store.specs.Layout.{leastStore, mostStore, markRecord, markKind, fontRecord, fontKind, characterRecord, characterKind, lastFont, lastCode, keyOf, characterKeptAt, codeAt, fontKeptAt, kindAt, markCodeAt, markFontAt, markOnAt, numberAt}
 use Rattle.store.specs.Num.{_&_, le, field, allZero}
 

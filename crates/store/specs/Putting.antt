@@ -5,7 +5,8 @@ use mathlib.Core.List.{List, _++_}
 use lib.Dec.{leb}
 use lib.ListN.{length, drop}
 use Rattle.blocks.specs.Header.{orientation, keptHeader}
-use Rattle.blocks.specs.Character.{descriptorBytes, continuationBytes, dataLimit, characterLength, kindOf, readFirst, keptFirst}
+use Rattle.blocks.specs.Character.{descriptorBytes, continuationBytes, characterLength, kindOf, readFirst, keptFirst}
+use Rattle.pictures.specs.Size.{dataLimit}
 use Rattle.store.specs.Layout.{keyOf}
 use Rattle.store.specs.Model.{Store, decode}
 use Rattle.store.specs.Order.{find}

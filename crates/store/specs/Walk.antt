@@ -9,8 +9,8 @@ use lib.ListN.{length, getD, take, drop}
 use lib.Dec.{eqb, leb, ltb}
 use Rattle.blocks.specs.Header.{orientation}
 use Rattle.blocks.specs.Character.{class, width, height, descriptorBytes, continuationBytes}
-use Rattle.blocks.specs.Picture.{judge}
-use Rattle.blocks.specs.declared.picture.Judged.the-variants.{Complete, Incomplete}
+use Rattle.pictures.specs.Picture.{judge}
+use Rattle.pictures.specs.declared.picture.Judged.the-variants.{Complete, Incomplete}
 use Rattle.store.specs.Layout.{lastFont, lastCode, keyOf, characterKeptAt, characterRecord, fontOrientationAt, markRecord}
 use Rattle.store.specs.Num.{_&_, field}
 use Rattle.store.specs.Model.{Rec, font, character, isKept, heldUnder, Mark, Store, Under, under, alone, allowed, sorted, unfinished, opened, number, place, headRec, sizeOf, total, split, decode}

@@ -4,10 +4,11 @@ ghost use mathlib.Core.Bool.{true};
 ghost use mathlib.Core.List.{_++_};
 ghost use Prim.Native.Nat.{_+_, _≤_, _<_};
 ghost use lib.ListN.{length, take, drop};
-ghost use Rattle.blocks.specs.Character.{class, width, height, keptFirst, characterLength, kindOf, readFirst, continuationBytes, dataLimit, descriptorBytes};
+ghost use Rattle.blocks.specs.Character.{class, width, height, keptFirst, characterLength, kindOf, readFirst, continuationBytes, descriptorBytes};
+ghost use Rattle.pictures.specs.Size.{dataLimit};
 ghost use Rattle.blocks.specs.declared.character.Kind.the-variants.{First};
 ghost use Rattle.blocks.specs.declared.Verdict.the-variants.{Taken};
-ghost use Rattle.blocks.specs.Picture.{judge};
+ghost use Rattle.pictures.specs.Picture.{judge};
 ghost use Rattle.store.specs.Layout.{lastCode, lastFont, markRecord};
 ghost use Rattle.store.specs.Model.{heldOf, isUnfinished, markIn};
 ghost use Rattle.store.specs.Walk.{Stands, Arriving, Fitting, Growing, Continued, keptAt, dataAt, fontOrientation};
@@ -32,8 +33,8 @@ use crate::walk::Places;
 use blocks::Verdict;
 use blocks::character;
 use blocks::character::Kind;
-use blocks::picture;
-use blocks::picture::Judged;
+use pictures::picture;
+use pictures::picture::Judged;
 
 // The data of a first block.
 fn judge_block(block: &[u8]) -> Judged

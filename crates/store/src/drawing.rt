@@ -9,7 +9,8 @@ use crate::layout::CHARACTER_RECORD;
 use crate::seek;
 use crate::seek::Sought;
 use blocks::character;
-use blocks::picture;
+use pictures::picture;
+use pictures::size;
 
 // Draws a row of the character with the descriptor h.
 fn draw_row_of(h: &[u8], bytes: &[u8], row: u32, out: &mut [u8]) -> u32
@@ -37,7 +38,7 @@ fn draw_picture_of(h: &[u8], bytes: &[u8], out: &mut [u8]) -> u32
 {
     let width = character::width(h);
     let height = character::height(h);
-    let n = character::picture_size(width, height);
+    let n = size::picture_size(width, height);
     if out.len() < n {
         return 12;
     }

@@ -1,6 +1,7 @@
 // The numbers of the store's form, as specs/Layout.antt has them, each by one name.
 use blocks::character;
 use blocks::header;
+use pictures::size;
 
 // The least and the greatest length of a store.
 pub(crate) const LEAST_STORE: usize = MARK_RECORD;
@@ -63,4 +64,4 @@ pub(crate) const DESCRIPTOR_BYTES: usize = character::KEPT;
 
 pub(crate) const CONTINUATION_BYTES: usize = character::CONTINUATION;
 
-pub(crate) const DATA_LIMIT: usize = character::DATA_LIMIT;
+pub(crate) const DATA_LIMIT: usize = size::DATA_LIMIT;

@@ -31,8 +31,8 @@ use crate::layout::NUMBER_AT;
 use crate::number;
 use blocks::character;
 use blocks::header;
-use blocks::picture;
-use blocks::picture::Held;
+use pictures::picture;
+use pictures::picture::Held;
 
 // What a call asks for: a font, the keys between which it stands with its characters, those between which one record stands, and the key of
 // the open character.

@@ -11,7 +11,7 @@ use lib.Dec.{leb}
 use lib.Seq.{take-all, length-take-le, append-snoc}
 use Rattle.blocks.specs.Header.{orientation}
 use Rattle.blocks.specs.Character.{class, width, height, isKeptFirst}
-use Rattle.blocks.specs.declared.picture.Held.the-variants.{Unfinished}
+use Rattle.pictures.specs.declared.picture.Held.the-variants.{Unfinished}
 use Rattle.blocks.proofs.KeptFirst.{is-kept-length}
 use Rattle.store.specs.Layout.{keyOf}
 use Rattle.store.specs.Model.{Rec, font, character, Store, heldOf, heldUnder, isKept, isUnfinished, encode, total, sizeOf}

@@ -8,9 +8,8 @@ use native.Mathlib.Omega.{arith}
 use borrow.Author.Tests.{leb-true, leb-false, le-leb, lt-leb, eqb-true, eqb-false, ne-eqb}
 use lib.Dec.{leb, eqb}
 use lib.ListN.{length, drop}
-use Rattle.blocks.specs.Field.{within}
-use Rattle.blocks.specs.Character.{sideLimit, rowSize, pictureSize}
-use Rattle.blocks.proofs.Checks.{both}
+use Rattle.pictures.specs.Size.{within, sideLimit, rowSize, pictureSize}
+use Rattle.pictures.proofs.Tests.{both}
 use Rattle.turning.specs.Turn.{turned, turnedSize, turnable, turningPicture}
 
 -- what a picture of so many bytes that can be turned is

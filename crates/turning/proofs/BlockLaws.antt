@@ -11,8 +11,8 @@ use lib.Dec.{ltb, eqb}
 use lib.ListN.{length, drop, getD, set}
 use lib.Seq.{getD-set-same, getD-set-other}
 use lib.Pow.{high as upper}
-use Rattle.blocks.specs.Dots.{bits}
-use Rattle.blocks.specs.Character.{rowSize, pictureSize}
+use Rattle.pictures.specs.Dots.{bits}
+use Rattle.pictures.specs.Size.{rowSize, pictureSize}
 use Rattle.turning.specs.Turn.{each, pictureRows, turnRows, packRows, turned}
 use Rattle.turning.specs.Block.{flipped, blockDot, blockByte, joinBytes, columnByte, Put, TurnedUpTo}
 use Rattle.turning.proofs.DotLaws.{dotIn, dot-above, dot-none, dot-shr, dot-low, byte-is}

@@ -10,7 +10,7 @@ use lib.Dec.{eqb}
 use lib.ListN.{length, drop, getD, length-append, List·getD-append}
 use lib.Seq.{getD-drop, drop-drop, getD-append-add}
 use lib.Pow.{pow-pos, pow-add, mod-pow-add, high, shr-shr, field, mod-mod-pow}
-use Rattle.blocks.specs.Dots.{bit, bits, pack, dotsIn, unpack}
+use Rattle.pictures.specs.Dots.{bit, bits, pack, dotsIn, unpack}
 
 -- bit k of a number
 abbrev pub digit : ℕ → ℕ → ℕ

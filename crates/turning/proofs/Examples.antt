@@ -2,8 +2,8 @@
 use Prim.Native.Nat.{ℕ}
 use mathlib.Core.Path.{_≡_, refl}
 use mathlib.Core.List.{List, [], _∷_}
-use Rattle.blocks.specs.Dots.{bits, pack, dotsIn, unpack}
-use Rattle.blocks.specs.Rows.{bitmapRow}
+use Rattle.pictures.specs.Dots.{bits, pack, dotsIn, unpack}
+use Rattle.pictures.specs.Rows.{bitmapRow}
 use Rattle.turning.specs.Turn.{each, pictureRows, columnOf, columns, turnRows, packRows, turned, turnable, turningPicture, unturned}
 
 -- two rows of ten dots, with black padding, which is not looked at:

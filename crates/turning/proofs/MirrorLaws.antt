@@ -10,8 +10,8 @@ use borrow.Author.Tests.{ltb-true, ltb-false, lt-ltb, le-ltb}
 use lib.Dec.{ltb}
 use lib.ListN.{length, drop, take, getD, set}
 use lib.Pow.{high, pow-mono, shl-shr}
-use Rattle.blocks.specs.Dots.{dotsIn}
-use Rattle.blocks.specs.Character.{rowSize, pictureSize}
+use Rattle.pictures.specs.Dots.{dotsIn}
+use Rattle.pictures.specs.Size.{rowSize, pictureSize}
 use Rattle.turning.specs.Turn.{each, pictureRows, turned}
 use Rattle.turning.specs.Mirror.{mirror, joinedDots, mirroredAt, halfByte}
 use Rattle.turning.proofs.DotLaws.{dotIn, dot-bits, bits-lt, dot-above, dot-none, dot-shr, dot-low, byte-is}

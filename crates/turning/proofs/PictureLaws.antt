@@ -9,10 +9,10 @@ use borrow.Author.Tests.{ltb-true, ltb-false}
 use lib.Dec.{ltb}
 use lib.ListN.{length, drop, take, getD, set, length-append, length-drop, List·getD-append, List·getD-eq-default}
 use lib.Seq.{getD-drop, getD-take, getD-append-add, ext-getD}
-use Rattle.blocks.specs.Dots.{bits, pack, unpack}
-use Rattle.blocks.specs.Character.{rowSize}
-use Rattle.blocks.specs.Rows.{bitmapRow}
-use Rattle.blocks.proofs.Packing.{length-pack}
+use Rattle.pictures.specs.Dots.{bits, pack, unpack}
+use Rattle.pictures.specs.Size.{rowSize}
+use Rattle.pictures.specs.Rows.{bitmapRow}
+use Rattle.pictures.proofs.Packing.{length-pack}
 use Rattle.turning.specs.Turn.{each, pictureRows, packRows}
 use Rattle.turning.proofs.DotLaws.{dotIn, pack-at, unpack-at}
 

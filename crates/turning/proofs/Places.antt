@@ -8,9 +8,9 @@ use borrow.Author.Tests.{ltb-true, ltb-false, eqb-true}
 use lib.Dec.{eqb, ltb}
 use lib.ListN.{length, getD, drop, length-map, length-reverse, length-drop, List·getD-map, List·getD-append}
 use lib.Seq.{ext-getD, getD-at, length-take-le}
-use Rattle.blocks.specs.Character.{rowSize, pictureSize}
-use Rattle.blocks.specs.Dots.{unpack}
-use Rattle.blocks.specs.Rows.{bitmapRow}
+use Rattle.pictures.specs.Size.{rowSize, pictureSize}
+use Rattle.pictures.specs.Dots.{unpack}
+use Rattle.pictures.specs.Rows.{bitmapRow}
 use Rattle.turning.specs.Turn.{each, pictureRows, columnOf, columns, turnRows, turnedWidth, turnedHeight, packRows, turned}
 use Rattle.turning.proofs.DotLaws.{getD-nil, length-unpack}
 use Rattle.turning.proofs.PictureLaws.{dot, length-each, each-at, row-fits}

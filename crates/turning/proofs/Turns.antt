@@ -8,9 +8,9 @@ use borrow.Author.Tests.{ltb-true, ltb-false}
 use lib.Dec.{ltb}
 use lib.ListN.{length, getD, drop, take, drop-of-length-le}
 use lib.Seq.{getD-drop, take-at, take-all}
-use Rattle.blocks.specs.Character.{rowSize, pictureSize}
-use Rattle.blocks.specs.Rows.{bitmapRow}
-use Rattle.blocks.proofs.Bitmaps.{bitmap-take}
+use Rattle.pictures.specs.Size.{rowSize, pictureSize}
+use Rattle.pictures.specs.Rows.{bitmapRow}
+use Rattle.pictures.proofs.Bitmaps.{bitmap-take}
 use Rattle.turning.specs.Turn.{each, pictureRows, packRows, turnedWidth, turnedHeight, turned, turnedSize, turnRows, White, TurnsInto, FourQuarters, TwoQuarters, QuarterAndThree}
 use Rattle.turning.proofs.Answers.{Good, was-done}
 use Rattle.turning.proofs.DotLaws.{dotIn, dot-bits, byte-is, unpack-at}

@@ -5,7 +5,7 @@ use mathlib.Core.List.{List, [], _∷_, reverse}
 use mathlib.Core.Bool.{Bool, true, _&&_, cond}
 use lib.Dec.{T, eqb, ltb}
 use lib.ListN.{length, getD}
-use Rattle.blocks.specs.Dots.{bits, dotsIn}
+use Rattle.pictures.specs.Dots.{bits, dotsIn}
 
 -- a byte with its dots in reverse
 unfoldable pub mirror : ℕ → ℕ

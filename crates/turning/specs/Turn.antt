@@ -5,10 +5,9 @@ use mathlib.Core.List.{List, [], _∷_, _++_, map, reverse}
 use mathlib.Core.Bool.{Bool, false, _&&_, cond}
 use lib.Dec.{leb, eqb}
 use lib.ListN.{length, getD, drop, take}
-use Rattle.blocks.specs.Field.{within}
-use Rattle.blocks.specs.Character.{sideLimit, rowSize, pictureSize}
-use Rattle.blocks.specs.Dots.{pack, unpack}
-use Rattle.blocks.specs.Rows.{bitmapRow}
+use Rattle.pictures.specs.Size.{within, sideLimit, rowSize, pictureSize}
+use Rattle.pictures.specs.Dots.{pack, unpack}
+use Rattle.pictures.specs.Rows.{bitmapRow}
 
 -- n things, each by its place from 0
 unfoldable pub each : {A : Type 0} → ℕ → (ℕ → A) → List A

@@ -5,7 +5,7 @@ ghost use mathlib.Core.Bool.{cond, true};
 ghost use Prim.Native.Nat.{ℕ, _+_, _*_, _-_, _≤_, _<_};
 ghost use lib.Dec.{ltb};
 ghost use lib.ListN.{length, getD, drop};
-ghost use Rattle.blocks.specs.Character.{sideLimit, rowSize, pictureSize};
+ghost use Rattle.pictures.specs.Size.{sideLimit, rowSize, pictureSize};
 ghost use Rattle.turning.specs.Block.{flipped, blockDot, blockByte, swapped, joinBytes, columnByte, Put, TurnedUpTo};
 ghost use Rattle.turning.specs.Turn.{turned};
 

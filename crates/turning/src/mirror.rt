@@ -3,7 +3,7 @@ ghost use mathlib.Core.Path.{_≡_};
 ghost use mathlib.Core.List.{List, _++_};
 ghost use Prim.Native.Nat.{ℕ, _+_, _*_, _-_, _≤_, _<_, _%_, _^_};
 ghost use lib.ListN.{length, getD, take, drop};
-ghost use Rattle.blocks.specs.Character.{sideLimit, pictureSize};
+ghost use Rattle.pictures.specs.Size.{sideLimit, pictureSize};
 ghost use Rattle.turning.specs.Mirror.{mirror, Mirrors, joinedDots, halfByte};
 ghost use Rattle.turning.specs.Turn.{turned};
 use crate::block;

@@ -1,7 +1,7 @@
 // W-203: turns a drawn picture clockwise by a quarter, a half or three quarters.
 ghost use mathlib.Core.Path.{_≡_};
 ghost use Prim.Native.Nat.{_≤_};
-ghost use Rattle.blocks.specs.Character.{sideLimit};
+ghost use Rattle.pictures.specs.Size.{sideLimit};
 ghost use Rattle.turning.specs.Turn.{turnable, turnedSize, turningPicture};
 use crate::block;
 use crate::mirror;

@@ -3,7 +3,7 @@ use mathlib.Core.Path.{sym}
 use borrow.Author.Needs.{needs}
 use borrow.Author.Tests.{le-leb, lt-leb}
 use Rattle.blocks.specs.Character.{readFirst}
-use Rattle.blocks.proofs.Checks.{failed, passed}
+use Rattle.pictures.proofs.Tests.{failed, passed}
 use Rattle.blocks.proofs.KeptFirst.{form-refused}
 use Rattle.blocks.proofs.character.read_first.Statement.{statement}
 use Rattle.blocks.proofs.character.read_first.Tie as tie

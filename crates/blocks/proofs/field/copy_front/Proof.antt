@@ -2,7 +2,7 @@ use borrow.Author.Needs.{needs}
 use native.Mathlib.Omega.{arith}
 use mathlib.Core.Path.{_≡_, _∙_}
 use lib.ListN.{length, take, length-take}
-use Rattle.blocks.proofs.Lists.{copied-all}
+use Rattle.pictures.proofs.Lists.{copied-all}
 use Rattle.blocks.proofs.field.copy_front.Statement.{statement}
 use Rattle.blocks.proofs.field.copy_front.Tie as tie
 

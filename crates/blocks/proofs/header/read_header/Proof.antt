@@ -2,7 +2,7 @@
 use borrow.Author.Needs.{needs}
 use borrow.Author.Tests.{le-leb, lt-leb}
 use Rattle.blocks.specs.Header.{readHeader}
-use Rattle.blocks.proofs.Checks.{failed, passed}
+use Rattle.pictures.proofs.Tests.{failed, passed}
 use Rattle.blocks.proofs.header.read_header.Statement.{statement}
 use Rattle.blocks.proofs.header.read_header.Tie as tie
 

@@ -1,7 +1,7 @@
 use mathlib.Core.Path.{sym, _∙_}
 use Prim.Native.Nat.{_+_}
 use denote.Ref.{now}
-use Rattle.blocks.proofs.Checks.{failed, passed}
+use Rattle.pictures.proofs.Tests.{failed, passed}
 use Rattle.store.proofs.FontCalls.{answered}
 use Rattle.store.proofs.Ready.{Ready, ready, stands, not-store}
 use Rattle.store.proofs.Receives.{download-not, download-range, download-block, in-range}

@@ -4,7 +4,8 @@ use mathlib.Core.List.{List, _++_}
 use Prim.Native.Nat.{ℕ, _+_, _-_, _≤_}
 use lib.ListN.{length, take, drop, length-take, length-drop, length-append}
 use denote.Ref.{now}
-use Rattle.blocks.specs.Character.{dataLimit, continuationBytes}
+use Rattle.blocks.specs.Character.{continuationBytes}
+use Rattle.pictures.specs.Size.{dataLimit}
 use Rattle.store.specs.Layout.{characterRecord}
 use Rattle.store.specs.Num.{Bytes, le}
 use Rattle.store.specs.Change.{splicedAt, withBytes, remarked}

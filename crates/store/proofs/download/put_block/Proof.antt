@@ -1,7 +1,7 @@
 use Prim.Native.Nat.{_+_}
 use mathlib.Core.Path.{sym, _∙_, subst}
 use denote.Ref.{now}
-use Rattle.blocks.proofs.Checks.{failed, passed}
+use Rattle.pictures.proofs.Tests.{failed, passed}
 use Rattle.store.specs.declared.walk.Places.{Places}
 use Rattle.store.proofs.FontCalls.{answered}
 use Rattle.store.proofs.Ready.{Ready, standing, looked-at, looked-not}

@@ -3,8 +3,8 @@ use mathlib.Core.Bool.{true}
 use Prim.Native.Nat.{_-_}
 use lib.ListN.{length-take, length-drop}
 use denote.Ref.{now}
-use Rattle.blocks.specs.declared.picture.Judged.the-variants.{Complete}
-use Rattle.blocks.proofs.Checks.{failed, passed}
+use Rattle.pictures.specs.declared.picture.Judged.the-variants.{Complete}
+use Rattle.pictures.proofs.Tests.{failed, passed}
 use Rattle.blocks.specs.Character.{continuationBytes}
 use Rattle.store.specs.Model.{markIn}
 use Rattle.store.specs.Download.{names}

@@ -2,7 +2,8 @@ use mathlib.Core.Path.{_≡_, _∙_}
 use Prim.Native.Nat.{_+_, _-_, _≤_, _<_}
 use lib.ListN.{length, take, drop, length-take, length-drop}
 use denote.Ref.{now}
-use Rattle.blocks.specs.Character.{dataLimit, continuationBytes}
+use Rattle.blocks.specs.Character.{continuationBytes}
+use Rattle.pictures.specs.Size.{dataLimit}
 use Rattle.store.specs.Layout.{characterRecord}
 use Rattle.store.specs.Walk.{dataAt}
 use Rattle.store.proofs.FontCalls.{answered}

@@ -1,7 +1,7 @@
 use mathlib.Core.Path.{_≡_, sym, ap, _∙_}
 use Prim.Native.Nat.{_+_}
 use denote.Ref.{now}
-use Rattle.blocks.proofs.Checks.{failed, passed}
+use Rattle.pictures.proofs.Tests.{failed, passed}
 use Rattle.store.specs.Model.{decode}
 use Rattle.store.specs.Walk.{inspected, characterLookup}
 use Rattle.store.specs.declared.walk.Inspected.the-variants.{Found}

@@ -1,5 +1,5 @@
 use mathlib.Core.Path.{_∙_}
-use Rattle.blocks.proofs.Checks.{failed, passed}
+use Rattle.pictures.proofs.Tests.{failed, passed}
 use Rattle.store.specs.Model.{heldUnder}
 use borrow.Author.Needs.{needs}
 use Rattle.store.proofs.walk.held_character.Statement.{statement}

@@ -1,6 +1,6 @@
 use mathlib.Core.Path.{sym, _∙_}
 use denote.Ref.{now}
-use Rattle.blocks.proofs.Checks.{failed, passed}
+use Rattle.pictures.proofs.Tests.{failed, passed}
 use Rattle.store.proofs.Codec.{begins-parts}
 use Rattle.store.proofs.Inspects.{inspect-not, inspect-wrong, inspect-shut, inspect-open}
 use borrow.Author.Needs.{needs}

@@ -1,6 +1,6 @@
 use mathlib.Core.Path.{refl, sym, _∙_}
 use denote.Ref.{now}
-use Rattle.blocks.specs.declared.picture.Held.the-variants.{Whole, Unfinished}
+use Rattle.pictures.specs.declared.picture.Held.the-variants.{Whole, Unfinished}
 use Rattle.store.proofs.Heads.{char-short, char-owner, char-low, char-code, char-kept, char-foreign}
 use borrow.Author.Needs.{needs}
 use native.Mathlib.Omega.{arith}

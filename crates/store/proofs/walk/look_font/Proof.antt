@@ -1,7 +1,7 @@
 use mathlib.Core.Path.{sym, _∙_}
 use borrow.Author.Tests.{le-leb, lt-leb}
 use denote.Ref.{now}
-use Rattle.blocks.proofs.Checks.{failed, passed}
+use Rattle.pictures.proofs.Tests.{failed, passed}
 use Rattle.blocks.specs.Header.{headerBytes}
 use Rattle.store.specs.Layout.{fontKeptAt, fontRecord}
 use Rattle.store.specs.Num.{_&_}

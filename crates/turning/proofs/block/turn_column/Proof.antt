@@ -5,7 +5,7 @@ use lib.ListN.{length, getD}
 use denote.Ref.{now}
 use borrow.Author.Needs.{needs}
 use Rattle.turning.specs.Block.{TurnedUpTo}
-use Rattle.blocks.specs.Character.{rowSize, pictureSize}
+use Rattle.pictures.specs.Size.{rowSize, pictureSize}
 use Rattle.turning.proofs.BlockLaws.{Columns, columns-none, columns-next, columns-all}
 use Rattle.turning.proofs.block.turn_column.Statement.{statement}
 use Rattle.turning.proofs.block.turn_column.Tie as tie

@@ -1,6 +1,6 @@
 use mathlib.Core.Path.{refl}
 use borrow.Author.Needs.{needs}
-use Rattle.blocks.specs.Dots.{bits, dotsIn}
+use Rattle.pictures.specs.Dots.{bits, dotsIn}
 use Rattle.turning.specs.Mirror.{mirror, Mirrors}
 use Rattle.turning.proofs.mirror.half_turn.Statement.{statement}
 use Rattle.turning.proofs.mirror.half_turn.Tie as tie

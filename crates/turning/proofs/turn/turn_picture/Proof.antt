@@ -2,7 +2,7 @@ use native.Mathlib.Omega.{arith}
 use lib.ListN.{length}
 use denote.Ref.{now}
 use borrow.Author.Needs.{needs}
-use Rattle.blocks.proofs.Checks.{passed, failed}
+use Rattle.pictures.proofs.Tests.{passed, failed}
 use Rattle.turning.proofs.Answers.{good, turn-refused, turn-short, turn-done, by-half, by-quarters, size-half, size-quarter}
 use Rattle.turning.proofs.turn.turn_picture.Statement.{statement}
 use Rattle.turning.proofs.turn.turn_picture.Tie as tie

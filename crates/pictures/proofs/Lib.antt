@@ -1,0 +1,13 @@
+pub mod Tests
+pub mod Lists
+pub mod Scanning
+pub mod Passing
+pub mod Packing
+pub mod Lines
+pub mod Copies
+pub mod Pictures
+pub mod Bitmaps
+pub mod Completeness
+pub mod Used
+pub mod KeptData
+pub mod Examples
