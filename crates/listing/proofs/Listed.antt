@@ -7,6 +7,7 @@ use mathlib.Core.Option.{Option, none, some}
 use native.Mathlib.Omega.{arith}
 use borrow.Author.Tests.{lt-ltb, le-ltb}
 use lib.ListN.{length, drop, replicate, length-drop}
+use Rattle.store.specs.Layout.{fontRecord}
 use Rattle.store.specs.Model.{Rec, Store, font, character, split, sizeOf, total, decode}
 use Rattle.store.specs.Answer.{toldOf}
 use Rattle.store.specs.Calls.{tellingFont}
@@ -77,13 +78,13 @@ run-fits (r ∷ rs) s e = go (stands-at s (r ∷ rs) e) (λ t. run-fits rs t)
         let l = ih (drop (sizeOf x) s) (rw a p) in
         omega (arith, l, w .1, length-drop (sizeOf x) s)
 
-fonts-total : (rs : List Rec) → 72 * length (fontsIn rs) ≤ total rs
+fonts-total : (rs : List Rec) → fontRecord * length (fontsIn rs) ≤ total rs
 unfolding fontsIn total sizeOf
 fonts-total [] = omega arith
 fonts-total (font n h ∷ rs) = omega (arith, fonts-total rs)
 fonts-total (character n c h d ∷ rs) = omega (arith, fonts-total rs)
 
-pub fonts-fit : (s : List ℕ) (at : ℕ) → Place s at → 72 * length (fontsAt s at) ≤ length s
+pub fonts-fit : (s : List ℕ) (at : ℕ) → Place s at → fontRecord * length (fontsAt s at) ≤ length s
 unfolding fontsAt recordsAt
 fonts-fit s at p = rw (p .is) (omega (arith, fonts-total (p .recs), run-fits (p .recs) (drop at s) (p .is), length-drop at s))
 

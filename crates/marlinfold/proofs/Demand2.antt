@@ -138,7 +138,7 @@ sized : (s : List ℕ) (st : Store) → decode s ≡ some st → st .size ≡ le
 unfolding decode validOr
 sized s st e = go (split (drop 12 s)) (guard-is _ _ st e)
   where
-    go : (o : Option (List Rec)) → validOr (length s) (markIn s) o ≡ some st → st .size ≡ length s
+    go : (o : Option (List Rec)) → validOr (length s) (markIn s) (drop 12 s) o ≡ some st → st .size ≡ length s
     go none q = let z : _≡_ {A = ℕ} 0 1 = unfold validOr in cc in absurd (omega arith)
     go (some rs) q = let i : storeOf s rs ≡ st = cc (guard-is _ _ st q) in ap (λ (x : Store). x .size) (sym i)
 

@@ -11,7 +11,10 @@ use borrow.Author.Tests.{ltb-true, ltb-false, lt-ltb, eqb-true, eqb-false, eq-eq
 use Rattle.blocks.specs.Header.{keptHeader}
 use Rattle.store.specs.Answer.{checked, refuse, done}
 use Rattle.store.specs.Num.{_&_}
-use Rattle.store.specs.Records.{isStore}
+use mathlib.Core.Option.{Option, none, some}
+use Rattle.store.specs.Model.{Store, decode}
+use Rattle.store.specs.Records.{isStore, isSome, CountsTrue}
+use Rattle.store.proofs.Counts.{counts-true}
 use Rattle.store.specs.Fonts.{Font, fontsOf, fontsBelow, fontsAbove, fontsWith, fontsAfter}
 use Rattle.store.specs.Calls.{fresh, makingFresh, downloadingFont, removingFont}
 use Rattle.store.specs.Download.{downloadingCharacter}
@@ -32,7 +35,7 @@ use Rattle.stream.specs.Downloads.{spelledDownloads, madeAll}
 use Rattle.stream.proofs.Readings.{downloads-made}
 use Rattle.marlinfold.specs.Calls.{Call, make-fresh, download-font, download-character, remove-font, remove-character, choose-font, tell-font, tell-character, draw-row, draw-picture, write-font, read-stream, choose-sheet, turn-picture, ofChoice, outcome, leaves, ran}
 use Rattle.marlinfold.specs.Book.{noted, bookOf, callOf, callsOf, spelledCalls, single, singly, answersTo, bookAfter, StreamSingly}
-use Rattle.marlinfold.specs.Demands.{Removes, by-removal, by-no-room, Answers, Chooses, Demand3}
+use Rattle.marlinfold.specs.Demands.{Removes, by-removal, by-no-room, Answers, Chooses, Demand3, HeldCounts}
 
 -- ── a list of calls
 ran-append : (a b : List Call) (s : List ℕ) → ran (a ++ b) s ≡ ran b (ran a s)
@@ -251,3 +254,16 @@ demand3 s e calls r i =
     let t = makingFresh s .bytes in
     let k = calls-kept calls t [] (fresh-leaves s e) in
     chooses r i (ran calls t) (bookAfter calls t) (rw (singly-ran calls t) at k)
+
+-- ── W-205: a buffer that is a store holds true counts, and every call leaves one
+held : (s : List ℕ) → isStore s ≡ true → CountsTrue s
+held s i = go (decode s) refl (unfold isStore in i)
+  where
+    go : (o : Option Store) → decode s ≡ o → isSome o ≡ true → CountsTrue s
+    go none q z = let y : _≡_ {A = ℕ} 0 1 = cc in absurd (omega arith)
+    go (some st) q z = counts-true s st q
+
+pub held-counts : HeldCounts
+held-counts c s i =
+    let k : isStore (leaves c s) ≡ true = rw (single-ran c s) at (call-kept c s (fontsOf s) (i, refl) .0) in
+    (k, held (leaves c s) k)

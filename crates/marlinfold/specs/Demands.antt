@@ -9,7 +9,7 @@ use mathlib.Core.Option.{some}
 use lib.Dec.{eqb}
 use lib.ListN.{length, take, getD, replicate}
 use Rattle.store.specs.Model.{Store, encode, decode}
-use Rattle.store.specs.Records.{isStore}
+use Rattle.store.specs.Records.{isStore, CountsTrue}
 use Rattle.store.specs.Fonts.{Font}
 use Rattle.store.specs.Calls.{removeFont}
 use Rattle.choice.specs.Request.{inRange}
@@ -170,3 +170,8 @@ SheetBySingles =
     → let sheet : List ℕ = outcome (choose-sheet rs out) s .out in
     let choice : Outcome = outcome (choose-font (getD rs i none)) s in
     (getD sheet (2 * i) 0 ≡ getD (choice .numbers) 0 0) × (getD sheet (2 * i + 1) 0 ≡ choice .refusal)
+
+-- ── W-205: "Every download, replacement, continuation and removal, also the one for lack of room, keeps both equal to a fresh count."
+-- for every call, reading a stream among them, on every store: what it leaves is a store, whose fonts hold true counts
+abbrev pub HeldCounts : Type 0
+HeldCounts = (c : Call) (s : List ℕ) → isStore s ≡ true → (isStore (leaves c s) ≡ true) × CountsTrue (leaves c s)

@@ -1,10 +1,11 @@
 -- Demand 1: each number that is listed for a call occurs, so that none is listed in vain. One table, computed.
-use Prim.Native.Nat.{ℕ, _/_, _%_}
+use Prim.Native.Nat.{ℕ, _+_, _-_, _/_, _%_}
 use mathlib.Core.Path.{_≡_}
 use mathlib.Core.List.{List, [], _∷_}
 use mathlib.Core.Bool.{Bool, true, false}
 use lib.Dec.{eqb}
 use lib.ListN.{replicate}
+use Rattle.store.specs.Layout.{leastStore, markRecord, fontRecord, characterRecord}
 use Rattle.marlinfold.specs.Calls.{Call, make-fresh, download-font, download-character, remove-font, remove-character, choose-font, tell-font, tell-character, draw-row, draw-picture, write-font, read-stream, choose-sheet, turn-picture, outcome}
 use Rattle.marlinfold.specs.Demands.{listed}
 use Rattle.marlinfold.specs.Trials.{A, requestWith, asks, storeAfter}
@@ -45,61 +46,69 @@ at size cs c k = record { size = size; before = cs; call = c; number = k }
 unfoldable pub some : List Call
 some = A ∷ sending 10 1 (0 ∷ 10 ∷ []) ∷ []
 
+-- the lengths of a store that a font fills, and of one that it fills with that character
+abbrev pub oneFont : ℕ
+oneFont = markRecord + fontRecord
+
+abbrev pub oneCharacter : ℕ
+oneCharacter = oneFont + characterRecord + 2
+
 unfoldable pub occurrences : List Occurrence
 occurrences =
-    at 11 [] make-fresh 1
+    at (leastStore - 1) [] make-fresh 1
     ∷ at 0 [] A 1
-    ∷ at 84 [] (download-font 32768 []) 2
-    ∷ at 84 [] (download-font 5 []) 3
-    ∷ at 84 [] (download-font 5 (replicate 64 1)) 4
-    ∷ at 84 [] (download-font 5 (0 ∷ 64 ∷ 0 ∷ 3 ∷ replicate 60 0)) 5
-    ∷ at 83 [] A 10
+    ∷ at oneFont [] (download-font 32768 []) 2
+    ∷ at oneFont [] (download-font 5 []) 3
+    ∷ at oneFont [] (download-font 5 (replicate 64 1)) 4
+    ∷ at oneFont [] (download-font 5 (0 ∷ 64 ∷ 0 ∷ 3 ∷ replicate 60 0)) 5
+    -- W-205: "the 84-byte case (now 90 and 89)": in 89 bytes there is no room for a font, in 90 there is, and telling it asks for an output
+    ∷ at 89 [] A 10
     ∷ at 0 [] (download-character 5 65 []) 1
-    ∷ at 84 [] (download-character 5 256 []) 2
-    ∷ at 84 [] (download-character 5 65 []) 3
-    ∷ at 84 [] (download-character 5 65 (4 ∷ 1 ∷ [])) 6
-    ∷ at 84 (A ∷ []) (download-character 5 65 (0 ∷ 0 ∷ [])) 4
-    ∷ at 84 (A ∷ []) (sending 0 1 []) 5
-    ∷ at 84 (A ∷ []) (sending 1024 257 []) 9
-    ∷ at 84 (A ∷ []) (download-character 5 65 (4 ∷ 1 ∷ [])) 7
-    ∷ at 84 (A ∷ []) (sending 10 1 (0 ∷ 4 ∷ 7 ∷ [])) 8
+    ∷ at oneFont [] (download-character 5 256 []) 2
+    ∷ at oneFont [] (download-character 5 65 []) 3
+    ∷ at oneFont [] (download-character 5 65 (4 ∷ 1 ∷ [])) 6
+    ∷ at oneFont (A ∷ []) (download-character 5 65 (0 ∷ 0 ∷ [])) 4
+    ∷ at oneFont (A ∷ []) (sending 0 1 []) 5
+    ∷ at oneFont (A ∷ []) (sending 1024 257 []) 9
+    ∷ at oneFont (A ∷ []) (download-character 5 65 (4 ∷ 1 ∷ [])) 7
+    ∷ at oneFont (A ∷ []) (sending 10 1 (0 ∷ 4 ∷ 7 ∷ [])) 8
     ∷ at 0 [] (remove-font 5) 1
-    ∷ at 12 [] (remove-font 32768) 2
-    ∷ at 12 [] (remove-font 5) 6
+    ∷ at leastStore [] (remove-font 32768) 2
+    ∷ at leastStore [] (remove-font 5) 6
     ∷ at 0 [] (remove-character 5 65) 1
-    ∷ at 12 [] (remove-character 5 256) 2
-    ∷ at 12 [] (remove-character 5 65) 6
-    ∷ at 84 (A ∷ []) (remove-character 5 65) 7
+    ∷ at leastStore [] (remove-character 5 256) 2
+    ∷ at leastStore [] (remove-character 5 65) 6
+    ∷ at oneFont (A ∷ []) (remove-character 5 65) 7
     ∷ at 0 [] (asks 277 1000 0 0) 1
-    ∷ at 12 [] (asks 2048 1000 0 0) 2
-    ∷ at 12 [] (asks 277 1000 0 0) 11
+    ∷ at leastStore [] (asks 2048 1000 0 0) 2
+    ∷ at leastStore [] (asks 277 1000 0 0) 11
     ∷ at 0 [] (tell-font 5 []) 1
-    ∷ at 12 [] (tell-font 32768 []) 2
-    ∷ at 12 [] (tell-font 5 []) 6
-    ∷ at 84 (A ∷ []) (tell-font 5 []) 12
+    ∷ at leastStore [] (tell-font 32768 []) 2
+    ∷ at leastStore [] (tell-font 5 []) 6
+    ∷ at 90 (A ∷ []) (tell-font 5 []) 12
     ∷ at 0 [] (tell-character 5 65 []) 1
-    ∷ at 12 [] (tell-character 5 256 []) 2
-    ∷ at 12 [] (tell-character 5 65 []) 6
-    ∷ at 84 (A ∷ []) (tell-character 5 65 []) 7
-    ∷ at 112 some (tell-character 5 65 []) 12
+    ∷ at leastStore [] (tell-character 5 256 []) 2
+    ∷ at leastStore [] (tell-character 5 65 []) 6
+    ∷ at oneFont (A ∷ []) (tell-character 5 65 []) 7
+    ∷ at oneCharacter some (tell-character 5 65 []) 12
     ∷ at 0 [] (draw-row 5 65 0 []) 1
-    ∷ at 112 some (draw-row 5 65 1 []) 2
-    ∷ at 12 [] (draw-row 5 65 0 []) 6
-    ∷ at 84 (A ∷ []) (draw-row 5 65 0 []) 7
-    ∷ at 112 some (draw-row 5 65 0 []) 12
+    ∷ at oneCharacter some (draw-row 5 65 1 []) 2
+    ∷ at leastStore [] (draw-row 5 65 0 []) 6
+    ∷ at oneFont (A ∷ []) (draw-row 5 65 0 []) 7
+    ∷ at oneCharacter some (draw-row 5 65 0 []) 12
     ∷ at 0 [] (draw-picture 5 65 []) 1
-    ∷ at 12 [] (draw-picture 5 256 []) 2
-    ∷ at 12 [] (draw-picture 5 65 []) 6
-    ∷ at 84 (A ∷ []) (draw-picture 5 65 []) 7
-    ∷ at 112 some (draw-picture 5 65 []) 12
+    ∷ at leastStore [] (draw-picture 5 256 []) 2
+    ∷ at leastStore [] (draw-picture 5 65 []) 6
+    ∷ at oneFont (A ∷ []) (draw-picture 5 65 []) 7
+    ∷ at oneCharacter some (draw-picture 5 65 []) 12
     ∷ at 0 [] (write-font 5 []) 1
-    ∷ at 12 [] (write-font 32768 []) 2
-    ∷ at 12 [] (write-font 5 []) 6
-    ∷ at 84 (A ∷ []) (write-font 5 []) 12
+    ∷ at leastStore [] (write-font 32768 []) 2
+    ∷ at leastStore [] (write-font 5 []) 6
+    ∷ at oneFont (A ∷ []) (write-font 5 []) 12
     ∷ at 0 [] (read-stream []) 1
     ∷ at 0 [] (choose-sheet [] []) 1
-    ∷ at 12 [] (choose-sheet (replicate 65 (requestWith 277 1000 0 0)) []) 2
-    ∷ at 12 [] (choose-sheet (requestWith 277 1000 0 0 ∷ []) []) 12
+    ∷ at leastStore [] (choose-sheet (replicate 65 (requestWith 277 1000 0 0)) []) 2
+    ∷ at leastStore [] (choose-sheet (requestWith 277 1000 0 0 ∷ []) []) 12
     ∷ at 0 [] (turn-picture 4 1 1 (128 ∷ []) (0 ∷ [])) 2
     ∷ at 0 [] (turn-picture 1 1 1 (128 ∷ []) []) 12
     ∷ []

@@ -18,12 +18,12 @@ use Rattle.blocks.specs.declared.character.Kind.{Kind}
 use Rattle.blocks.specs.declared.character.Kind.the-variants.{First, Continuation, Unknown}
 use Rattle.pictures.specs.declared.picture.Judged.{Judged}
 use Rattle.pictures.specs.declared.picture.Judged.the-variants.{Complete, Incomplete, PastWidth}
-use Rattle.blocks.proofs.KeptHeader.{kept-header, kept-length, header-long}
+use Rattle.blocks.proofs.KeptHeader.{kept-header}
 use Rattle.blocks.proofs.KeptFirst.{kept-first}
 use Rattle.pictures.proofs.KeptData.{held-whole, held-unfinished}
 use Rattle.store.specs.Layout.{keyOf, lastCode, lastFont, leastStore, markRecord, mostStore}
 use Rattle.store.specs.Num.{_&_}
-use Rattle.store.specs.Model.{Rec, font, character, Store, under, alone, sorted, markOk, heldUnder, isKept, run, encode, decode, total}
+use Rattle.store.specs.Model.{Rec, font, character, Store, alone, sorted, markOk, heldUnder, isKept, run, encode, decode, total}
 use Rattle.store.specs.Order.{find}
 use Rattle.store.specs.Records.{isStore, recordsIn}
 use Rattle.store.specs.Fonts.{Font, fontsIn, fontsOf, fontsWith, fontsAfter}
@@ -32,15 +32,12 @@ use Rattle.store.specs.Calls.{fresh, makingFresh, used, withFont, putFon
 use Rattle.store.specs.Download.{names, withinWidth, withoutFont, byKind, markFor, putCharacter, downloadingCharacter}
 use Rattle.store.specs.Putting.{puttingFont, placing, receiving, receivingFirst, receivingMore, receivingBlock, puttingBlock}
 use Rattle.store.proofs.Numbers.{both-l, both-r}
-use Rattle.store.proofs.RecordBytes.{shaped}
 use Rattle.store.proofs.Codec.{Valid, decode-encode}
 use Rattle.store.proofs.Holds.{valid-decode}
 use Rattle.store.proofs.Lookup.{found, font-at, char-at, kept-under}
 use Rattle.store.proofs.Replaced.{no-font, new-font, new-char}
-use Rattle.store.proofs.Totals.{length-run}
 use Rattle.store.proofs.Changed.{total-replaced, valid-font, valid-char, valid-cut}
-use Rattle.store.proofs.FontCalls.{font-run}
-use Rattle.store.proofs.Downloads.{new-allowed, mark-new, char-run}
+use Rattle.store.proofs.Downloads.{new-allowed, mark-new}
 use Rattle.store.proofs.Receives.{in-range}
 use Rattle.store.proofs.Leaves.{fonts-font, fonts-char}
 use Rattle.store.proofs.Locates.{is-store, store-is}
@@ -102,13 +99,13 @@ with-left n k new s st e v = (
 -- ── a font block
 module _ (st : Store) (v : Valid st) where
   pub removed-valid : (n : ℕ) → Valid (removeFont n st)
-  unfolding run total
+  unfolding total
   removed-valid n =
-      let fits : used (removeFont n st) ≤ st .size = omega (arith, total-replaced (keyOf n 0) (keyOf (n + 1) 0) [] (st .recs) (v .order) (omega arith), v .room, length-run 0 alone (st .recs) (v .order)) in
-      valid-font n [] st v no-font refl fits
+      let fits : used (removeFont n st) ≤ st .size = omega (arith, total-replaced (keyOf n 0) (keyOf (n + 1) 0) [] (st .recs) (v .order) (omega arith), v .room) in
+      valid-font n [] st v no-font fits
 
   pub put-valid : (n : ℕ) (b : List ℕ) → n ≤ lastFont → readHeader b ≡ Taken → used (putFont n (keptHeader b) st) ≤ st .size → Valid (putFont n (keptHeader b) st)
-  put-valid n b l e fits = valid-font n (font n (keptHeader b) ∷ []) st v (new-font (keptHeader b) l (kept-header b e)) (font-run n (keptHeader b) (kept-length b (header-long b e)) l) fits
+  put-valid n b l e fits = valid-font n (font n (keptHeader b) ∷ []) st v (new-font (keptHeader b) l (kept-header b e)) fits
 
 -- the font that a block brings
 abbrev pub fontBy : ℕ → List ℕ → List Font
@@ -146,7 +143,7 @@ module _ (n c : ℕ) (s h d : List ℕ) (st : Store) (g : Guest n c s h d st) wh
   pub placed-valid : used (putCharacter n c h d st) ≤ st .size → Valid (putCharacter n c h d st)
   placed-valid fits =
       let ok = new-allowed n c (g .header) h d (g .low) (g .code) (g .ok) in
-      valid-char n c (g .header) (character n c h d ∷ []) st (g .valid) (g .code) (g .there) (new-char h d ok) (char-run n c h d (shaped (under alone (font n (g .header))) (character n c h d) ok)) fits (markFor n c h d) (mark-new n c h d (st .recs) (g .low) (g .code))
+      valid-char n c (g .header) (character n c h d ∷ []) st (g .valid) (g .code) (g .there) (new-char h d ok) fits (markFor n c h d) (mark-new n c h d (st .recs) (g .low) (g .code))
 
   -- it stands, or its font goes
   placed-answers : (P : After → Type 0) → (Valid (putCharacter n c h d st) → P (done (putCharacter n c h d st))) → (Valid (removeFont n st) → P (record { answer = 10; bytes = encode (removeFont n st) })) → P (placing n c h d st)
@@ -222,7 +219,7 @@ unfolding makingFresh
 fresh-leaves s e = go (leb leastStore (length s) & leb (length s) mostStore) refl e
   where
     valid : leastStore ≤ length s → length s ≤ mostStore → Valid (fresh (length s))
-    valid a b = record { order = unfold sorted in refl; marked = unfold markOk _&_ in refl; small = b; room = unfold run in a }
+    valid a b = record { order = unfold sorted in refl; marked = unfold markOk _&_ in refl; small = b; room = unfold total in a }
 
     go : (t : Bool) → (leb leastStore (length s) & leb (length s) mostStore) ≡ t → checked (refuse s) t 1 (done (fresh (length s))) .answer ≡ 0
         → (isStore (checked (refuse s) t 1 (done (fresh (length s))) .bytes) ≡ true) × (fontsOf (checked (refuse s) t 1 (done (fresh (length s))) .bytes) ≡ [])
@@ -256,7 +253,7 @@ cut-leaves n c s is =
     cut st d v r code q = unfold run total fontsIn in
         let f = found (keyOf n 0) 0 alone r (st .recs) (v .order) q in
         let y = font-at n _ r (f .ok) (f .is) in
-        let fits : markRecord + total (withCharacter n c [] (st .recs)) ≤ st .size = omega (arith, total-replaced (keyOf n (c + 1)) (keyOf n (c + 1) + 1) [] (st .recs) (v .order) (omega arith), v .room, length-run 0 alone (st .recs) (v .order)) in
+        let fits : markRecord + total (withCharacter n c [] (st .recs)) ≤ st .size = omega (arith, total-replaced (keyOf n (c + 1)) (keyOf n (c + 1) + 1) [] (st .recs) (v .order) (omega arith), v .room) in
         let a = valid-cut n c (y .0) st v code (q ∙ ap some (y .1)) fits in
         (encoded (removeCharacter n c st) a, fonts-encoded (removeCharacter n c st) a ∙ fonts-char n c [] (st .recs) (v .order) code refl ∙ sym (fonts-of s st d))
 

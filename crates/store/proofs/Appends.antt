@@ -21,7 +21,7 @@ use Rattle.blocks.proofs.KeptFirst.{is-kept-block, is-kept-length}
 use Rattle.pictures.proofs.KeptData.{whole-judged, unfinished-judged, kept-complete, kept-incomplete, incomplete-prefix, complete-prefix}
 use Rattle.store.specs.Layout.{keyOf, characterRecord, lastCode, lastFont, markRecord, mostStore, fontRecord}
 use Rattle.store.specs.Num.{_&_}
-use Rattle.store.specs.Model.{Rec, font, character, Store, key, number, place, heldOf, heldUnder, isKept, isUnfinished, sorted, markOk, run, encode, total, sizeOf}
+use Rattle.store.specs.Model.{Rec, font, character, Store, key, number, place, heldOf, heldUnder, isKept, isUnfinished, sorted, markOk, encode, total, sizeOf}
 use Rattle.store.specs.Order.{keep, below, from, replaced, find}
 use Rattle.store.specs.Answer.{onStore, finding, done}
 use Rattle.store.specs.Calls.{shut, fresh, used, closedFor, putFont, downloadingFont, withCharacter}
@@ -92,7 +92,7 @@ pub record Laid (n k : ℕ) (g : List ℕ) (st : Store) : Type 0 where
 
 -- the header into a fresh store
 pub fresh-valid : (size : ℕ) → markRecord ≤ size → size ≤ mostStore → Valid (fresh size)
-fresh-valid size room small = record { order = unfold sorted in refl; marked = unfold markOk _&_ in refl; small = small; room = unfold run in omega arith }
+fresh-valid size room small = record { order = unfold sorted in refl; marked = unfold markOk _&_ in refl; small = small; room = unfold total in omega arith }
 
 abbrev pub first-store : ℕ → List ℕ → ℕ → Store
 first-store n h size = record { size = size; mark = shut; recs = font n h ∷ [] }

@@ -3,30 +3,56 @@ use mathlib.Core.Path.{_≡_, refl, sym, ap, _∙_}
 use mathlib.Core.List.{List, [], _++_}
 use Prim.Native.Nat.{ℕ, _+_, _-_, _≤_}
 use native.Mathlib.Omega.{arith}
-use lib.ListN.{length, replicate}
+use lib.ListN.{replicate}
 use Rattle.store.specs.Layout.{keyOf, markRecord}
-use Rattle.store.specs.Model.{run, encode, total}
+use Rattle.store.specs.Model.{tallyOf, run, encode, total}
 use Rattle.store.specs.Order.{below}
-use Rattle.store.specs.Change.{splicedAt, unmarkedAt}
+use Rattle.store.specs.Change.{splicedAt, Recounting, recounted, unmarkedAt}
 use Rattle.store.specs.Calls.{closedAt, withCharacter, removeCharacter}
 use Rattle.store.specs.declared.walk.Places.{Places}
 use Rattle.store.proofs.Puts.{put-nil}
 use Rattle.store.proofs.Marks.{unmark-at}
 use Rattle.store.proofs.Replaced.{no-char}
-use Rattle.store.proofs.Changed.{small-mark, encode-changed, total-replaced, bytes-char}
+use Rattle.store.proofs.Changed.{small-mark, encode-changed, total-replaced, order-char, bytes-char, bytes-counted, recounting, uncounted}
 use Rattle.store.proofs.Seeks.{KeptChar}
 
-pub cut-done : (n c : ℕ) (s : List ℕ) (w : Places) (x : KeptChar n c s w) → unmarkedAt n c (splicedAt (w .from) (w .to - w .from) (w .used) 0 s) ≡ encode (removeCharacter n c (x .ready .store))
-unfolding run total
-cut-done n c s w x =
-    let r = x .ready in
-    let st = r .store in
-    let rs = st .recs in
-    let lo : w .from ≡ markRecord + total (below (keyOf n (c + 1)) rs) = ap (λ (y : Places). y .from) (r .at) in
-    let hi : w .to ≡ markRecord + total (below (keyOf n (c + 1) + 1) rs) = ap (λ (y : Places). y .to) (r .at) in
-    let us : w .used ≡ markRecord + total rs = ap (λ (y : Places). y .used) (r .at) in
-    let fits : markRecord + total (withCharacter n c [] rs) ≤ st .size = omega (arith, total-replaced (keyOf n (c + 1)) (keyOf n (c + 1) + 1) [] rs (r .valid .order) (omega arith), r .room, r .size) in
-    let T : List ℕ = run (withCharacter n c [] rs) ++ replicate (st .size - (markRecord + length (run (withCharacter n c [] rs)))) 0 in
-    rw (lo, hi, us, r .bytes)
-    (ap (unmarkedAt n c) (sym (put-nil _ (markRecord + total (below (keyOf n (c + 1)) rs))) ∙ bytes-char n c (x .header) [] st (r .valid) (x .code) (x .font-there) no-char refl fits)
-    ∙ unmark-at n c (st .mark) T (small-mark st (r .valid)) ∙ sym (encode-changed (closedAt n c (st .mark)) (withCharacter n c [] rs) st))
+module _ (n c : ℕ) (s : List ℕ) (w : Places) (x : KeptChar n c s w) where
+  lo : w .lo ≡ markRecord + total (below (keyOf n 0) (x .ready .store .recs))
+  lo = ap (λ (y : Places). y .lo) (x .ready .at)
+
+  at : w .from ≡ markRecord + total (below (keyOf n (c + 1)) (x .ready .store .recs))
+  at = ap (λ (y : Places). y .from) (x .ready .at)
+
+  to : w .to ≡ markRecord + total (below (keyOf n (c + 1) + 1) (x .ready .store .recs))
+  to = ap (λ (y : Places). y .to) (x .ready .at)
+
+  fits : markRecord + total (withCharacter n c [] (x .ready .store .recs)) ≤ x .ready .store .size
+  unfolding total
+  fits =
+      let r = x .ready in
+      let us : w .used ≡ markRecord + total (r .store .recs) = ap (λ (y : Places). y .used) (r .at) in
+      omega (arith, total-replaced (keyOf n (c + 1)) (keyOf n (c + 1) + 1) [] (r .store .recs) (r .valid .order) (omega arith), r .room, r .size)
+
+  -- the records without it, its font's numbers as they were
+  cut-bytes : splicedAt (w .from) (w .to - w .from) (w .used) 0 s ≡ uncounted n c [] (x .ready .store)
+  unfolding run total
+  cut-bytes =
+      let r = x .ready in
+      let st = r .store in
+      let us : w .used ≡ markRecord + total (st .recs) = ap (λ (y : Places). y .used) (r .at) in
+      rw (at, to, us, r .bytes) (sym (put-nil _ (markRecord + total (below (keyOf n (c + 1)) (st .recs)))) ∙ bytes-char n c (x .header) [] st (r .valid) (x .code) (x .font-there) no-char fits refl)
+
+  pub cut-ready : Recounting (splicedAt (w .from) (w .to - w .from) (w .used) 0 s) (w .lo) (w .to - w .from) 0
+  unfolding total
+  cut-ready = rw cut-bytes (rw (lo, at, to) (recounting n c (x .header) [] (x .ready .store) (x .ready .valid) (x .code) (x .font-there) no-char fits))
+
+  pub cut-done : unmarkedAt n c (recounted (w .lo) (w .to - w .from) 0 (splicedAt (w .from) (w .to - w .from) (w .used) 0 s)) ≡ encode (removeCharacter n c (x .ready .store))
+  unfolding total
+  cut-done =
+      let st = x .ready .store in
+      let rs = withCharacter n c [] (st .recs) in
+      let T : List ℕ = run (tallyOf rs) rs ++ replicate (st .size - (markRecord + total rs)) 0 in
+      let o = order-char n c (x .header) [] st (x .ready .valid) (x .code) (x .font-there) no-char fits in
+      ap (λ (y : List ℕ). unmarkedAt n c (recounted (w .lo) (w .to - w .from) 0 y)) cut-bytes
+      ∙ rw (lo, at, to) (ap (unmarkedAt n c) (bytes-counted n c (x .header) [] st (x .ready .valid) (x .code) (x .font-there) no-char fits))
+      ∙ unmark-at n c (st .mark) T (small-mark st (x .ready .valid)) ∙ sym (encode-changed (closedAt n c (st .mark)) rs st o)

@@ -25,7 +25,7 @@ use Rattle.store.specs.declared.known.Opened.{Opened}
 use Rattle.store.specs.declared.known.Opened.the-variants.{At, NotStore}
 use Rattle.store.proofs.Codec.{Valid, sorted-inv, decode-encode}
 use Rattle.store.proofs.Order.{below-in, below-out, from-in, from-out, none-below, sorted-from, Side, before, behind, side}
-use Rattle.store.proofs.Totals.{total-at, length-run}
+use Rattle.store.proofs.Totals.{total-at}
 use Rattle.store.proofs.Lookup.{below-mono}
 use Rattle.store.proofs.Changed.{total-replaced}
 use Rattle.store.proofs.Holds.{valid-decode}
@@ -75,7 +75,7 @@ below-replaced k lo hi new rs o l m e =
 
 -- ── the numbers of a store's places
 fits-small : (st : Store) → Valid st → markRecord + total (st .recs) ≤ mostStore
-fits-small st v = omega (arith, v .room, v .small, length-run 0 alone (st .recs) (v .order))
+fits-small st v = omega (arith, v .room, v .small)
 
 module _ (n p : ℕ) (s : List ℕ) (w : Places) (x : Stands n p s w) where
   valid-of : Valid (x .store)

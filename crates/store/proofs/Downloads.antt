@@ -13,9 +13,9 @@ use Rattle.blocks.specs.Character.{descriptorBytes}
 use Rattle.pictures.specs.Size.{dataLimit}
 use Rattle.store.specs.Layout.{keyOf, characterRecord, lastCode, lastFont, markRecord}
 use Rattle.store.specs.Num.{_&_, le, Bytes}
-use Rattle.store.specs.Model.{Rec, font, character, under, alone, bytesOf, run, markBytes, encode, allowed, heldOf, heldUnder, isKept, isUnfinished, unfinished, opened, markOk, number, place, sizeOf, total}
+use Rattle.store.specs.Model.{Rec, font, character, under, alone, tallyOf, characterBytes, bytesOf, run, markBytes, encode, allowed, heldOf, heldUnder, isKept, isUnfinished, unfinished, opened, markOk, number, place, sizeOf, total}
 use Rattle.store.specs.Order.{below, from, find}
-use Rattle.store.specs.Change.{splicedAt, withBytes, remarked, unmarkedFor}
+use Rattle.store.specs.Change.{splicedAt, withBytes, Recounting, recounted, remarked, unmarkedFor}
 use Rattle.store.specs.Answer.{onStore}
 use Rattle.store.specs.Calls.{shut, used, withCharacter}
 use Rattle.store.specs.Download.{markFor, putCharacter}
@@ -27,7 +27,8 @@ use Rattle.store.proofs.RecordBytes.{Shaped, shaped}
 use Rattle.store.proofs.Codec.{size-bytes}
 use Rattle.store.proofs.Replaced.{new-char, opened-append}
 use Rattle.store.proofs.Marks.{mark-open, shut-ok, remark-bytes}
-use Rattle.store.proofs.Changed.{encode-changed, total-replaced, bytes-char}
+use Rattle.store.proofs.Changed.{encode-changed, total-replaced, order-char, uncounted, bytes-char, bytes-counted, recounting}
+use Rattle.store.specs.declared.tally.Tally.{Tally}
 use Rattle.store.proofs.Ready.{Ready, standing, record-bytes, same-store}
 use Rattle.store.proofs.Seeks.{KeptChar}
 use Rattle.store.proofs.Spots.{char-span, char-shape}
@@ -63,9 +64,9 @@ mark-new n c h d rs a b = go (isUnfinished (heldOf h d)) refl
         (opened-append k (below k rs) (character n c h d ∷ from (k + 1) rs) ∙ rw (new-opened n c h d (from (k + 1) rs) q) (or-true (opened k (below k rs))))
     go false q = shut-ok (withCharacter n c (character n c h d ∷ []) rs)
 
-pub char-run : (n c : ℕ) (h d : List ℕ) → Shaped (character n c h d) → length (run (character n c h d ∷ [])) ≡ total (character n c h d ∷ [])
+char-run : (T : ℕ → Tally) (n c : ℕ) (h d : List ℕ) → Shaped (character n c h d) → length (run T (character n c h d ∷ [])) ≡ total (character n c h d ∷ [])
 unfolding run total
-char-run n c h d e = omega (arith, length-append (bytesOf (character n c h d)) [], size-bytes (character n c h d) e)
+char-run T n c h d e = omega (arith, length-append (bytesOf T (character n c h d)) [], size-bytes T (character n c h d) e)
 
 -- ── placing, by the room that there is
 -- what a character that fits finds
@@ -114,23 +115,49 @@ module _ (n c : ℕ) (h d s : List ℕ) (w : Places) (x : Space n c h d s w) whe
       let y : r .store .size < used (putCharacter n c h d (r .store)) = omega (arith, grows, us, r .one, r .last, r .size) in
       rw (r .is, lt-leb _ _ y, cut-done n (c + 1) s w r)
 
-  -- room: the record stands, and the mark is made
-  pub place-done : w .used - (w .to - w .from) + (characterRecord + length d) ≤ length s
-      → placed n c h d s ≡ record { answer = 0; bytes = remarked (markFor n c h d) (withBytes (splicedAt (w .from) (w .to - w .from) (w .used) (characterRecord + length d) s) (w .from) (bytesOf (character n c h d))) }
-  unfolding placed placing onStore run total sizeOf
-  place-done q =
-      let r = x .ready in
-      let st = r .store in
-      let rs = st .recs in
-      let new = character n c h d ∷ [] in
-      let fits : markRecord + total (withCharacter n c new rs) ≤ st .size = omega (arith, grows, us, r .one, r .last, r .size) in
-      let T : List ℕ = run (withCharacter n c new rs) ++ replicate (st .size - (markRecord + length (run (withCharacter n c new rs)))) 0 in
-      let z : characterRecord + length d + 0 ≡ characterRecord + length d = omega arith in
-      let b : withBytes (splicedAt (w .from) (w .to - w .from) (w .used) (characterRecord + length d) s) (w .from) (bytesOf (character n c h d)) ≡ markBytes (st .mark) ++ T =
-      rw (lo, hi, us, r .bytes, ← (append-nil (bytesOf (character n c h d))), ← z) (bytes-char n c (x .header) new st (r .valid) (x .code) (x .font-in) (new-char h d (x .ok)) (char-run n c h d new-shape) fits) in
-      let y : encode (putCharacter n c h d st) ≡ remarked (markFor n c h d) (withBytes (splicedAt (w .from) (w .to - w .from) (w .used) (characterRecord + length d) s) (w .from) (bytesOf (character n c h d))) =
-      encode-changed (markFor n c h d) (withCharacter n c new rs) st ∙ sym (ap (remarked (markFor n c h d)) b ∙ remark-bytes (st .mark) (markFor n c h d) T) in
-      rw (r .is, le-leb _ _ fits, y)
+  fo : w .lo ≡ markRecord + total (below (keyOf n 0) (x .ready .store .recs))
+  fo = ap (λ (y : Places). y .lo) (x .ready .at)
+
+  -- room: the record stands, its font's numbers are made true, and then the mark
+  module _ (q : w .used - (w .to - w .from) + (characterRecord + length d) ≤ length s) where
+    new-total : total (character n c h d ∷ []) ≡ characterRecord + length d
+    unfolding total sizeOf
+    new-total = omega arith
+
+    fits : markRecord + total (withCharacter n c (character n c h d ∷ []) (x .ready .store .recs)) ≤ x .ready .store .size
+    fits = let r = x .ready in omega (arith, grows, us, r .one, r .last, r .size)
+
+    put-bytes : withBytes (splicedAt (w .from) (w .to - w .from) (w .used) (characterRecord + length d) s) (w .from) (characterBytes n c h d) ≡ uncounted n c (character n c h d ∷ []) (x .ready .store)
+    unfolding run bytesOf
+    put-bytes =
+        let r = x .ready in
+        let new = character n c h d ∷ [] in
+        rw (lo, hi, us, r .bytes, ← (append-nil (characterBytes n c h d)), ← new-total)
+        (bytes-char n c (x .header) new (r .store) (r .valid) (x .code) (x .font-in) (new-char h d (x .ok)) fits (char-run (tallyOf (r .store .recs)) n c h d new-shape))
+
+    pub place-ready : Recounting (withBytes (splicedAt (w .from) (w .to - w .from) (w .used) (characterRecord + length d) s) (w .from) (characterBytes n c h d)) (w .lo) (w .to - w .from) (characterRecord + length d)
+    place-ready =
+        let r = x .ready in
+        rw put-bytes (rw (fo, lo, hi, ← new-total) (recounting n c (x .header) (character n c h d ∷ []) (r .store) (r .valid) (x .code) (x .font-in) (new-char h d (x .ok)) fits))
+
+    pub place-done : placed n c h d s
+        ≡ record {
+          answer = 0;
+          bytes = remarked (markFor n c h d) (recounted (w .lo) (w .to - w .from) (characterRecord + length d) (withBytes (splicedAt (w .from) (w .to - w .from) (w .used) (characterRecord + length d) s) (w .from) (characterBytes n c h d)));
+        }
+    unfolding placed placing onStore
+    place-done =
+        let r = x .ready in
+        let st = r .store in
+        let new = character n c h d ∷ [] in
+        let rs = withCharacter n c new (st .recs) in
+        let W = new-char h d (x .ok) in
+        let T : List ℕ = run (tallyOf rs) rs ++ replicate (st .size - (markRecord + total rs)) 0 in
+        let b : recounted (w .lo) (w .to - w .from) (characterRecord + length d) (withBytes (splicedAt (w .from) (w .to - w .from) (w .used) (characterRecord + length d) s) (w .from) (characterBytes n c h d)) ≡ markBytes (st .mark) ++ T =
+        ap (recounted (w .lo) (w .to - w .from) (characterRecord + length d)) put-bytes ∙ rw (fo, lo, hi, ← new-total) (bytes-counted n c (x .header) new st (r .valid) (x .code) (x .font-in) W fits) in
+        let y : encode (putCharacter n c h d st) ≡ remarked (markFor n c h d) (recounted (w .lo) (w .to - w .from) (characterRecord + length d) (withBytes (splicedAt (w .from) (w .to - w .from) (w .used) (characterRecord + length d) s) (w .from) (characterBytes n c h d))) =
+        encode-changed (markFor n c h d) rs st (order-char n c (x .header) new st (r .valid) (x .code) (x .font-in) W fits) ∙ sym (ap (remarked (markFor n c h d)) b ∙ remark-bytes (st .mark) (markFor n c h d) T) in
+        rw (r .is, le-leb _ _ fits, y)
 
 -- ── a record that grows
 module _ (n c : ℕ) (t s : List ℕ) (w : Places) (B : Bytes s) (g : Growing n c t s w) where
@@ -162,7 +189,8 @@ module _ (n c : ℕ) (t s : List ℕ) (w : Places) (B : Bytes s) (g : Growing n 
   pub grow-small : length (dataAt s w) + length t ≤ dataLimit
   grow-small = omega (arith, data-small n c (keptAt s w) (dataAt s w ++ t) s w growing, length-append (dataAt s w) t)
 
-  grow-bytes : (u : List ℕ) × (drop (w .from) s ≡ bytesOf (character n c (keptAt s w) (dataAt s w)) ++ u)
+  grow-bytes : (u : List ℕ) × (drop (w .from) s ≡ characterBytes n c (keptAt s w) (dataAt s w) ++ u)
+  unfolding bytesOf
   grow-bytes =
       let r = growing .ready in
       let b = record-bytes (keyOf n (c + 1)) (character n c (keptAt s w) (dataAt s w)) (r .store) (r .valid) grow-there in
@@ -172,7 +200,7 @@ module _ (n c : ℕ) (t s : List ℕ) (w : Places) (B : Bytes s) (g : Growing n 
   -- the code's writes are those of the whole record
   pub grow-put : w .used + length t ≤ length s
       → withBytes (withBytes (splicedAt (w .from) (w .to - w .from) (w .used) (w .to - w .from + length t) s) (w .from) (le 2 (w .to - w .from + length t))) (w .from + (w .to - w .from)) t
-      ≡ withBytes (splicedAt (w .from) (w .to - w .from) (w .used) (characterRecord + length (dataAt s w ++ t)) s) (w .from) (bytesOf (character n c (keptAt s w) (dataAt s w ++ t)))
+      ≡ withBytes (splicedAt (w .from) (w .to - w .from) (w .used) (characterRecord + length (dataAt s w ++ t)) s) (w .from) (characterBytes n c (keptAt s w) (dataAt s w ++ t))
   grow-put room =
       let d = dataAt s w in
       let u = grow-bytes in
@@ -181,5 +209,5 @@ module _ (n c : ℕ) (t s : List ℕ) (w : Places) (B : Bytes s) (g : Growing n 
       let k : length (keptAt s w) ≡ descriptorBytes = char-shape n c s w grow-char .0 in
       let e = extended n c (w .from) (w .used) (keptAt s w) d t s (u .0) (u .1) k (omega (arith, grow-small)) (omega (arith, grow-span, growing .ready .last)) in
       ap (λ (x : ℕ). withBytes (withBytes (splicedAt (w .from) x (w .used) (x + length t) s) (w .from) (le 2 (x + length t))) (w .from + x) t) i ∙ e
-      ∙ ap (λ (x : ℕ). withBytes (splicedAt (w .from) (characterRecord + length d) (w .used) x s) (w .from) (bytesOf (character n c (keptAt s w) (d ++ t)))) (sym j)
-      ∙ ap (λ (x : ℕ). withBytes (splicedAt (w .from) x (w .used) (characterRecord + length (d ++ t)) s) (w .from) (bytesOf (character n c (keptAt s w) (d ++ t)))) (sym i)
+      ∙ ap (λ (x : ℕ). withBytes (splicedAt (w .from) (characterRecord + length d) (w .used) x s) (w .from) (characterBytes n c (keptAt s w) (d ++ t))) (sym j)
+      ∙ ap (λ (x : ℕ). withBytes (splicedAt (w .from) x (w .used) (characterRecord + length (d ++ t)) s) (w .from) (characterBytes n c (keptAt s w) (d ++ t))) (sym i)

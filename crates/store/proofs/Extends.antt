@@ -4,28 +4,22 @@ use mathlib.Core.List.{List, [], _++_, append-assoc}
 use Prim.Native.Nat.{ℕ, _+_, _-_, _/_, _<_, _≤_}
 use native.Mathlib.Omega.{arith}
 use lib.ListN.{length, take, drop, replicate, length-append, length-drop}
-use lib.Seq.{take-at, drop-at, take-add, take-append-add, length-take-le}
+use lib.Seq.{take-add, take-append-add, length-take-le}
 use Rattle.blocks.specs.Character.{descriptorBytes}
 use Rattle.store.specs.Layout.{characterKind, characterRecord}
 use Rattle.store.specs.Num.{le, wordEnd}
 use Rattle.store.proofs.Numbers.{length-le}
 use Rattle.store.proofs.RecordBytes.{char-size}
-use Rattle.store.specs.Model.{character, characterHead, bytesOf}
+use Rattle.store.specs.Model.{noCharacters, characterHead, characterBytes, bytesOf}
+use Rattle.store.proofs.Puts.{put-mid}
 use Rattle.store.specs.Change.{splicedAt, withBytes}
-
--- bytes put in the place of as many
-put-mid : (A B C D : List ℕ) (at : ℕ) → length A ≡ at → length D ≡ length B → withBytes (A ++ (B ++ C)) at D ≡ A ++ (D ++ C)
-unfolding withBytes
-put-mid A B C D at a e =
-    let l : length (A ++ B) ≡ at + length D = omega (arith, length-append A B) in
-    rw (take-at A (B ++ C) at a, ← (append-assoc A B C), drop-at (A ++ B) C (at + length D) l)
 
 -- what stands behind the length of a character's record
 rest : ℕ → ℕ → List ℕ → List ℕ → List ℕ
 rest n c h d = le 2 characterKind ++ (le 2 n ++ (le 2 c ++ (h ++ d)))
 
-record-parts : (n c : ℕ) (h d : List ℕ) → characterRecord + length d < wordEnd → bytesOf (character n c h d) ≡ le 2 (characterRecord + length d) ++ (le 2 0 ++ rest n c h d)
-unfolding bytesOf characterHead le rest
+record-parts : (n c : ℕ) (h d : List ℕ) → characterRecord + length d < wordEnd → characterBytes n c h d ≡ le 2 (characterRecord + length d) ++ (le 2 0 ++ rest n c h d)
+unfolding characterBytes characterHead le rest
 record-parts n c h d l = let q : (characterRecord + length d) / 256 / 256 ≡ 0 = omega arith in rw q
 
 rest-length : (n c : ℕ) (h d : List ℕ) → length h ≡ descriptorBytes → length (rest n c h d) + 4 ≡ characterRecord + length d
@@ -36,31 +30,32 @@ rest-more : (n c : ℕ) (h d t : List ℕ) → rest n c h (d ++ t) ≡ rest n c 
 unfolding rest
 rest-more n c h d t = simp append-assoc
 
-module _ (n c at used : ℕ) (h d t s : List ℕ) (u : List ℕ) (e : drop at s ≡ bytesOf (character n c h d) ++ u) (lh : length h ≡ descriptorBytes) (small : characterRecord + length d + length t < wordEnd)
+module _ (n c at used : ℕ) (h d t s : List ℕ) (u : List ℕ) (e : drop at s ≡ characterBytes n c h d ++ u) (lh : length h ≡ descriptorBytes) (small : characterRecord + length d + length t < wordEnd)
     (room : at + (characterRecord + length d) + length t ≤ length s) where
   -- what the splice makes room for
   behind : List ℕ
   behind = take (used - (at + (characterRecord + length d))) (drop (at + (characterRecord + length d)) s) ++ (replicate (characterRecord + length d - (characterRecord + length d + length t)) 0 ++ drop (used + (characterRecord + length d + length t - (characterRecord + length d))) s)
 
-  size : length (bytesOf (character n c h d)) ≡ characterRecord + length d
-  size = omega (arith, length-append (bytesOf (character n c h d)) [], char-size n c h d [] lh)
+  size : length (characterBytes n c h d) ≡ characterRecord + length d
+  unfolding bytesOf
+  size = omega (arith, length-append (characterBytes n c h d) [], char-size (λ m. noCharacters) n c h d [] lh)
 
-  moved-is : splicedAt at (characterRecord + length d) used (characterRecord + length d + length t) s ≡ take at s ++ (bytesOf (character n c h d) ++ (take (length t) u ++ behind))
+  moved-is : splicedAt at (characterRecord + length d) used (characterRecord + length d + length t) s ≡ take at s ++ (characterBytes n c h d ++ (take (length t) u ++ behind))
   unfolding splicedAt behind
   moved-is =
-      let i : take (at + (characterRecord + length d + length t)) s ≡ take at s ++ (bytesOf (character n c h d) ++ take (length t) u) =
+      let i : take (at + (characterRecord + length d + length t)) s ≡ take at s ++ (characterBytes n c h d ++ take (length t) u) =
       take-add at (characterRecord + length d + length t) s
-      ∙ ap (λ (l : List ℕ). take at s ++ l) (ap (take (characterRecord + length d + length t)) e ∙ ap (λ (k : ℕ). take (k + length t) (bytesOf (character n c h d) ++ u)) (sym size) ∙ take-append-add (bytesOf (character n c h d)) u (length t)) in
+      ∙ ap (λ (l : List ℕ). take at s ++ l) (ap (take (characterRecord + length d + length t)) e ∙ ap (λ (k : ℕ). take (k + length t) (characterBytes n c h d ++ u)) (sym size) ∙ take-append-add (characterBytes n c h d) u (length t)) in
       rw i (simp append-assoc)
 
   junk-length : length (take (length t) u) ≡ length t
   junk-length =
-      let k : length (drop at s) ≡ characterRecord + length d + length u = ap length e ∙ length-append (bytesOf (character n c h d)) u ∙ ap (λ (x : ℕ). x + length u) size in
+      let k : length (drop at s) ≡ characterRecord + length d + length u = ap length e ∙ length-append (characterBytes n c h d) u ∙ ap (λ (x : ℕ). x + length u) size in
       length-take-le (length t) u (omega (arith, k, length-drop at s))
 
   pub extended :
       withBytes (withBytes (splicedAt at (characterRecord + length d) used (characterRecord + length d + length t) s) at (le 2 (characterRecord + length d + length t))) (at + (characterRecord + length d)) t
-      ≡ withBytes (splicedAt at (characterRecord + length d) used (characterRecord + length d + length t) s) at (bytesOf (character n c h (d ++ t)))
+      ≡ withBytes (splicedAt at (characterRecord + length d) used (characterRecord + length d + length t) s) at (characterBytes n c h (d ++ t))
   extended =
       let A = take at s in
       let la : length A ≡ at = length-take-le at s (omega arith) in
@@ -79,7 +74,7 @@ module _ (n c at used : ℕ) (h d t s : List ℕ) (u : List ℕ) (e : drop at s 
       let b : A ++ (L1 ++ (Z ++ (X ++ (J ++ R)))) ≡ B ++ (J ++ R) = simp append-assoc in
       let p2 : withBytes (B ++ (J ++ R)) (at + (characterRecord + length d)) t ≡ B ++ (t ++ R) = put-mid B J R t (at + (characterRecord + length d)) lb (sym junk-length) in
       let ln : characterRecord + length (d ++ t) ≡ characterRecord + length d + length t = omega (arith, length-append d t) in
-      let new : bytesOf (character n c h (d ++ t)) ≡ L1 ++ (Z ++ (X ++ t)) = record-parts n c h (d ++ t) (omega (arith, length-append d t)) ∙ rw (ln, rest-more n c h d t) in
+      let new : characterBytes n c h (d ++ t) ≡ L1 ++ (Z ++ (X ++ t)) = record-parts n c h (d ++ t) (omega (arith, length-append d t)) ∙ rw (ln, rest-more n c h d t) in
       let c0 : A ++ (L0 ++ (Z ++ (X ++ (J ++ R)))) ≡ A ++ ((L0 ++ (Z ++ (X ++ J))) ++ R) = simp append-assoc in
       let lq : length (L1 ++ (Z ++ (X ++ t))) ≡ length (L0 ++ (Z ++ (X ++ J))) =
       omega (arith, l0, length-append L1 (Z ++ (X ++ t)), length-append L0 (Z ++ (X ++ J)), length-append Z (X ++ t), length-append Z (X ++ J), length-append X t, length-append X J, junk-length) in

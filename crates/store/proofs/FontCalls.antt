@@ -14,7 +14,7 @@ use Rattle.blocks.specs.declared.Verdict.the-variants.{Taken, Refused}
 use Rattle.blocks.proofs.KeptHeader.{kept-header, kept-length, header-long}
 use Rattle.store.specs.Layout.{keyOf, fontRecord, lastFont, leastStore, markKind, markRecord, mostStore}
 use Rattle.store.specs.Num.{_&_, le}
-use Rattle.store.specs.Model.{font, bytesOf, run, markBytes, encode, decode, sizeOf, total}
+use Rattle.store.specs.Model.{font, noCharacters, fontHead, bytesOf, run, markBytes, encode, decode, sorted, sizeOf, total}
 use Rattle.store.specs.Order.{below, replaced}
 use Rattle.store.specs.Change.{splicedAt, withBytes, unmarkedFor}
 use Rattle.store.specs.Answer.{onStore, After, refuse, done}
@@ -23,7 +23,7 @@ use Rattle.store.specs.Putting.{puttingFont}
 use Rattle.store.specs.declared.walk.Places.{Places}
 use Rattle.store.proofs.Puts.{put-nil}
 use Rattle.store.proofs.Replaced.{no-font, new-font}
-use Rattle.store.proofs.Changed.{spare-is, total-replaced, bytes-font}
+use Rattle.store.proofs.Changed.{spare-is, total-replaced, newBytes, bytes-font}
 use Rattle.store.proofs.Codec.{size-bytes, encode-parts}
 use Rattle.store.proofs.Ready.{Ready}
 
@@ -41,7 +41,7 @@ cut-done n p s w r =
     let hi : w .hi ≡ markRecord + total (below (keyOf (n + 1) 0) rs) = ap (λ (x : Places). x .hi) (r .at) in
     let us : w .used ≡ markRecord + total rs = ap (λ (x : Places). x .used) (r .at) in
     let fits : used (removeFont n st) ≤ st .size = omega (arith, total-replaced (keyOf n 0) (keyOf (n + 1) 0) [] rs (r .valid .order) (omega arith), r .room, r .size) in
-    rw (lo, hi, us, r .bytes) (ap (unmarkedFor n) (sym (put-nil _ (markRecord + total (below (keyOf n 0) rs)))) ∙ bytes-font n [] st (r .valid) no-font refl fits)
+    rw (lo, hi, us, r .bytes) (ap (unmarkedFor n) (sym (put-nil _ (markRecord + total (below (keyOf n 0) rs)))) ∙ bytes-font n [] st (r .valid) no-font fits refl)
 
 -- ── making fresh
 zeros-all : (s : List ℕ) → paste s 0 (replicate (length s) 0) (length s) ≡ replicate (length s) 0
@@ -54,12 +54,12 @@ unfolding withBytes le markBytes
 fresh-first z = refl
 
 pub fresh-bytes : (s : List ℕ) → leastStore ≤ length s → withBytes (withBytes (paste s 0 (replicate (length s) 0) (length s)) 0 (le 2 markRecord)) 4 (le 2 markKind) ≡ encode (fresh (length s))
-unfolding run
+unfolding run total
 fresh-bytes s h =
     let n = length s in
     let e : markRecord + (n - markRecord) ≡ n = omega arith in
     let r : replicate {A = ℕ} n 0 ≡ replicate markRecord 0 ++ replicate (n - markRecord) 0 = sym (replicate-append-replicate {A = ℕ} markRecord (n - markRecord) 0 ∙ ap (λ (k : ℕ). replicate k 0) e) in
-    rw (zeros-all s, r) (fresh-first (replicate (n - markRecord) 0) ∙ sym (encode-parts (fresh n) ∙ ap (λ (k : ℕ). markBytes shut ++ replicate k 0) (spare-is (fresh n))))
+    rw (zeros-all s, r) (fresh-first (replicate (n - markRecord) 0) ∙ sym (encode-parts (fresh n) ∙ ap (λ (k : ℕ). markBytes shut ++ replicate k 0) (spare-is (fresh n) (unfold sorted in refl))))
 
 module _ (s : List ℕ) where
   pub fresh-short : length s < leastStore → makingFresh s ≡ refuse s 1
@@ -75,9 +75,9 @@ module _ (s : List ℕ) where
   fresh-done a b = rw (le-leb leastStore (length s) a, le-leb (length s) mostStore b)
 
 -- ── downloading
-pub font-run : (n : ℕ) (h : List ℕ) → length h ≡ headerBytes → n ≤ lastFont → length (run (font n h ∷ [])) ≡ total (font n h ∷ [])
+font-run : (n : ℕ) (h : List ℕ) → length h ≡ headerBytes → n ≤ lastFont → length (newBytes (font n h ∷ [])) ≡ total (font n h ∷ [])
 unfolding run total
-font-run n h l m = omega (arith, length-append (bytesOf (font n h)) [], size-bytes (font n h) (l, m))
+font-run n h l m = omega (arith, length-append (bytesOf (λ k. noCharacters) (font n h)) [], size-bytes (λ k. noCharacters) (font n h) (l, m))
 
 module _ (n : ℕ) (b s : List ℕ) where
   pub download-not : decode s ≡ none → downloadingFont n b s ≡ refuse s 1
@@ -122,15 +122,15 @@ module _ (n : ℕ) (b s : List ℕ) where
         rw (r .is, x)
 
     pub put-done : w .used - (w .hi - w .lo) + fontRecord ≤ length s
-        → puttingFont n b s ≡ record { answer = 0; bytes = unmarkedFor n (withBytes (splicedAt (w .lo) (w .hi - w .lo) (w .used) fontRecord s) (w .lo) (bytesOf (font n (keptHeader b)))) }
-    unfolding puttingFont onStore run total sizeOf
+        → puttingFont n b s ≡ record { answer = 0; bytes = unmarkedFor n (withBytes (splicedAt (w .lo) (w .hi - w .lo) (w .used) fontRecord s) (w .lo) (fontHead n noCharacters ++ keptHeader b)) }
+    unfolding puttingFont onStore run bytesOf total sizeOf
     put-done q =
         let st = r .store in
         let h = keptHeader b in
         let k : length h ≡ headerBytes = kept-length b (header-long b e) in
         let fits : used (putFont n h st) ≤ st .size = omega (arith, grows, us, r .span, r .end, r .size) in
         let x : leb (used (putFont n h st)) (st .size) ≡ true = le-leb _ _ fits in
-        let y : unmarkedFor n (withBytes (splicedAt (w .lo) (w .hi - w .lo) (w .used) fontRecord s) (w .lo) (bytesOf (font n h))) ≡ encode (putFont n h st) =
-        rw (lo, hi, us, r .bytes) (ap (λ (z : List ℕ). unmarkedFor n (withBytes (splicedAt (markRecord + total (below (keyOf n 0) (st .recs))) (markRecord + total (below (keyOf (n + 1) 0) (st .recs)) - (markRecord + total (below (keyOf n 0) (st .recs)))) (markRecord + total (st .recs)) fontRecord (encode st)) (markRecord + total (below (keyOf n 0) (st .recs))) z)) (sym (append-nil (bytesOf (font n h))))
-        ∙ bytes-font n (font n h ∷ []) st (r .valid) (new-font h l (kept-header b e)) (font-run n h k l) fits) in
+        let y : unmarkedFor n (withBytes (splicedAt (w .lo) (w .hi - w .lo) (w .used) fontRecord s) (w .lo) (fontHead n noCharacters ++ h)) ≡ encode (putFont n h st) =
+        rw (lo, hi, us, r .bytes) (ap (λ (z : List ℕ). unmarkedFor n (withBytes (splicedAt (markRecord + total (below (keyOf n 0) (st .recs))) (markRecord + total (below (keyOf (n + 1) 0) (st .recs)) - (markRecord + total (below (keyOf n 0) (st .recs)))) (markRecord + total (st .recs)) fontRecord (encode st)) (markRecord + total (below (keyOf n 0) (st .recs))) z)) (sym (append-nil (fontHead n noCharacters ++ h)))
+        ∙ bytes-font n (font n h ∷ []) st (r .valid) (new-font h l (kept-header b e)) fits (font-run n h k l)) in
         rw (r .is, x, y)

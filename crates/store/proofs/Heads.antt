@@ -15,8 +15,8 @@ use Rattle.pictures.specs.declared.picture.Held.the-variants.{Foreign}
 use Rattle.blocks.specs.Character.{descriptorBytes}
 use Rattle.store.specs.Layout.{characterKeptAt, characterKind, characterRecord, codeAt, fontKeptAt, fontKind, fontOrientationAt, fontRecord, kindAt, lastCode, lastFont, numberAt}
 use Rattle.store.specs.Num.{_&_, field}
-use Rattle.store.specs.Model.{font, Under, under, allowed, heldOf, heldUnder, isKept, isUnfinished, unfinished, number, place, guard, headRec, sizeOf}
-use Rattle.store.specs.Walk.{headOf, seen, Heading}
+use Rattle.store.specs.Model.{font, Under, under, allowed, heldOf, heldUnder, isKept, isUnfinished, unfinished, number, place, noCharacters, tallyIn, guard, headRec, sizeOf}
+use Rattle.store.specs.Walk.{headOf, heldIn, seen, Heading}
 use Rattle.store.specs.declared.walk.Head.the-variants.{End, Rec as HeadRec, Bad}
 use Rattle.store.proofs.Fields.{field-drop}
 use Rattle.store.proofs.RecordBytes.{cond-same, guard-none, held-kept}
@@ -34,7 +34,7 @@ module _ (u : Under) (s : List ℕ) (at : ℕ) where
   unfolding headOf
   look-zero e = simp (eq-eqb (field 4 0 (drop at s)) 0 e, cond-same)
 
-  past : characterRecord ≤ length s - at → (field 4 at s ≡ 0 → ⊥) → headOf u (drop at s) ≡ seen u (headRec (drop at s))
+  past : characterRecord ≤ length s - at → (field 4 at s ≡ 0 → ⊥) → headOf u (drop at s) ≡ seen u (drop at s) (headRec (drop at s))
   unfolding headOf
   past h e = rw (le-ltb (length (drop at s)) characterRecord (omega (arith, length-drop at s)), ne-eqb (field 4 0 (drop at s)) 0 e)
 
@@ -49,7 +49,7 @@ module _ (u : Under) (s : List ℕ) (at : ℕ) where
       past h e ∙ rw (field-drop 2 kindAt at s, ne-eqb (field 2 (at + kindAt) s) fontKind a, ne-eqb (field 2 (at + kindAt) s) characterKind b) (rw guard-none)
 
   module _ (len : ℕ) (g : Heading s at len) where
-    here : headOf u (drop at s) ≡ seen u (headRec (drop at s))
+    here : headOf u (drop at s) ≡ seen u (drop at s) (headRec (drop at s))
     here = past (omega (arith, g .room)) (λ e. omega (arith, g .is, g .some))
 
     fits : leb (field 4 0 (drop at s)) (length (drop at s)) ≡ true
@@ -63,8 +63,8 @@ module _ (u : Under) (s : List ℕ) (at : ℕ) where
     pub font-is : field 2 (at + kindAt) s ≡ fontKind → len ≡ fontRecord
         → headOf u (drop at s)
         ≡ cond (leb (field 2 (at + numberAt) s) lastFont & isKeptHeader (take headerBytes (drop fontKeptAt (drop at s))))
-        (HeadRec (record { font = field 2 (at + numberAt) s; place = 0; len = fontRecord; orientation = getD s (at + fontOrientationAt) 0; unfinished = false })) Bad
-    unfolding headRec guard seen allowed number place sizeOf under unfinished
+        (HeadRec (record { font = field 2 (at + numberAt) s; place = 0; len = fontRecord; orientation = getD s (at + fontOrientationAt) 0; unfinished = false; held = tallyIn (drop at s) })) Bad
+    unfolding headRec guard seen heldIn allowed number place sizeOf under unfinished
     font-is k l =
         let o : getD (take headerBytes (drop fontKeptAt (drop at s))) orientationAt 0 ≡ getD s (at + fontOrientationAt) 0 = getD-take headerBytes (drop fontKeptAt (drop at s)) orientationAt 0 (omega arith) ∙ getD-drop fontKeptAt (drop at s) orientationAt 0 ∙ getD-drop at s fontOrientationAt 0 in
         here ∙ rw (fits, field-drop 2 kindAt at s, k, eq-eqb (field 4 0 (drop at s)) fontRecord (g .is ∙ l), field-drop 2 numberAt at s, o)
@@ -83,8 +83,8 @@ module _ (u : Under) (s : List ℕ) (at : ℕ) where
     pub char-is : field 2 (at + kindAt) s ≡ characterKind → characterRecord ≤ len
         → headOf u (drop at s)
         ≡ cond (eqb (u .owner) (field 2 (at + numberAt) s + 1) & leb (field 2 (at + numberAt) s) lastFont & leb (field 2 (at + codeAt) s) lastCode & isKept (heldUnder (u .orientation) descriptor picture))
-        (HeadRec (record { font = field 2 (at + numberAt) s; place = field 2 (at + codeAt) s + 1; len = len; orientation = u .orientation; unfinished = isUnfinished (heldOf descriptor picture) })) Bad
-    unfolding headRec guard seen allowed number place sizeOf under unfinished
+        (HeadRec (record { font = field 2 (at + numberAt) s; place = field 2 (at + codeAt) s + 1; len = len; orientation = u .orientation; unfinished = isUnfinished (heldOf descriptor picture); held = noCharacters })) Bad
+    unfolding headRec guard seen heldIn allowed number place sizeOf under unfinished
     char-is k l =
         let i : field 4 0 (drop at s) ≡ len = g .is in
         let m : characterRecord + length (take (len - characterRecord) (drop characterRecord (drop at s))) ≡ len = simp (length-take, length-drop) (omega (arith, g .fits)) in
@@ -92,7 +92,7 @@ module _ (u : Under) (s : List ℕ) (at : ℕ) where
 
     pub char-kept : field 2 (at + kindAt) s ≡ characterKind → characterRecord ≤ len → u .owner ≡ field 2 (at + numberAt) s + 1 → field 2 (at + numberAt) s ≤ lastFont → field 2 (at + codeAt) s ≤ lastCode
         → (x : Held) → heldUnder (u .orientation) descriptor picture ≡ x → isKept x ≡ true
-        → headOf u (drop at s) ≡ HeadRec (record { font = field 2 (at + numberAt) s; place = field 2 (at + codeAt) s + 1; len = len; orientation = u .orientation; unfinished = isUnfinished x })
+        → headOf u (drop at s) ≡ HeadRec (record { font = field 2 (at + numberAt) s; place = field 2 (at + codeAt) s + 1; len = len; orientation = u .orientation; unfinished = isUnfinished x; held = noCharacters })
     unfolding _&_
     char-kept k l o n c x e y =
         let w = held-kept (u .orientation) descriptor picture (rw e y) in

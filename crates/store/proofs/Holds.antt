@@ -8,11 +8,10 @@ use native.Mathlib.Omega.{arith}
 use lib.ListN.{length, drop, length-take, length-drop}
 use Rattle.store.specs.Layout.{markRecord}
 use Rattle.store.specs.Num.{_&_, allZero}
-use Rattle.store.specs.Model.{Rec, Store, alone, sorted, markOk, headRec, sizeOf, consTo, andThen, splitIn, split, markIn, begins, validOr, decode, total}
+use Rattle.store.specs.Model.{Rec, Store, alone, sorted, tallyOf, counted, markOk, headRec, sizeOf, consTo, andThen, splitIn, split, markIn, begins, validOr, decode, total}
 use Rattle.store.proofs.Numbers.{both-l, both-r}
 use Rattle.store.proofs.RecordBytes.{guard-test, guard-is, Headed, is-font, is-character, head-inv}
 use Rattle.store.proofs.Codec.{Valid, consTo-some, begins-parts, storeOf}
-use Rattle.store.proofs.Totals.{length-run}
 
 headed-size : (s : List ℕ) (r : Rec) → Headed s r → sizeOf r ≤ length s
 unfolding sizeOf
@@ -58,12 +57,12 @@ valid-decode s st e = go (split (drop markRecord s)) refl (guard-is _ _ st e)
     fr : begins s ≡ true
     fr = guard-test _ _ st e
 
-    go : (o : Option (List Rec)) → split (drop markRecord s) ≡ o → validOr (length s) (markIn s) o ≡ some st → Valid st
+    go : (o : Option (List Rec)) → split (drop markRecord s) ≡ o → validOr (length s) (markIn s) (drop markRecord s) o ≡ some st → Valid st
     go none q e' = let z : _≡_ {A = ℕ} 0 1 = cc in absurd (omega arith)
     go (some rs) q e' =
-        let ok : sorted 0 alone rs & markOk (markIn s) rs ≡ true = guard-test _ _ st e' in
+        let ok : (sorted 0 alone rs & counted (tallyOf rs) (drop markRecord s) rs) & markOk (markIn s) rs ≡ true = guard-test _ _ st e' in
         let i : storeOf s rs ≡ st = cc (guard-is _ _ st e') in
         let f = begins-parts s fr in
         let t : total rs ≤ length (drop markRecord s) = split-total (suc (length (drop markRecord s))) (drop markRecord s) rs q in
         subst Valid i
-        (record { order = both-l _ _ ok; marked = both-r _ _ ok; small = f .1; room = omega (arith, t, f .0, length-drop markRecord s, length-run 0 alone rs (both-l _ _ ok)) })
+        (record { order = both-l _ _ (both-l _ _ ok); marked = both-r _ _ ok; small = f .1; room = omega (arith, t, f .0, length-drop markRecord s) })

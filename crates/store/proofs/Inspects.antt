@@ -5,15 +5,14 @@ use mathlib.Core.Bool.{Bool, true, false, not, cond, _||_}
 use mathlib.Core.Option.{Option, none, some}
 use Prim.Native.Nat.{ℕ, _+_, _<_, _≤_}
 use native.Mathlib.Omega.{arith}
-use native.Mathlib.Nat.{zero-add}
 use lib.ListN.{length, drop}
 use lib.Dec.{eqb, leb}
 use borrow.Author.Tests.{eqb-true, le-leb, lt-leb, ne-eqb}
 use Rattle.store.specs.Layout.{keyOf, kindAt, lastCode, lastFont, leastStore, markRecord, mostStore, markKind}
 use Rattle.store.specs.Num.{_&_, field}
-use Rattle.store.specs.Model.{Rec, Mark, alone, sorted, opened, markOk, guard, split, markIn, begins, validOr, decode}
-use Rattle.store.specs.Calls.{charactersOf}
-use Rattle.store.specs.Walk.{walkStart, queryFor, placesOf, placesFrom, walked, markSeen, surveyed, inspected}
+use Rattle.store.specs.Model.{Rec, Mark, alone, sorted, noCharacters, tallyOf, counted, opened, markOk, guard, split, markIn, begins, validOr, decode}
+use Rattle.store.proofs.Counts.{settled-counted}
+use Rattle.store.specs.Walk.{walkStart, queryFor, placesOf, placesFrom, tallied, walkedOver, walked, markSeen, surveyedOver, surveyed, inspected}
 use Rattle.store.specs.declared.walk.Places.{Places}
 use Rattle.store.specs.declared.walk.Walk.the-variants.{Run, Broken}
 use Rattle.store.specs.declared.walk.MarkSeen.{MarkSeen}
@@ -68,31 +67,40 @@ module _ (m : Mark) where
   seen-open a b c = rw (a, le-leb (m .fontOf) lastFont b, le-leb (m .codeOf) lastCode c)
 
 -- ── the records
-places-start : (n p m : ℕ) (rs : List Rec) → placesFrom (queryFor n p m) walkStart rs ≡ placesOf n p rs
-places-start n p m rs = rw (zero-add (length (charactersOf n rs)))
+module _ (n p m : ℕ) (must : Bool) (s : List ℕ) where
+  surveyed-some : (rs : List Rec) (w : Places) (k : Bool) → walkedOver (queryFor n p m) walkStart s (some rs) ≡ Run w k → surveyedOver n p m must s (some rs) ≡ cond (not must || k) (Found w) NotStore
+  unfolding walkedOver surveyedOver _&_
+  surveyed-some rs w k e = rw (← (settled-counted s rs)) (go (sorted 0 alone rs & tallied noCharacters noCharacters s rs) e)
+    where
+      go : (b : Bool) → cond b (Run (placesFrom (queryFor n p m) walkStart rs) (opened m rs)) Broken ≡ Run w k
+          → cond (b & (not must || opened m rs)) (Found (placesOf n p rs)) NotStore ≡ cond (not must || k) (Found w) NotStore
+      go true e' =
+          let a : placesFrom (queryFor n p m) walkStart rs ≡ w = cc in
+          let b : opened m rs ≡ k = cc in
+          rw (← b, ← a)
+      go false e' = let z : _≡_ {A = ℕ} 0 1 = cc in absurd (omega arith)
 
-pub surveyed-run : (n p m : ℕ) (must : Bool) (o : Option (List Rec)) (w : Places) (k : Bool) → walked (queryFor n p m) walkStart o ≡ Run w k
-    → surveyed n p m must o ≡ cond (not must || k) (Found w) NotStore
-unfolding walked surveyed _&_
-surveyed-run n p m must none w k e = let z : _≡_ {A = ℕ} 0 1 = cc in absurd (omega arith)
-surveyed-run n p m must (some rs) w k e = go (sorted 0 alone rs) e
-  where
-    go : (b : Bool) → cond b (Run (placesFrom (queryFor n p m) walkStart rs) (opened m rs)) Broken ≡ Run w k
-        → cond (b & (not must || opened m rs)) (Found (placesOf n p rs)) NotStore ≡ cond (not must || k) (Found w) NotStore
-    go true e' =
-        let a : placesFrom (queryFor n p m) walkStart rs ≡ w = cc in
-        let b : opened m rs ≡ k = cc in
-        rw (← b, ← a, places-start n p m rs)
-    go false e' = let z : _≡_ {A = ℕ} 0 1 = cc in absurd (omega arith)
+  surveyed-none : (rs : List Rec) → walkedOver (queryFor n p m) walkStart s (some rs) ≡ Broken → surveyedOver n p m must s (some rs) ≡ NotStore
+  unfolding walkedOver surveyedOver _&_
+  surveyed-none rs e = rw (← (settled-counted s rs)) (go (sorted 0 alone rs & tallied noCharacters noCharacters s rs) e)
+    where
+      go : (b : Bool) → cond b (Run (placesFrom (queryFor n p m) walkStart rs) (opened m rs)) Broken ≡ Broken → cond (b & (not must || opened m rs)) (Found (placesOf n p rs)) NotStore ≡ NotStore
+      go true e' = let z : _≡_ {A = ℕ} 0 1 = cc in absurd (omega arith)
+      go false e' = refl
 
-pub surveyed-broken : (n p m : ℕ) (must : Bool) (o : Option (List Rec)) → walked (queryFor n p m) walkStart o ≡ Broken → surveyed n p m must o ≡ NotStore
-unfolding walked surveyed _&_
-surveyed-broken n p m must none e = refl
-surveyed-broken n p m must (some rs) e = go (sorted 0 alone rs) e
-  where
-    go : (b : Bool) → cond b (Run (placesFrom (queryFor n p m) walkStart rs) (opened m rs)) Broken ≡ Broken → cond (b & (not must || opened m rs)) (Found (placesOf n p rs)) NotStore ≡ NotStore
-    go true e' = let z : _≡_ {A = ℕ} 0 1 = cc in absurd (omega arith)
-    go false e' = refl
+  pub surveyed-run : (w : Places) (k : Bool) → walked (queryFor n p m) walkStart s ≡ Run w k → surveyed n p m must s ≡ cond (not must || k) (Found w) NotStore
+  surveyed-run w k e = go (split s) e
+    where
+      go : (o : Option (List Rec)) → walkedOver (queryFor n p m) walkStart s o ≡ Run w k → surveyedOver n p m must s o ≡ cond (not must || k) (Found w) NotStore
+      go none e' = unfold walkedOver in let z : _≡_ {A = ℕ} 0 1 = cc in absurd (omega arith)
+      go (some rs) e' = surveyed-some rs w k e'
+
+  pub surveyed-broken : walked (queryFor n p m) walkStart s ≡ Broken → surveyed n p m must s ≡ NotStore
+  surveyed-broken e = go (split s) e
+    where
+      go : (o : Option (List Rec)) → walkedOver (queryFor n p m) walkStart s o ≡ Broken → surveyedOver n p m must s o ≡ NotStore
+      go none e' = unfold surveyedOver in refl
+      go (some rs) e' = surveyed-none rs e'
 
 -- ── both together
 abbrev okBy : MarkSeen → List Rec → Bool
@@ -119,35 +127,37 @@ module _ (n p : ℕ) (s : List ℕ) where
   unfolding decode guard inspected
   inspect-not e = rw e
 
-  inspect-by : begins s ≡ true → (o : Option (List Rec)) → split (drop markRecord s) ≡ o → inspected n p (decode s) ≡ inspected n p (validOr (length s) (markIn s) o)
+  abbrev records : List ℕ
+  records = drop markRecord s
+
+  inspect-by : begins s ≡ true → inspected n p (decode s) ≡ inspected n p (validOr (length s) (markIn s) records (split records))
   unfolding decode guard
-  inspect-by e o q = rw (e, q)
+  inspect-by e = rw e
 
   pub inspect-wrong : begins s ≡ true → markSeen (markIn s) ≡ Wrong → inspected n p (decode s) ≡ NotStore
-  inspect-wrong e w = inspect-by e (split (drop markRecord s)) refl ∙ go (split (drop markRecord s))
+  inspect-wrong e w = inspect-by e ∙ go (split records)
     where
-      go : (o : Option (List Rec)) → inspected n p (validOr (length s) (markIn s) o) ≡ NotStore
+      go : (o : Option (List Rec)) → inspected n p (validOr (length s) (markIn s) records o) ≡ NotStore
       go none = unfold validOr inspected in refl
-      go (some rs) = unfold validOr inspected guard in rw (mark-by (markIn s) rs, w) (fail (sorted 0 alone rs) rs)
+      go (some rs) = unfold validOr inspected guard in rw (mark-by (markIn s) rs, w) (fail (sorted 0 alone rs & counted (tallyOf rs) records rs) rs)
         where
           fail : (b : Bool) (rs : List Rec) → inspected n p (guard (b & false) (some (record { size = length s; mark = markIn s; recs = rs }))) ≡ NotStore
           fail true rs = unfold _&_ guard inspected in refl
           fail false rs = unfold _&_ guard inspected in refl
 
-  inspect-is : (m : ℕ) (must : Bool) → begins s ≡ true → ((rs : List Rec) → markOk (markIn s) rs ≡ not must || opened m rs)
-      → inspected n p (decode s) ≡ surveyed n p m must (split (drop markRecord s))
-  inspect-is m must e k = inspect-by e (split (drop markRecord s)) refl ∙ go (split (drop markRecord s))
+  inspect-is : (m : ℕ) (must : Bool) → begins s ≡ true → ((rs : List Rec) → markOk (markIn s) rs ≡ not must || opened m rs) → inspected n p (decode s) ≡ surveyed n p m must records
+  inspect-is m must e k = inspect-by e ∙ go (split records)
     where
       give : (b : Bool) (rs : List Rec) → inspected n p (guard b (some (record { size = length s; mark = markIn s; recs = rs }))) ≡ cond b (Found (placesOf n p rs)) NotStore
       give true rs = unfold guard inspected in refl
       give false rs = unfold guard inspected in refl
 
-      go : (o : Option (List Rec)) → inspected n p (validOr (length s) (markIn s) o) ≡ surveyed n p m must o
-      go none = unfold validOr inspected surveyed in refl
-      go (some rs) = unfold validOr surveyed in rw (k rs) (give (sorted 0 alone rs & (not must || opened m rs)) rs)
+      go : (o : Option (List Rec)) → inspected n p (validOr (length s) (markIn s) records o) ≡ surveyedOver n p m must records o
+      go none = unfold validOr inspected surveyedOver in refl
+      go (some rs) = unfold validOr surveyedOver in rw (k rs) (give ((sorted 0 alone rs & counted (tallyOf rs) records rs) & (not must || opened m rs)) rs)
 
-  pub inspect-shut : begins s ≡ true → markSeen (markIn s) ≡ Shut → inspected n p (decode s) ≡ surveyed n p 0 false (split (drop markRecord s))
+  pub inspect-shut : begins s ≡ true → markSeen (markIn s) ≡ Shut → inspected n p (decode s) ≡ surveyed n p 0 false records
   inspect-shut e w = inspect-is 0 false e (λ rs. mark-by (markIn s) rs ∙ rw w)
 
-  pub inspect-open : (k : ℕ) → begins s ≡ true → markSeen (markIn s) ≡ Open k → inspected n p (decode s) ≡ surveyed n p k true (split (drop markRecord s))
+  pub inspect-open : (k : ℕ) → begins s ≡ true → markSeen (markIn s) ≡ Open k → inspected n p (decode s) ≡ surveyed n p k true records
   inspect-open k e w = inspect-is k true e (λ rs. mark-by (markIn s) rs ∙ rw w)

@@ -13,6 +13,8 @@ pub mod Replaced
 pub mod Puts
 pub mod Written
 pub mod Splices
+pub mod Tallies
+pub mod Counts
 pub mod Marks
 pub mod Changed
 pub mod Ready

@@ -211,7 +211,7 @@ module _ (s : List ℕ) (c : Cursor) (x : Points s c) where
 
   -- the four places, each found
   pub four : (n p lo from to hi : ℕ) → Reaches s (keyOf n 0) lo → Reaches s (keyOf n p) from → Reaches s (keyOf n p + 1) to → Reaches s (keyOf (n + 1) 0) hi
-      → Stands n p s (record { used = c .used; lo = lo; from = from; to = to; hi = hi; chars = 0 })
+      → Stands n p s (record { used = c .used; lo = lo; from = from; to = to; hi = hi })
   four n p lo from to hi a b d e =
       let rs = x .store .recs in
       let at : (k here : ℕ) → Reaches s k here → markRecord + total (below k rs) ≡ here = λ k here y. let i : y .store ≡ x .store = same-store s (y .is) (x .is) in sym (rw i at (y .at)) in

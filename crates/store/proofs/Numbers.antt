@@ -21,10 +21,10 @@ unfolding le
 length-le zero n = refl
 length-le (suc k) n = ap suc (length-le k (n / 256))
 
-low : (b x : ℕ) → b < 256 → (b + 256 * x) % 256 ≡ b
+pub low : (b x : ℕ) → b < 256 → (b + 256 * x) % 256 ≡ b
 low b x h = omega arith
 
-high : (b x : ℕ) → b < 256 → (b + 256 * x) / 256 ≡ x
+pub high : (b x : ℕ) → b < 256 → (b + 256 * x) / 256 ≡ x
 high b x h = omega arith
 
 pub le-num : (s : List ℕ) → Bytes s → le (length s) (num s) ≡ s

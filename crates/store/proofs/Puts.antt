@@ -5,7 +5,7 @@ use Prim.Native.Nat.{ℕ, _+_, _-_, _/_, _%_, _<_, _≤_}
 use native.Mathlib.Omega.{arith}
 use native.Mathlib.Numerals.{add-one}
 use lib.ListN.{length, getD, take, drop, set, length-append, length-take, length-drop, take-append-drop}
-use lib.Seq.{paste, paste-suc, sets-eq, take-at, drop-drop, drop-append-add, length-take-le}
+use lib.Seq.{paste, paste-suc, sets-eq, take-at, drop-at, drop-drop, drop-append-add, length-take-le}
 use Rattle.store.specs.Num.{le, wordEnd}
 use Rattle.store.specs.Change.{withBytes}
 
@@ -48,3 +48,10 @@ copy-end d s b at i e x y = let q : i ≡ length b = omega arith in (rw q at e) 
 pub put-nil : (s : List ℕ) (at : ℕ) → withBytes s at [] ≡ s
 unfolding withBytes
 put-nil s at = let e : at + 0 ≡ at = omega arith in rw e (take-append-drop at s)
+
+-- bytes put in the place of as many
+pub put-mid : (A B C D : List ℕ) (at : ℕ) → length A ≡ at → length D ≡ length B → withBytes (A ++ (B ++ C)) at D ≡ A ++ (D ++ C)
+unfolding withBytes
+put-mid A B C D at a e =
+    let l : length (A ++ B) ≡ at + length D = omega (arith, length-append A B) in
+    rw (take-at A (B ++ C) at a, ← (append-assoc A B C), drop-at (A ++ B) C (at + length D) l)

@@ -1,5 +1,5 @@
 -- What an inspection that finds a store tells. Assumes nothing.
-use mathlib.Core.Path.{_≡_, refl, sym, ap, _∙_, subst}
+use mathlib.Core.Path.{_≡_, refl, sym, ap, _∙_}
 use mathlib.Core.List.{List, _++_}
 use mathlib.Core.Bool.{Bool, true, false, cond}
 use mathlib.Core.Option.{Option, none, some}
@@ -11,17 +11,16 @@ use lib.Dec.{ltb}
 use borrow.Author.Tests.{ltb-true, ltb-false}
 use Rattle.store.specs.Layout.{keyOf, markRecord}
 use Rattle.store.specs.Num.{Bytes}
-use Rattle.store.specs.Model.{Rec, font, Store, alone, sorted, bytesOf, run, markBytes, encode, decode, total}
+use Rattle.store.specs.Model.{Rec, font, Store, alone, sorted, tallyOf, bytesOf, run, markBytes, encode, decode, total}
 use Rattle.store.specs.Order.{below, from, find}
-use Rattle.store.specs.Calls.{charactersOf}
-use Rattle.store.specs.Walk.{placesWith, placesOf, inspected, Stands}
+use Rattle.store.specs.Walk.{placesOf, inspected, Stands}
 use Rattle.store.specs.declared.walk.Places.{Places}
 use Rattle.store.specs.declared.walk.Lookup.the-variants.{At, Missing}
 use Rattle.store.specs.declared.walk.Inspected.the-variants.{Found as FoundAt, NotStore}
 use Rattle.store.proofs.RecordBytes.{size-pos}
 use Rattle.store.proofs.Codec.{Valid, encode-decode, length-encode, encode-parts, spare, mark-length}
 use Rattle.store.proofs.Order.{split-at}
-use Rattle.store.proofs.Totals.{total-at, length-run, length-keep, run-append}
+use Rattle.store.proofs.Totals.{total-at, length-keep, run-append}
 use Rattle.store.proofs.Lookup.{found, missing, gap, below-mono, font-at}
 
 pub record Ready (n p : ℕ) (s : List ℕ) (w : Places) : Type 0 where
@@ -29,7 +28,7 @@ pub record Ready (n p : ℕ) (s : List ℕ) (w : Places) : Type 0 where
   pub is : decode s ≡ some store
   pub bytes : s ≡ encode store
   pub valid : Valid store
-  pub at : w ≡ placesWith n p (w .chars) (store .recs)
+  pub at : w ≡ placesOf n p (store .recs)
   pub size : length s ≡ store .size
   pub least : markRecord ≤ w .lo
   pub span : w .lo ≤ w .hi
@@ -37,10 +36,6 @@ pub record Ready (n p : ℕ) (s : List ℕ) (w : Places) : Type 0 where
   pub one : w .from ≤ w .to
   pub last : w .to ≤ w .used
   pub room : w .used ≤ length s
-
--- places with the characters counted are places
-pub uncounted : (n p : ℕ) (rs : List Rec) (w : Places) → placesOf n p rs ≡ w → placesWith n p (w .chars) rs ≡ w
-uncounted n p rs w e = subst (λ (x : Places). placesWith n p (x .chars) rs ≡ x) e refl
 
 module _ (n p : ℕ) (s : List ℕ) where
   pub not-store : inspected n p (decode s) ≡ NotStore → decode s ≡ none
@@ -51,8 +46,8 @@ module _ (n p : ℕ) (s : List ℕ) where
       go none q e' = q
       go (some st) q e' = let z : _≡_ {A = ℕ} 0 1 = cc in absurd (omega arith)
 
-  ready-of : Bytes s → (k : ℕ) (w : Places) (st : Store) → decode s ≡ some st → placesWith n p k (st .recs) ≡ w → Ready n p s w
-  ready-of B k w st q i =
+  ready-of : Bytes s → (w : Places) (st : Store) → decode s ≡ some st → placesOf n p (st .recs) ≡ w → Ready n p s w
+  ready-of B w st q i =
       let v = encode-decode s st B q in
       let l : length s ≡ st .size = ap length (v .0) ∙ length-encode st (v .1) in
       let o = v .1 .order in
@@ -61,7 +56,7 @@ module _ (n p : ℕ) (s : List ℕ) where
       let m2 = below-mono (keyOf n p) (keyOf n p + 1) 0 alone rs o (omega arith) in
       let t1 = total-at (keyOf (n + 1) 0) 0 alone rs o in
       let t2 = total-at (keyOf n p + 1) 0 alone rs o in
-      let r : markRecord + total rs ≤ length s = omega (arith, v .1 .room, length-run 0 alone rs o) in
+      let r : markRecord + total rs ≤ length s = omega (arith, v .1 .room) in
       rw (← i)
       (record {
         store = st;
@@ -80,7 +75,7 @@ module _ (n p : ℕ) (s : List ℕ) where
 
   -- of a store that stands
   pub standing : Bytes s → (w : Places) → Stands n p s w → Ready n p s w
-  standing B w x = ready-of B (w .chars) w (x .store) (x .is) (x .at)
+  standing B w x = ready-of B w (x .store) (x .is) (x .at)
 
   pub ready : Bytes s → (w : Places) → inspected n p (decode s) ≡ FoundAt w → Ready n p s w
   unfolding inspected
@@ -88,12 +83,7 @@ module _ (n p : ℕ) (s : List ℕ) where
     where
       go : (o : Option Store) → decode s ≡ o → inspected n p o ≡ FoundAt w → Ready n p s w
       go none q e' = let z : _≡_ {A = ℕ} 0 1 = cc in absurd (omega arith)
-      go (some st) q e' = ready-of B (length (charactersOf n (st .recs))) w st q (cc)
-
-  -- with the characters counted
-  pub found-places : (w : Places) (r : Ready n p s w) → inspected n p (decode s) ≡ FoundAt w → w ≡ placesOf n p (r .store .recs)
-  unfolding inspected
-  found-places w r e = let i : FoundAt (placesOf n p (r .store .recs)) ≡ FoundAt w = rw (r .is) at e in cc
+      go (some st) q e' = ready-of B w st q (cc)
 
 -- a buffer is one store
 pub same-store : (s : List ℕ) {a b : Store} → decode s ≡ some a → decode s ≡ some b → a ≡ b
@@ -153,14 +143,15 @@ record-missing k rs o l = go (find k rs) refl
     go (some r) q = let f = found k 0 alone r rs o q in absurd (omega (arith, f .size, size-pos r))
 
 -- the bytes from a key's place on start with the record that has the key
-pub record-bytes : (k : ℕ) (r : Rec) (st : Store) → Valid st → find k (st .recs) ≡ some r → (t : List ℕ) × (drop (markRecord + total (below k (st .recs))) (encode st) ≡ bytesOf r ++ t)
+pub record-bytes : (k : ℕ) (r : Rec) (st : Store) → Valid st → find k (st .recs) ≡ some r → (t : List ℕ) × (drop (markRecord + total (below k (st .recs))) (encode st) ≡ bytesOf (tallyOf (st .recs)) r ++ t)
 unfolding run
 record-bytes k r st v q =
     let rs = st .recs in
+    let T = tallyOf rs in
     let o = v .order in
     let f = found k 0 alone r rs o q in
     let M = markBytes (st .mark) in
     let Z : List ℕ = replicate (spare st) 0 in
-    let e : encode st ≡ (M ++ run (below k rs)) ++ (run (from k rs) ++ Z) = encode-parts st ∙ ap (λ (l : List ℕ). M ++ (l ++ Z)) (ap run (split-at k 0 alone rs o) ∙ run-append (below k rs) (from k rs)) ∙ simp mathlib.Core.List.append-assoc in
-    let l : length (M ++ run (below k rs)) ≡ markRecord + total (below k rs) = omega (arith, lib.ListN.length-append M (run (below k rs)), mark-length (st .mark), length-keep (λ x. ltb (Rattle.store.specs.Model.key x) k) 0 alone rs o) in
-    (run (from (k + 1) rs) ++ Z, rw (e, drop-at (M ++ run (below k rs)) (run (from k rs) ++ Z) (markRecord + total (below k rs)) l, f .rest) (mathlib.Core.List.append-assoc (bytesOf r) (run (from (k + 1) rs)) Z))
+    let e : encode st ≡ (M ++ run T (below k rs)) ++ (run T (from k rs) ++ Z) = encode-parts st ∙ ap (λ (l : List ℕ). M ++ (l ++ Z)) (ap (run T) (split-at k 0 alone rs o) ∙ run-append T (below k rs) (from k rs)) ∙ simp mathlib.Core.List.append-assoc in
+    let l : length (M ++ run T (below k rs)) ≡ markRecord + total (below k rs) = omega (arith, lib.ListN.length-append M (run T (below k rs)), mark-length (st .mark), length-keep T (λ x. ltb (Rattle.store.specs.Model.key x) k) 0 alone rs o) in
+    (run T (from (k + 1) rs) ++ Z, rw (e, drop-at (M ++ run T (below k rs)) (run T (from k rs) ++ Z) (markRecord + total (below k rs)) l, f .rest) (mathlib.Core.List.append-assoc (bytesOf T r) (run T (from (k + 1) rs)) Z))

@@ -9,7 +9,7 @@ use lib.ListN.{length, take, drop, length-take, length-drop, length-append}
 use lib.Seq.{take-at, drop-at, drop-drop}
 use lib.Dec.{eqb, leb}
 use borrow.Author.Tests.{eqb-true, leb-true, le-leb}
-use Rattle.store.specs.Layout.{characterKeptAt, characterKind, characterRecord, codeAt, fontKeptAt, fontKind, fontRecord, kindAt, lastCode, lastFont, numberAt}
+use Rattle.store.specs.Layout.{characterKeptAt, characterKind, characterRecord, codeAt, fontCharactersAt, fontBytesAt, fontKeptAt, fontKind, fontRecord, kindAt, lastCode, lastFont, numberAt}
 use Rattle.store.specs.Num.{num, le, field, allZero, Bytes}
 use Rattle.blocks.specs.Header.{isKeptHeader, headerBytes}
 use Rattle.blocks.specs.Character.{class, width, height, leftOffset, topOffset, readFirst, firstChecks, isKeptFirst, descriptorBytes}
@@ -21,7 +21,8 @@ use Rattle.blocks.specs.Field.{byte, signedWithin}
 use Rattle.blocks.proofs.Checks.{taken, within-low}
 use Rattle.pictures.proofs.Tests.{both as both-of}
 use Rattle.blocks.proofs.KeptFirst.{is-kept-first, is-kept-length as first-length}
-use Rattle.store.specs.Model.{Rec, font, character, fontHead, fontIn, characterHead, characterIn, bytesOf, heldOf, heldUnder, isKept, allowed, Under, guard, headRec, sizeOf}
+use Rattle.store.specs.Model.{Rec, font, character, fontHead, fontIn, characterHead, characterIn, characterBytes, bytesOf, heldOf, heldUnder, isKept, allowed, Under, guard, headRec, sizeOf, tallyBytes, tallyIn, sameTally, holdsTally}
+use Rattle.store.specs.declared.tally.Tally.{Tally}
 use Rattle.store.proofs.Numbers.{num-le, part, cut, zeros-field, both-l, both-r}
 
 -- ── guard, cond
@@ -51,42 +52,42 @@ size-pos (font n h) = omega arith
 size-pos (character n c h d) = omega arith
 
 -- ── a record's bytes
-pub font-head : (n : ℕ) → length (fontHead n) ≡ fontKeptAt
-unfolding fontHead le
-font-head n = refl
+pub font-head : (n : ℕ) (t : Tally) → length (fontHead n t) ≡ fontKeptAt
+unfolding fontHead tallyBytes le
+font-head n t = refl
 
 pub character-head : (len n c : ℕ) → length (characterHead len n c) ≡ characterKeptAt
 unfolding characterHead le
 character-head len n c = refl
 
-pub font-size : (n : ℕ) (h t : List ℕ) → length h ≡ headerBytes → length (bytesOf (font n h) ++ t) ≡ fontRecord + length t
+pub font-size : (T : ℕ → Tally) (n : ℕ) (h t : List ℕ) → length h ≡ headerBytes → length (bytesOf T (font n h) ++ t) ≡ fontRecord + length t
 unfolding bytesOf
-font-size n h t e = omega (arith, length-append (fontHead n ++ h) t, length-append (fontHead n) h, font-head n)
+font-size T n h t e = omega (arith, length-append (fontHead n (T n) ++ h) t, length-append (fontHead n (T n)) h, font-head n (T n))
 
-pub char-size : (n c : ℕ) (h d t : List ℕ) → length h ≡ descriptorBytes → length (bytesOf (character n c h d) ++ t) ≡ characterRecord + length d + length t
-unfolding bytesOf
-char-size n c h d t e =
+pub char-size : (T : ℕ → Tally) (n c : ℕ) (h d t : List ℕ) → length h ≡ descriptorBytes → length (bytesOf T (character n c h d) ++ t) ≡ characterRecord + length d + length t
+unfolding bytesOf characterBytes
+char-size T n c h d t e =
     let H = characterHead (characterRecord + length d) n c in
     omega (arith, length-append (H ++ (h ++ d)) t, length-append H (h ++ d), length-append h d, character-head (characterRecord + length d) n c)
 
 -- where the parts of a record stand
-pub font-kept-in : (n : ℕ) (h t : List ℕ) → length h ≡ headerBytes → take headerBytes (drop fontKeptAt (bytesOf (font n h) ++ t)) ≡ h
+pub font-kept-in : (T : ℕ → Tally) (n : ℕ) (h t : List ℕ) → length h ≡ headerBytes → take headerBytes (drop fontKeptAt (bytesOf T (font n h) ++ t)) ≡ h
 unfolding bytesOf
-font-kept-in n h t e = rw (append-assoc (fontHead n) h t, drop-at (fontHead n) (h ++ t) fontKeptAt (font-head n)) (take-at h t headerBytes e)
+font-kept-in T n h t e = rw (append-assoc (fontHead n (T n)) h t, drop-at (fontHead n (T n)) (h ++ t) fontKeptAt (font-head n (T n))) (take-at h t headerBytes e)
 
-module _ (n c : ℕ) (h d t : List ℕ) (e : length h ≡ descriptorBytes) where
-  character-rest : drop characterKeptAt (bytesOf (character n c h d) ++ t) ≡ h ++ (d ++ t)
-  unfolding bytesOf
+module _ (T : ℕ → Tally) (n c : ℕ) (h d t : List ℕ) (e : length h ≡ descriptorBytes) where
+  character-rest : drop characterKeptAt (bytesOf T (character n c h d) ++ t) ≡ h ++ (d ++ t)
+  unfolding bytesOf characterBytes
   character-rest =
       let H = characterHead (characterRecord + length d) n c in
       rw (append-assoc H (h ++ d) t, drop-at H ((h ++ d) ++ t) characterKeptAt (character-head (characterRecord + length d) n c)) (append-assoc h d t)
 
-  pub character-kept-in : take descriptorBytes (drop characterKeptAt (bytesOf (character n c h d) ++ t)) ≡ h
+  pub character-kept-in : take descriptorBytes (drop characterKeptAt (bytesOf T (character n c h d) ++ t)) ≡ h
   character-kept-in = rw character-rest (take-at h (d ++ t) descriptorBytes e)
 
-  pub character-data-in : take (length d) (drop characterRecord (bytesOf (character n c h d) ++ t)) ≡ d
+  pub character-data-in : take (length d) (drop characterRecord (bytesOf T (character n c h d) ++ t)) ≡ d
   character-data-in =
-      let q : drop characterRecord (bytesOf (character n c h d) ++ t) ≡ d ++ t = sym (drop-drop descriptorBytes characterKeptAt (bytesOf (character n c h d) ++ t)) ∙ ap (drop descriptorBytes) character-rest ∙ drop-at h (d ++ t) descriptorBytes e in
+      let q : drop characterRecord (bytesOf T (character n c h d) ++ t) ≡ d ++ t = sym (drop-drop descriptorBytes characterKeptAt (bytesOf T (character n c h d) ++ t)) ∙ ap (drop descriptorBytes) character-rest ∙ drop-at h (d ++ t) descriptorBytes e in
       rw q (take-at d t (length d) refl)
 
 -- what a record that may stand in a store has by itself
@@ -146,13 +147,13 @@ shaped u (character n c h d) e =
     let p = allowed-char u n c h d e in
     (first-length h (u .orientation) (p .kept), kept-small (class h) (width h) (height h) d (p .whole), p .low, p .code)
 
-pub head-encode : (r : Rec) (t : List ℕ) → Shaped r → headRec (bytesOf r ++ t) ≡ some r
-unfolding headRec bytesOf fontHead characterHead le num guard
-head-encode (font n h) t e =
+pub head-encode : (T : ℕ → Tally) (r : Rec) (t : List ℕ) → Shaped r → headRec (bytesOf T r ++ t) ≡ some r
+unfolding headRec bytesOf characterBytes fontHead tallyBytes characterHead le num guard
+head-encode T (font n h) t e =
     let p = e in
     let q : num (le 2 n) ≡ n = num-le 2 n (omega arith) in
-    simp (le-leb fontRecord (length (bytesOf (font n h) ++ t)) (omega (arith, font-size n h t (p .0))), q, take-at h t headerBytes (p .0))
-head-encode (character n c h d) t e =
+    simp (le-leb fontRecord (length (bytesOf T (font n h) ++ t)) (omega (arith, font-size T n h t (p .0))), q, take-at h t headerBytes (p .0))
+head-encode T (character n c h d) t e =
     let p = e in
     let L = characterRecord + length d in
     let q0 : num (le 4 (characterRecord + length d)) ≡ characterRecord + length d = num-le 4 L (omega arith) in
@@ -160,7 +161,7 @@ head-encode (character n c h d) t e =
     let q2 : num (le 2 c) ≡ c = num-le 2 c (omega arith) in
     let q3 : (characterRecord + length d) - characterRecord ≡ length d = omega arith in
     let q4 : leb characterRecord (characterRecord + length d) ≡ true = le-leb characterRecord L (omega arith) in
-    simp (q0, le-leb L (length (bytesOf (character n c h d) ++ t)) (omega (arith, char-size n c h d t (p .0))))
+    simp (q0, le-leb L (length (bytesOf T (character n c h d) ++ t)) (omega (arith, char-size T n c h d t (p .0))))
     (simp (q1, q2, q4, q3, append-assoc h d t, take-at h (d ++ t) descriptorBytes (p .0), drop-at h (d ++ t) descriptorBytes (p .0), take-at d t (length d) refl))
 
 -- a record at the front: its length is not 0
@@ -182,17 +183,26 @@ pub record FontHeaded (s : List ℕ) : Type 0 where
   pub len : field 4 0 s ≡ fontRecord
 
 -- the other way: what is read is what stands there
-pub font-back : (s : List ℕ) → Bytes s → FontHeaded s → bytesOf (fontIn s) ++ drop fontRecord s ≡ s
-unfolding bytesOf fontHead
-font-back s B x =
+tally-back : (s : List ℕ) → Bytes s → fontKeptAt ≤ length s → tallyBytes (tallyIn s) ++ drop fontKeptAt s ≡ drop fontCharactersAt s
+unfolding tallyBytes
+tally-back s B l = simp (append-assoc, cut 4 fontBytesAt s B (omega arith), cut 2 fontCharactersAt s B (omega arith))
+
+head-back : (s : List ℕ) → Bytes s → FontHeaded s → fontHead (field 2 numberAt s) (tallyIn s) ++ drop fontKeptAt s ≡ s
+unfolding fontHead
+head-back s B x =
     let k0 : le 4 fontRecord ++ drop kindAt s ≡ s = subst (λ (y : ℕ). le 4 y ++ drop kindAt s ≡ s) (x .len) (cut 4 0 s B (omega arith)) in
     let k4 : le 2 fontKind ++ drop numberAt s ≡ drop kindAt s = subst (λ (y : ℕ). le 2 y ++ drop numberAt s ≡ drop kindAt s) (x .kind) (cut 2 kindAt s B (omega arith)) in
-    simp (append-assoc, part headerBytes fontKeptAt s, cut 2 numberAt s B (omega arith), k4, k0)
+    simp (append-assoc, tally-back s B (omega arith), cut 2 numberAt s B (omega arith), k4, k0)
 
-pub char-back : (s : List ℕ) → Bytes s → field 2 kindAt s ≡ characterKind → characterRecord ≤ field 4 0 s → field 4 0 s ≤ length s
-    → bytesOf (characterIn s) ++ drop (sizeOf (characterIn s)) s ≡ s
-unfolding bytesOf characterHead sizeOf
-char-back s B e4 h26 h =
+pub font-back : (T : ℕ → Tally) (s : List ℕ) → Bytes s → FontHeaded s → T (field 2 numberAt s) ≡ tallyIn s → bytesOf T (fontIn s) ++ drop fontRecord s ≡ s
+unfolding bytesOf
+font-back T s B x e =
+    rw e (append-assoc (fontHead (field 2 numberAt s) (tallyIn s)) (take headerBytes (drop fontKeptAt s)) (drop fontRecord s) ∙ ap (λ (l : List ℕ). fontHead (field 2 numberAt s) (tallyIn s) ++ l) (part headerBytes fontKeptAt s) ∙ head-back s B x)
+
+pub char-back : (T : ℕ → Tally) (s : List ℕ) → Bytes s → field 2 kindAt s ≡ characterKind → characterRecord ≤ field 4 0 s → field 4 0 s ≤ length s
+    → bytesOf T (characterIn s) ++ drop (sizeOf (characterIn s)) s ≡ s
+unfolding bytesOf characterBytes characterHead sizeOf
+char-back T s B e4 h26 h =
     let l : length (take (field 4 0 s - characterRecord) (drop characterRecord s)) ≡ field 4 0 s - characterRecord = simp (length-take, length-drop) (omega arith) in
     let m : characterRecord + (field 4 0 s - characterRecord) ≡ field 4 0 s = omega arith in
     let k4 : le 2 characterKind ++ drop numberAt s ≡ drop kindAt s = subst (λ (x : ℕ). le 2 x ++ drop numberAt s ≡ drop kindAt s) e4 (cut 2 kindAt s B (omega arith)) in
@@ -228,10 +238,17 @@ head-inv s r e = kind (eqb (field 2 kindAt s) fontKind) refl
     kind true q = isFont (eqb-true _ _ q) (rw q at (guard-is _ _ r e))
     kind false q = isChar (rw q at (guard-is _ _ r e))
 
-headed-fits : (s : List ℕ) (r : Rec) → Bytes s → Headed s r → (bytesOf r ++ drop (sizeOf r) s ≡ s) × (sizeOf r ≤ length s)
-unfolding sizeOf
-headed-fits s r B (is-font x) = (font-back s B x, omega arith)
-headed-fits s r B (is-character f k l) = (char-back s B k l f, simp (length-take, length-drop) (omega arith))
+-- numbers that are the same
+pub same-tally : (t u : Tally) → sameTally t u ≡ true → t ≡ u
+same-tally t u e =
+    let a : t .characters ≡ u .characters = eqb-true _ _ (both-l _ _ e) in
+    let b : t .bytes ≡ u .bytes = eqb-true _ _ (both-r _ _ e) in
+    rw (a, b)
 
-pub head-fits : (s : List ℕ) (r : Rec) → Bytes s → headRec s ≡ some r → (bytesOf r ++ drop (sizeOf r) s ≡ s) × (sizeOf r ≤ length s)
-head-fits s r B e = headed-fits s r B (head-inv s r e)
+headed-fits : (T : ℕ → Tally) (s : List ℕ) (r : Rec) → Bytes s → Headed s r → holdsTally T s r ≡ true → (bytesOf T r ++ drop (sizeOf r) s ≡ s) × (sizeOf r ≤ length s)
+unfolding sizeOf holdsTally
+headed-fits T s r B (is-font x) e = (font-back T s B x (sym (same-tally _ _ e)), omega arith)
+headed-fits T s r B (is-character f k l) e = (char-back T s B k l f, simp (length-take, length-drop) (omega arith))
+
+pub head-fits : (T : ℕ → Tally) (s : List ℕ) (r : Rec) → Bytes s → headRec s ≡ some r → holdsTally T s r ≡ true → (bytesOf T r ++ drop (sizeOf r) s ≡ s) × (sizeOf r ≤ length s)
+head-fits T s r B e q = headed-fits T s r B (head-inv s r e) q

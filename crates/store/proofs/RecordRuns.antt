@@ -9,10 +9,10 @@ use lib.ListN.{length, take, drop, length-take, length-drop}
 use lib.Seq.{drop-drop}
 use Rattle.store.specs.Layout.{kindAt, numberAt, markRecord, leastStore, fontKind, fontRecord, fontKeptAt, characterRecord, characterKeptAt, codeAt}
 use Rattle.store.specs.Num.{field, allZero}
-use Rattle.store.specs.Model.{Rec, fontIn, characterIn, Store, under, alone, allowed, sorted, key, headRec, sizeOf, andThen, split, markIn, decode, validOr}
+use Rattle.store.specs.Model.{Rec, fontIn, characterIn, Store, under, alone, allowed, sorted, key, headRec, sizeOf, andThen, split, tallyOf, counted, markIn, decode, validOr}
 use Rattle.store.specs.Records.{isStore, recordsIn, recordsAt, Place, Begun, MetAt, fontFrom, FontMet, characterFrom, CharacterMet}
 use Rattle.store.specs.declared.records.Begin.the-variants.{At}
-use Rattle.store.proofs.Numbers.{zeros-field, both-l}
+use Rattle.store.proofs.Numbers.{zeros-field, both-l, both-r}
 use Rattle.store.proofs.Fields.{field-drop}
 use Rattle.store.proofs.RecordBytes.{zero-head, Headed, is-font, is-character, head-inv, guard-test, guard-is, allowed-char, allowed-font, kept-width}
 use Rattle.store.proofs.Codec.{sorted-inv, split-eq, consTo-some, storeOf, begins-parts}
@@ -160,16 +160,18 @@ module _ (s : List ℕ) (at : ℕ) (p : Place s at) where
 
 -- ── the beginning
 -- the parts of a decoded store
-pub decoded : (s : List ℕ) (st : Store) → decode s ≡ some st → (leastStore ≤ length s) × (split (drop markRecord s) ≡ some (st .recs)) × (sorted 0 alone (st .recs) ≡ true)
+pub decoded : (s : List ℕ) (st : Store) → decode s ≡ some st
+    → (leastStore ≤ length s) × (split (drop markRecord s) ≡ some (st .recs)) × (sorted 0 alone (st .recs) ≡ true) × (counted (tallyOf (st .recs)) (drop markRecord s) (st .recs) ≡ true)
 unfolding decode validOr
 decoded s st e = go (split (drop markRecord s)) refl (guard-is _ _ st e)
   where
-    go : (o : Option (List Rec)) → split (drop markRecord s) ≡ o → validOr (length s) (markIn s) o ≡ some st → (leastStore ≤ length s) × (split (drop markRecord s) ≡ some (st .recs)) × (sorted 0 alone (st .recs) ≡ true)
+    go : (o : Option (List Rec)) → split (drop markRecord s) ≡ o → validOr (length s) (markIn s) (drop markRecord s) o ≡ some st
+        → (leastStore ≤ length s) × (split (drop markRecord s) ≡ some (st .recs)) × (sorted 0 alone (st .recs) ≡ true) × (counted (tallyOf (st .recs)) (drop markRecord s) (st .recs) ≡ true)
     go none q e' = let z : _≡_ {A = ℕ} 0 1 = cc in absurd (omega arith)
     go (some rs) q e' =
         let i : storeOf s rs ≡ st = cc (guard-is _ _ st e') in
         let j : rs ≡ st .recs = ap (λ (x : Store). x .recs) i in
-        (begins-parts s (guard-test _ _ st e) .0, rw (← j) q, rw (← j) (both-l _ _ (guard-test _ _ st e')))
+        (begins-parts s (guard-test _ _ st e) .0, rw (← j) q, rw (← j) (both-l _ _ (both-l _ _ (guard-test _ _ st e'))), rw (← j) (both-r _ _ (both-l _ _ (guard-test _ _ st e'))))
 
 pub begun : (s : List ℕ) (st : Store) → decode s ≡ some st → Begun s (At markRecord)
 unfolding isStore recordsIn recordsAt

@@ -1,4 +1,4 @@
--- One law for every change of the record run: the records between two keys give way to new ones. Assumes nothing.
+-- One law for every change of the record run: the records between two keys give way to new bytes. Assumes nothing.
 use mathlib.Core.Path.{_≡_, refl, sym, ap, _∙_}
 use mathlib.Core.List.{List, [], _++_, append-assoc, append-nil}
 use Prim.Native.Nat.{ℕ, zero, suc, _+_, _-_, _≤_}
@@ -9,12 +9,14 @@ use lib.ListN.{length, take, drop, replicate, length-append, length-replicate, r
 use lib.Seq.{paste, take-at, drop-at, drop-drop, take-take, drop-append-add, take-append-le, length-take-le}
 use Rattle.store.specs.Layout.{markRecord}
 use Rattle.store.specs.Model.{Rec, alone, sorted, key, run, total}
-use Rattle.store.specs.Order.{below, from, replaced}
+use Rattle.store.specs.Order.{below, from}
 use Rattle.store.specs.Change.{splicedAt, withBytes}
 use Rattle.store.proofs.Puts.{put-paste}
 use Rattle.store.proofs.Order.{split-at}
 use Rattle.store.proofs.Lookup.{below-mono}
-use Rattle.store.proofs.Totals.{run-append, length-run, length-keep}
+use Rattle.store.proofs.Codec.{length-run}
+use Rattle.store.proofs.Totals.{run-append, length-keep}
+use Rattle.store.specs.declared.tally.Tally.{Tally}
 
 -- ── the law of splice: at a place where S falls apart
 module _ (S A R A2 C Z : List ℕ) (at old used new : ℕ) (a : S ≡ A ++ R) (la : length A ≡ at) (b : S ≡ A2 ++ (C ++ Z)) (lb : length A2 ≡ at + old) (lc : at + old + length C ≡ used) where
@@ -43,39 +45,38 @@ drop-replicate zero n a = let e : n ≡ n - 0 = omega arith in ap (λ (m : ℕ).
 drop-replicate (suc k) zero a = let e : 0 ≡ 0 - suc k = omega arith in ap (λ (m : ℕ). replicate m a) e
 drop-replicate (suc k) (suc n) a = let e : n - k ≡ suc n - suc k = omega arith in drop-replicate k n a ∙ ap (λ (m : ℕ). replicate m a) e
 
-module _ (lo hi z : ℕ) (M : List ℕ) (new rs : List Rec) (e : sorted 0 alone rs ≡ true) (m : lo ≤ hi) (lm : length M ≡ markRecord) (b : ℕ) (lb : length (run new) ≡ b) where
+module _ (T : ℕ → Tally) (lo hi z : ℕ) (M blk : List ℕ) (rs : List Rec) (e : sorted 0 alone rs ≡ true) (m : lo ≤ hi) (lm : length M ≡ markRecord) (b : ℕ) (lb : length blk ≡ b) where
   pub replace-bytes : b ≤ markRecord + total (below hi rs) - (markRecord + total (below lo rs)) + z
-      → withBytes (splicedAt (markRecord + total (below lo rs)) (markRecord + total (below hi rs) - (markRecord + total (below lo rs))) (markRecord + total rs) b (M ++ (run rs ++ replicate z 0))) (markRecord + total (below lo rs)) (run new)
-      ≡ M ++ (run (replaced lo hi new rs) ++ replicate (markRecord + total (below hi rs) - (markRecord + total (below lo rs)) + z - b) 0)
+      → withBytes (splicedAt (markRecord + total (below lo rs)) (markRecord + total (below hi rs) - (markRecord + total (below lo rs))) (markRecord + total rs) b (M ++ (run T rs ++ replicate z 0))) (markRecord + total (below lo rs)) blk
+      ≡ M ++ ((run T (below lo rs) ++ (blk ++ run T (from hi rs))) ++ replicate (markRecord + total (below hi rs) - (markRecord + total (below lo rs)) + z - b) 0)
   replace-bytes room =
       let L = below lo rs in
       let H = below hi rs in
       let U = from lo rs in
       let W = from hi rs in
       let Z : List ℕ = replicate z 0 in
-      let S = M ++ (run rs ++ Z) in
+      let S = M ++ (run T rs ++ Z) in
       let at = markRecord + total L in
       let old = markRecord + total H - (markRecord + total L) in
       let used = markRecord + total rs in
       let mono = below-mono lo hi 0 alone rs e m in
-      let ll : length (run L) ≡ total L = length-keep (λ r. ltb (key r) lo) 0 alone rs e in
-      let lh : length (run H) ≡ total H = length-keep (λ r. ltb (key r) hi) 0 alone rs e in
-      let rl : run rs ≡ run L ++ run U = ap run (split-at lo 0 alone rs e) ∙ run-append L U in
-      let rh : run rs ≡ run H ++ run W = ap run (split-at hi 0 alone rs e) ∙ run-append H W in
-      let lr = length-run 0 alone rs e in
+      let ll : length (run T L) ≡ total L = length-keep T (λ r. ltb (key r) lo) 0 alone rs e in
+      let lh : length (run T H) ≡ total H = length-keep T (λ r. ltb (key r) hi) 0 alone rs e in
+      let rl : run T rs ≡ run T L ++ run T U = ap (run T) (split-at lo 0 alone rs e) ∙ run-append T L U in
+      let rh : run T rs ≡ run T H ++ run T W = ap (run T) (split-at hi 0 alone rs e) ∙ run-append T H W in
+      let lr = length-run T 0 alone rs e in
       let lz : length Z ≡ z = length-replicate z 0 in
-      let e1 : S ≡ (M ++ run L) ++ (run U ++ Z) = ap (λ (l : List ℕ). M ++ (l ++ Z)) rl ∙ simp append-assoc in
-      let e2 : S ≡ (M ++ run H) ++ (run W ++ Z) = ap (λ (l : List ℕ). M ++ (l ++ Z)) rh ∙ simp append-assoc in
-      let l1 : length (M ++ run L) ≡ at = omega (arith, length-append M (run L)) in
-      let l2 : length (M ++ run H) ≡ at + old = omega (arith, length-append M (run H)) in
-      let l3 : at + old + length (run W) ≡ used = omega (arith, ap length rh, length-append (run H) (run W)) in
-      let ls : length S ≡ used + z = omega (arith, length-append M (run rs ++ Z), length-append (run rs) Z) in
-      let s : paste (splicedAt at old used b S) at (run new) b ≡ (M ++ run L) ++ (run new ++ (run W ++ (replicate (old - b) 0 ++ drop (b - old) Z))) =
-      spliced S (M ++ run L) (run U ++ Z) (M ++ run H) (run W) Z at old used b e1 l1 e2 l2 l3 (run new) lb (omega arith) in
-      let p : withBytes (splicedAt at old used b S) at (run new) ≡ paste (splicedAt at old used b S) at (run new) b =
-      sym (put-paste (splicedAt at old used b S) at (run new)) ∙ ap (λ (k : ℕ). paste (splicedAt at old used b S) at (run new) k) lb in
+      let e1 : S ≡ (M ++ run T L) ++ (run T U ++ Z) = ap (λ (l : List ℕ). M ++ (l ++ Z)) rl ∙ simp append-assoc in
+      let e2 : S ≡ (M ++ run T H) ++ (run T W ++ Z) = ap (λ (l : List ℕ). M ++ (l ++ Z)) rh ∙ simp append-assoc in
+      let l1 : length (M ++ run T L) ≡ at = omega (arith, length-append M (run T L)) in
+      let l2 : length (M ++ run T H) ≡ at + old = omega (arith, length-append M (run T H)) in
+      let l3 : at + old + length (run T W) ≡ used = omega (arith, ap length rh, length-append (run T H) (run T W)) in
+      let ls : length S ≡ used + z = omega (arith, length-append M (run T rs ++ Z), length-append (run T rs) Z) in
+      let s : paste (splicedAt at old used b S) at (blk) b ≡ (M ++ run T L) ++ (blk ++ (run T W ++ (replicate (old - b) 0 ++ drop (b - old) Z))) =
+      spliced S (M ++ run T L) (run T U ++ Z) (M ++ run T H) (run T W) Z at old used b e1 l1 e2 l2 l3 (blk) lb (omega arith) in
+      let p : withBytes (splicedAt at old used b S) at (blk) ≡ paste (splicedAt at old used b S) at (blk) b =
+      sym (put-paste (splicedAt at old used b S) at (blk)) ∙ ap (λ (k : ℕ). paste (splicedAt at old used b S) at (blk) k) lb in
       let zs : (old - b) + (z - (b - old)) ≡ old + z - b = omega arith in
       let zz : replicate (old - b) 0 ++ drop (b - old) Z ≡ replicate (old + z - b) 0 =
       ap (λ (l : List ℕ). replicate (old - b) 0 ++ l) (drop-replicate (b - old) z 0) ∙ replicate-append-replicate {A = ℕ} (old - b) (z - (b - old)) 0 ∙ ap (λ (k : ℕ). replicate k 0) zs in
-      let rr : run (replaced lo hi new rs) ≡ run L ++ (run new ++ run W) = run-append L (new ++ W) ∙ ap (λ (l : List ℕ). run L ++ l) (run-append new W) in
-      p ∙ s ∙ rw (zz, rr) (simp append-assoc)
+      p ∙ s ∙ rw zz (simp append-assoc)

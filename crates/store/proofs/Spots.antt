@@ -1,7 +1,6 @@
 -- The bytes of a kept font and of a kept character at their places. Assumes nothing.
 use mathlib.Core.Path.{_≡_, sym, ap, _∙_}
-use mathlib.Core.List.{List, [], _∷_, _++_}
-use mathlib.Core.Bool.{Bool, true, false, cond}
+use mathlib.Core.List.{List, _++_}
 use Prim.Native.Nat.{ℕ, _+_, _-_, _≤_}
 use native.Mathlib.Omega.{arith}
 use lib.ListN.{length, take, drop}
@@ -9,32 +8,21 @@ use lib.Seq.{drop-drop}
 use Rattle.blocks.specs.Header.{headerBytes}
 use Rattle.blocks.specs.Character.{descriptorBytes}
 use Rattle.pictures.specs.Size.{dataLimit}
-use Rattle.store.specs.Layout.{keyOf, characterKeptAt, characterRecord, fontKeptAt, fontRecord, lastCode, lastFont, markRecord, mostStore}
-use Rattle.store.specs.Model.{Rec, font, character, alone, bytesOf, sizeOf, total}
-use Rattle.store.specs.Order.{keep, below, after}
+use Rattle.store.specs.Layout.{keyOf, characterKeptAt, characterRecord, fontCharactersAt, fontKeptAt, fontRecord, lastCode, lastFont, markRecord}
+use Rattle.store.specs.Model.{font, character, alone, tallyOf, tallyIn, bytesOf, sizeOf, total}
+use Rattle.store.specs.Num.{field}
+use Rattle.store.specs.Order.{below, after}
 use Rattle.store.specs.Change.{withBytes}
 use Rattle.store.specs.Calls.{charactersOf, onto}
 use Rattle.store.specs.declared.walk.Places.{Places}
-use Rattle.store.proofs.RecordBytes.{size-pos, shaped, font-kept-in, character-kept-in, character-data-in}
+use Rattle.store.specs.declared.tally.Tally.{Tally}
+use Rattle.store.proofs.Fields.{field-drop}
+use Rattle.store.proofs.Codec.{font-tally, tally-fits}
+use Rattle.store.proofs.Tallies.{tally-count}
+use Rattle.store.proofs.RecordBytes.{shaped, font-kept-in, character-kept-in, character-data-in}
 use Rattle.store.proofs.Lookup.{Found, found, below-mono}
-use Rattle.store.proofs.Ready.{Ready, record-bytes}
+use Rattle.store.proofs.Ready.{record-bytes}
 use Rattle.store.proofs.Seeks.{KeptFont, KeptChar}
-
--- ── counting
-count-keep : (t : Rec → Bool) (rs : List Rec) → length (keep t rs) ≤ total rs
-unfolding keep total
-count-keep t [] = omega arith
-count-keep t (r ∷ rs) = go (t r) (count-keep t rs)
-  where
-    go : (b : Bool) → length (keep t rs) ≤ total rs → length (cond b (r ∷ keep t rs) (keep t rs)) ≤ sizeOf r + total rs
-    go true ih = omega (arith, size-pos r)
-    go false ih = omega arith
-
-pub chars-few : (n p : ℕ) (s : List ℕ) (w : Places) (r : Ready n p s w) → w .chars ≡ length (charactersOf n (r .store .recs)) → w .chars ≤ mostStore
-unfolding charactersOf
-chars-few n p s w r e =
-    let few : length (charactersOf n (r .store .recs)) ≤ total (r .store .recs) = count-keep _ (r .store .recs) in
-    omega (arith, e, ap (λ (x : Places). x .used) (r .at), few, r .room, r .size, r .valid .small)
 
 -- ── a font
 module _ (n p : ℕ) (s : List ℕ) (w : Places) (x : KeptFont n p s w) where
@@ -55,8 +43,19 @@ module _ (n p : ℕ) (s : List ℕ) (w : Places) (x : KeptFont n p s w) where
       let r = x .ready in
       let b = record-bytes (keyOf n 0) (font n (x .header)) (r .store) (r .valid) (x .there) in
       let lo : w .lo ≡ markRecord + total (below (keyOf n 0) (r .store .recs)) = ap (λ (y : Places). y .lo) (r .at) in
-      let e : drop (w .lo) s ≡ bytesOf (font n (x .header)) ++ b .0 = rw (lo, r .bytes) (b .1) in
-      ap (take headerBytes) (sym (drop-drop fontKeptAt (w .lo) s) ∙ ap (drop fontKeptAt) e) ∙ font-kept-in n (x .header) (b .0) (font-shape .0)
+      let e : drop (w .lo) s ≡ bytesOf (tallyOf (r .store .recs)) (font n (x .header)) ++ b .0 = rw (lo, r .bytes) (b .1) in
+      ap (take headerBytes) (sym (drop-drop fontKeptAt (w .lo) s) ∙ ap (drop fontKeptAt) e) ∙ font-kept-in (tallyOf (r .store .recs)) n (x .header) (b .0) (font-shape .0)
+
+  -- the number that is held is that of the font's characters
+  pub font-held : field 2 (w .lo + fontCharactersAt) s ≡ length (charactersOf n (x .ready .store .recs))
+  font-held =
+      let r = x .ready in
+      let T = tallyOf (r .store .recs) in
+      let b = record-bytes (keyOf n 0) (font n (x .header)) (r .store) (r .valid) (x .there) in
+      let lo : w .lo ≡ markRecord + total (below (keyOf n 0) (r .store .recs)) = ap (λ (y : Places). y .lo) (r .at) in
+      let e : drop (w .lo) s ≡ bytesOf T (font n (x .header)) ++ b .0 = rw (lo, r .bytes) (b .1) in
+      let f : tallyIn (drop (w .lo) s) ≡ T n = ap tallyIn e ∙ font-tally T n (x .header) (b .0) (tally-fits (r .store .recs) (omega (arith, r .valid .room, r .valid .small))) in
+      sym (field-drop 2 fontCharactersAt (w .lo) s) ∙ ap (λ (t : Tally). t .characters) f ∙ tally-count (r .store .recs) n
 
   pub header-length : length (x .header) ≡ headerBytes
   header-length = font-shape .0
@@ -73,19 +72,19 @@ module _ (n c : ℕ) (s : List ℕ) (w : Places) (x : KeptChar n c s w) where
   unfolding sizeOf
   char-span = let r = x .ready in omega (arith, ap (λ (y : Places). y .from) (r .at), ap (λ (y : Places). y .to) (r .at), char-found .size)
 
-  char-drop : (k : ℕ) → (t : List ℕ) × (drop (w .from + k) s ≡ drop k (bytesOf (character n c (x .kept) (x .bytes)) ++ t))
+  char-drop : (k : ℕ) → (t : List ℕ) × (drop (w .from + k) s ≡ drop k (bytesOf (tallyOf (x .ready .store .recs)) (character n c (x .kept) (x .bytes)) ++ t))
   char-drop k =
       let r = x .ready in
       let b = record-bytes (keyOf n (c + 1)) (character n c (x .kept) (x .bytes)) (r .store) (r .valid) (x .there) in
       let fr : w .from ≡ markRecord + total (below (keyOf n (c + 1)) (r .store .recs)) = ap (λ (y : Places). y .from) (r .at) in
-      let e : drop (w .from) s ≡ bytesOf (character n c (x .kept) (x .bytes)) ++ b .0 = rw (fr, r .bytes) (b .1) in
+      let e : drop (w .from) s ≡ bytesOf (tallyOf (x .ready .store .recs)) (character n c (x .kept) (x .bytes)) ++ b .0 = rw (fr, r .bytes) (b .1) in
       (b .0, sym (drop-drop k (w .from) s) ∙ ap (drop k) e)
 
   pub char-kept : take descriptorBytes (drop (w .from + characterKeptAt) s) ≡ x .kept
-  char-kept = let d = char-drop characterKeptAt in ap (take descriptorBytes) (d .1) ∙ character-kept-in n c (x .kept) (x .bytes) (d .0) (char-shape .0)
+  char-kept = let d = char-drop characterKeptAt in ap (take descriptorBytes) (d .1) ∙ character-kept-in (tallyOf (x .ready .store .recs)) n c (x .kept) (x .bytes) (d .0) (char-shape .0)
 
   pub char-bytes : take (length (x .bytes)) (drop (w .from + characterRecord) s) ≡ x .bytes
-  char-bytes = let d = char-drop characterRecord in ap (take (length (x .bytes))) (d .1) ∙ character-data-in n c (x .kept) (x .bytes) (d .0) (char-shape .0)
+  char-bytes = let d = char-drop characterRecord in ap (take (length (x .bytes))) (d .1) ∙ character-data-in (tallyOf (x .ready .store .recs)) n c (x .kept) (x .bytes) (d .0) (char-shape .0)
 
 -- ── telling
 -- bytes copied to the front of an output

@@ -10,32 +10,26 @@ use Rattle.store.specs.Order.{keep, below, from}
 use Rattle.store.proofs.RecordBytes.{shaped}
 use Rattle.store.proofs.Codec.{sorted-inv, size-bytes}
 use Rattle.store.proofs.Order.{split-at}
+use Rattle.store.specs.declared.tally.Tally.{Tally}
 
-pub run-append : (a b : List Rec) → run (a ++ b) ≡ run a ++ run b
+pub run-append : (T : ℕ → Tally) (a b : List Rec) → run T (a ++ b) ≡ run T a ++ run T b
 unfolding run
-run-append [] b = refl
-run-append (r ∷ a) b = ap (λ (l : List ℕ). bytesOf r ++ l) (run-append a b) ∙ sym (append-assoc (bytesOf r) (run a) (run b))
+run-append T [] b = refl
+run-append T (r ∷ a) b = ap (λ (l : List ℕ). bytesOf T r ++ l) (run-append T a b) ∙ sym (append-assoc (bytesOf T r) (run T a) (run T b))
 
 pub total-append : (a b : List Rec) → total (a ++ b) ≡ total a + total b
 unfolding total
 total-append [] b = omega arith
 total-append (r ∷ a) b = omega (arith, total-append a b)
 
-pub length-run : (k : ℕ) (u : Under) (rs : List Rec) → sorted k u rs ≡ true → length (run rs) ≡ total rs
-unfolding run total
-length-run k u [] e = refl
-length-run k u (r ∷ rs) e =
-    let w = sorted-inv k u r rs e in
-    omega (arith, length-append (bytesOf r) (run rs), size-bytes r (shaped u r (w .ok)), length-run (key r + 1) (under u r) rs (w .rest))
-
--- the same of those that a test picks
-pub length-keep : (t : Rec → Bool) (k : ℕ) (u : Under) (rs : List Rec) → sorted k u rs ≡ true → length (run (keep t rs)) ≡ total (keep t rs)
+-- the length of those that a test picks
+pub length-keep : (T : ℕ → Tally) (t : Rec → Bool) (k : ℕ) (u : Under) (rs : List Rec) → sorted k u rs ≡ true → length (run T (keep t rs)) ≡ total (keep t rs)
 unfolding run total keep
-length-keep t k u [] e = refl
-length-keep t k u (r ∷ rs) e = go (length-keep t (key r + 1) (under u r) rs (sorted-inv k u r rs e .rest)) (t r)
+length-keep T t k u [] e = refl
+length-keep T t k u (r ∷ rs) e = go (length-keep T t (key r + 1) (under u r) rs (sorted-inv k u r rs e .rest)) (t r)
   where
-    go : length (run (keep t rs)) ≡ total (keep t rs) → (b : Bool) → length (run (cond b (r ∷ keep t rs) (keep t rs))) ≡ total (cond b (r ∷ keep t rs) (keep t rs))
-    go ih true = omega (arith, length-append (bytesOf r) (run (keep t rs)), size-bytes r (shaped u r (sorted-inv k u r rs e .ok)), ih)
+    go : length (run T (keep t rs)) ≡ total (keep t rs) → (b : Bool) → length (run T (cond b (r ∷ keep t rs) (keep t rs))) ≡ total (cond b (r ∷ keep t rs) (keep t rs))
+    go ih true = omega (arith, length-append (bytesOf T r) (run T (keep t rs)), size-bytes T r (shaped u r (sorted-inv k u r rs e .ok)), ih)
     go ih false = ih
 
 -- what is below a key and what is from it on is all

@@ -1,12 +1,14 @@
 -- For the code alone: how a buffer is changed.
-use Prim.Native.Nat.{ℕ, _+_, _-_}
+use Prim.Native.Nat.{ℕ, _+_, _-_, _≤_, _<_}
+use mathlib.Core.Path.{_≡_}
 use mathlib.Core.List.{List, _++_}
 use mathlib.Core.Bool.{cond}
 use lib.Dec.{eqb}
 use lib.ListN.{length, take, drop, replicate}
-use Rattle.store.specs.Layout.{markCodeAt, markFontAt, markOnAt}
-use Rattle.store.specs.Num.{_&_, le, field}
-use Rattle.store.specs.Model.{Mark}
+use Rattle.store.specs.Layout.{mostStore, fontCharactersAt, fontKeptAt, characterRecord, markCodeAt, markFontAt, markOnAt}
+use Rattle.store.specs.Num.{_&_, wordEnd, doubleEnd, le, field}
+use Rattle.store.specs.Model.{Mark, tallyBytes, tallyIn}
+use Rattle.store.specs.declared.tally.Tally.{Tally}
 use Rattle.store.specs.Calls.{shut}
 
 -- the old bytes at `at` given the length new: what is behind them, up to used, moves, and what that frees is 0
@@ -17,6 +19,30 @@ splicedAt at old used new s =
 -- s with the bytes b at `at`
 unfoldable pub withBytes : List ℕ → ℕ → List ℕ → List ℕ
 withBytes s at b = take at s ++ (b ++ drop (at + length b) s)
+
+-- ── W-205: "Every download, replacement, continuation and removal .. keeps both equal to a fresh count"
+-- what a character's record of len bytes adds to its font's numbers
+abbrev pub tallyBy : ℕ → Tally
+tallyBy len = record { characters = cond (eqb len 0) 0 1; bytes = len - characterRecord }
+
+-- a character's record of old bytes gives way to one of new bytes, 0 where there is none
+abbrev pub recount : ℕ → ℕ → Tally → Tally
+recount old new t = record { characters = t .characters + tallyBy new .characters - tallyBy old .characters; bytes = t .bytes + tallyBy new .bytes - tallyBy old .bytes }
+
+-- the numbers of the font whose record begins at `at`
+unfoldable pub recounted : ℕ → ℕ → ℕ → List ℕ → List ℕ
+recounted at old new s = withBytes s (at + fontCharactersAt) (tallyBytes (recount old new (tallyIn (drop at s))))
+
+-- the old character is among them, and the new one's numbers fit
+pub record Recounting (s : List ℕ) (at old new : ℕ) : Type 0 where
+  pub room : at + fontKeptAt ≤ length s
+  pub was : (old ≡ 0 → ⊥) → characterRecord ≤ old
+  pub is : (new ≡ 0 → ⊥) → characterRecord ≤ new
+  pub small : new ≤ mostStore
+  pub characters : tallyBy old .characters ≤ tallyIn (drop at s) .characters
+  pub bytes : tallyBy old .bytes ≤ tallyIn (drop at s) .bytes
+  pub few : tallyIn (drop at s) .characters + tallyBy new .characters < wordEnd
+  pub short : tallyIn (drop at s) .bytes + tallyBy new .bytes < doubleEnd
 
 -- the open mark of a buffer's first record made m
 unfoldable pub remarked : Mark → List ℕ → List ℕ

@@ -32,15 +32,22 @@ markFontAt = 8
 abbrev pub markCodeAt : ℕ
 markCodeAt = 10
 
--- "Kind 2, 72 bytes: font number, 64 kept bytes."
+-- Kind 2, 78 bytes: font number, W-205: "the number of its characters (2 bytes) and the sum of their kept data bytes (4 bytes) after the font
+-- number, making it 78 bytes", 64 kept bytes
 abbrev pub fontKind : ℕ
 fontKind = 2
 
 abbrev pub fontRecord : ℕ
-fontRecord = 72
+fontRecord = 78
+
+abbrev pub fontCharactersAt : ℕ
+fontCharactersAt = 8
+
+abbrev pub fontBytesAt : ℕ
+fontBytesAt = 10
 
 abbrev pub fontKeptAt : ℕ
-fontKeptAt = 8
+fontKeptAt = 14
 
 -- where the font's orientation stands in the record
 abbrev pub fontOrientationAt : ℕ

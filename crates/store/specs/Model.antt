@@ -11,8 +11,9 @@ use Rattle.blocks.specs.Character.{descriptorBytes, class, width, height, isKep
 use Rattle.pictures.specs.Picture.{held}
 use Rattle.pictures.specs.declared.picture.Held.{Held}
 use Rattle.pictures.specs.declared.picture.Held.the-variants.{Whole, Unfinished, Foreign}
-use Rattle.store.specs.Layout.{leastStore, mostStore, markRecord, markKind, fontRecord, fontKind, characterRecord, characterKind, lastFont, lastCode, keyOf, characterKeptAt, codeAt, fontKeptAt, kindAt, markCodeAt, markFontAt, markOnAt, numberAt}
+use Rattle.store.specs.Layout.{leastStore, mostStore, markRecord, markKind, fontRecord, fontKind, characterRecord, characterKind, lastFont, lastCode, keyOf, characterKeptAt, codeAt, fontKeptAt, fontCharactersAt, fontBytesAt, kindAt, markCodeAt, markFontAt, markOnAt, numberAt}
 use Rattle.store.specs.Num.{_&_, le, field, allZero}
+use Rattle.store.specs.declared.tally.Tally.{Tally}
 
 -- a record: a font (number, kept bytes), or a character (font number, code, kept bytes, data)
 pub data Rec : Type 0 where
@@ -30,11 +31,32 @@ pub record Store : Type 0 where
   pub mark : Mark
   pub recs : List Rec
 
+-- ── W-205: "the number of its characters .. and the sum of their kept data bytes": a fresh count of those of font n among records
+abbrev pub noCharacters : Tally
+noCharacters = record { characters = 0; bytes = 0 }
+
+-- with one character more, if the test holds, of k data bytes
+abbrev pub oneMore : Bool → ℕ → Tally → Tally
+oneMore true k t = record { characters = t .characters + 1; bytes = t .bytes + k }
+oneMore false k t = t
+
+unfoldable pub tallyOf : List Rec → ℕ → Tally
+tallyOf [] n = noCharacters
+tallyOf (font m h ∷ rs) n = tallyOf rs n
+tallyOf (character m c h d ∷ rs) n = oneMore (eqb m n) (length d) (tallyOf rs n)
+
 -- ── bytes: "low byte first: length of the whole record (4 bytes), kind (2), body"
 
--- "Kind 2, 72 bytes: font number, 64 kept bytes.": what stands before the kept bytes, and a font read at the front of s
-unfoldable pub fontHead : ℕ → List ℕ
-fontHead n = le 4 fontRecord ++ (le 2 fontKind ++ le 2 n)
+-- Kind 2: font number, the two numbers of W-205, 64 kept bytes: what stands before the kept bytes, and a font and its numbers read at the front
+-- of s
+unfoldable pub tallyBytes : Tally → List ℕ
+tallyBytes t = le 2 (t .characters) ++ le 4 (t .bytes)
+
+unfoldable pub fontHead : ℕ → Tally → List ℕ
+fontHead n t = le 4 fontRecord ++ (le 2 fontKind ++ (le 2 n ++ tallyBytes t))
+
+abbrev pub tallyIn : List ℕ → Tally
+tallyIn s = record { characters = field 2 fontCharactersAt s; bytes = field 4 fontBytesAt s }
 
 abbrev pub fontIn : List ℕ → Rec
 fontIn s = font (field 2 numberAt s) (take headerBytes (drop fontKeptAt s))
@@ -46,13 +68,17 @@ characterHead len n c = le 4 len ++ (le 2 characterKind ++ (le 2 n ++ le 2 c))
 abbrev pub characterIn : List ℕ → Rec
 characterIn s = character (field 2 numberAt s) (field 2 codeAt s) (take descriptorBytes (drop characterKeptAt s)) (take (field 4 0 s - characterRecord) (drop characterRecord s))
 
-unfoldable pub bytesOf : Rec → List ℕ
-bytesOf (font n h) = fontHead n ++ h
-bytesOf (character n c h d) = characterHead (characterRecord + length d) n c ++ (h ++ d)
+unfoldable pub characterBytes : ℕ → ℕ → List ℕ → List ℕ → List ℕ
+characterBytes n c h d = characterHead (characterRecord + length d) n c ++ (h ++ d)
 
-unfoldable pub run : List Rec → List ℕ
-run [] = []
-run (r ∷ rs) = bytesOf r ++ run rs
+-- a record, where each font has the numbers that T says
+unfoldable pub bytesOf : (ℕ → Tally) → Rec → List ℕ
+bytesOf T (font n h) = fontHead n (T n) ++ h
+bytesOf T (character n c h d) = characterBytes n c h d
+
+unfoldable pub run : (ℕ → Tally) → List Rec → List ℕ
+run T [] = []
+run T (r ∷ rs) = bytesOf T r ++ run T rs
 
 -- "Kind 1, once, first, 12 bytes: open mark 0 or 1, font number, code, two bytes each"
 unfoldable pub markBytes : Mark → List ℕ
@@ -63,7 +89,7 @@ abbrev pub withZeros : ℕ → List ℕ → List ℕ
 withZeros n l = l ++ replicate (n - length l) 0
 
 unfoldable pub encode : Store → List ℕ
-encode st = withZeros (st .size) (markBytes (st .mark) ++ run (st .recs))
+encode st = withZeros (st .size) (markBytes (st .mark) ++ run (tallyOf (st .recs)) (st .recs))
 
 -- ── what a store may hold: "numbers are in range, every kept field is as the rules above leave it, every character could have been accepted"
 
@@ -173,6 +199,18 @@ splitIn (suc k) s = cond (allZero s) (some []) (andThen (headRec s) (λ r. split
 unfoldable pub split : List ℕ → Option (List Rec)
 split s = splitIn (suc (length s)) s
 
+-- W-205, "1 also where a held count is untrue": the numbers that the font records of s hold are those that T says
+abbrev pub sameTally : Tally → Tally → Bool
+sameTally t u = eqb (t .characters) (u .characters) & eqb (t .bytes) (u .bytes)
+
+unfoldable pub holdsTally : (ℕ → Tally) → List ℕ → Rec → Bool
+holdsTally T s (font n h) = sameTally (tallyIn s) (T n)
+holdsTally T s (character n c h d) = true
+
+unfoldable pub counted : (ℕ → Tally) → List ℕ → List Rec → Bool
+counted T s [] = true
+counted T s (r ∷ rs) = holdsTally T s r & counted T (drop (sizeOf r) s) rs
+
 -- the open mark in the first record
 abbrev pub markIn : List ℕ → Mark
 markIn s = record { on = field 2 markOnAt s; fontOf = field 2 markFontAt s; codeOf = field 2 markCodeAt s }
@@ -181,10 +219,11 @@ markIn s = record { on = field 2 markOnAt s; fontOf = field 2 markFontAt s; code
 unfoldable pub begins : List ℕ → Bool
 begins s = leb leastStore (length s) & leb (length s) mostStore & eqb (field 4 0 s) markRecord & eqb (field 2 kindAt s) markKind
 
-unfoldable pub validOr : ℕ → Mark → Option (List Rec) → Option Store
-validOr n m none = none
-validOr n m (some rs) = guard (sorted 0 alone rs & markOk m rs) (some (record { size = n; mark = m; recs = rs }))
+-- the store of n bytes with the mark m and these records, which stand in s
+unfoldable pub validOr : ℕ → Mark → List ℕ → Option (List Rec) → Option Store
+validOr n m s none = none
+validOr n m s (some rs) = guard ((sorted 0 alone rs & counted (tallyOf rs) s rs) & markOk m rs) (some (record { size = n; mark = m; recs = rs }))
 
 -- the store that s is, if it is one
 unfoldable pub decode : List ℕ → Option Store
-decode s = guard (begins s) (validOr (length s) (markIn s) (split (drop markRecord s)))
+decode s = guard (begins s) (validOr (length s) (markIn s) (drop markRecord s) (split (drop markRecord s)))

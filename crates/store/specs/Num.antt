@@ -15,6 +15,10 @@ false & b = false
 abbrev pub wordEnd : ℕ
 wordEnd = 65536
 
+-- and four bytes those below this one
+abbrev pub doubleEnd : ℕ
+doubleEnd = wordEnd * wordEnd
+
 -- the number that bytes spell
 unfoldable pub num : List ℕ → ℕ
 num [] = 0

@@ -9,9 +9,10 @@ use lib.Dec.{eqb}
 use lib.ListN.{length, take, drop}
 use Rattle.blocks.specs.Header.{headerBytes, isKeptHeader}
 use Rattle.blocks.specs.Character.{descriptorBytes, width, isKeptFirst}
-use Rattle.store.specs.Layout.{mostStore, lastFont, lastCode}
-use Rattle.store.specs.Model.{Rec, font, character, Store, Under, heldOf, isKept, sorted, number, sizeOf, total, split, decode}
-use Rattle.store.specs.Order.{keep}
+use Rattle.store.specs.Layout.{mostStore, lastFont, lastCode, keyOf, markRecord}
+use Rattle.store.specs.Model.{Rec, font, character, tallyOf, tallyIn, Store, Under, heldOf, isKept, sorted, number, sizeOf, total, split, decode}
+use Rattle.store.specs.Order.{keep, below, find}
+use Rattle.store.specs.declared.tally.Tally.{Tally}
 use Rattle.store.specs.declared.records.Begin.{Begin}
 use Rattle.store.specs.declared.records.Begin.the-variants.{At, NotStore}
 use Rattle.store.specs.declared.records.Met.{Met}
@@ -58,6 +59,19 @@ pub record Place (s : List ℕ) (at : ℕ) : Type 0 where
 abbrev pub Begun : List ℕ → Begin → Type 0
 Begun s NotStore = isStore s ≡ false
 Begun s (At p) = (isStore s ≡ true) × Place s p × (recordsAt s p ≡ recordsIn s)
+
+-- ── W-205: "Every download, replacement, continuation and removal .. keeps both equal to a fresh count."
+-- the records that stand behind the first one, whatever numbers they hold
+abbrev pub recordsBehind : List ℕ → List Rec
+recordsBehind s = recordsAt s markRecord
+
+-- the numbers that the record of font n holds, in its own bytes, behind the records of lower fonts
+abbrev pub heldByFont : ℕ → List ℕ → Tally
+heldByFont n s = tallyIn (drop (markRecord + total (below (keyOf n 0) (recordsBehind s))) s)
+
+-- each font holds those of a fresh count
+abbrev pub CountsTrue : List ℕ → Type 0
+CountsTrue s = (n : ℕ) (h : List ℕ) → find (keyOf n 0) (recordsBehind s) ≡ some (font n h) → heldByFont n s ≡ tallyOf (recordsBehind s) n
 
 -- ── one after the other
 -- the record r stands at a place of the run, and the others from next on

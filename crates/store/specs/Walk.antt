@@ -2,7 +2,7 @@
 -- state it.
 use Prim.Native.Nat.{ℕ, _+_, _-_, _≤_, _<_}
 use mathlib.Core.Path.{_≡_}
-use mathlib.Core.List.{List, _++_}
+use mathlib.Core.List.{List, [], _∷_, _++_}
 use mathlib.Core.Bool.{Bool, true, false, not, cond, _&&_, _||_}
 use mathlib.Core.Option.{Option, none, some}
 use lib.ListN.{length, getD, take, drop}
@@ -11,12 +11,12 @@ use Rattle.blocks.specs.Header.{orientation}
 use Rattle.blocks.specs.Character.{class, width, height, descriptorBytes, continuationBytes}
 use Rattle.pictures.specs.Picture.{judge}
 use Rattle.pictures.specs.declared.picture.Judged.the-variants.{Complete, Incomplete}
-use Rattle.store.specs.Layout.{lastFont, lastCode, keyOf, characterKeptAt, characterRecord, fontOrientationAt, markRecord}
+use Rattle.store.specs.Layout.{lastFont, lastCode, keyOf, characterKeptAt, characterRecord, fontOrientationAt, fontRecord, markRecord}
 use Rattle.store.specs.Num.{_&_, field}
-use Rattle.store.specs.Model.{Rec, font, character, isKept, heldUnder, Mark, Store, Under, under, alone, allowed, sorted, unfinished, opened, number, place, headRec, sizeOf, total, split, decode}
+use Rattle.store.specs.Model.{Rec, font, character, isKept, heldUnder, Mark, Store, Under, under, alone, allowed, sorted, unfinished, opened, number, place, noCharacters, oneMore, tallyOf, tallyIn, sameTally, counted, headRec, sizeOf, total, split, decode}
 use Rattle.store.specs.Order.{below, find}
 use Rattle.store.specs.Answer.{onFont, onCharacter}
-use Rattle.store.specs.Calls.{charactersOf}
+use Rattle.store.specs.declared.tally.Tally.{Tally}
 use Rattle.store.specs.declared.walk.Query.{Query}
 use Rattle.store.specs.declared.walk.Item.{Item}
 use Rattle.store.specs.declared.walk.Head.{Head}
@@ -38,17 +38,22 @@ use Rattle.store.specs.declared.walk.Inspected.the-variants.{Found, NotS
 
 -- ── one record
 
+-- the numbers that a record at the front of s holds, if it is a font's
+unfoldable pub heldIn : List ℕ → Rec → Tally
+heldIn s (font n h) = tallyIn s
+heldIn s (character n c h d) = noCharacters
+
 -- the numbers of a record behind the font u
-abbrev pub itemOf : Under → Rec → Item
-itemOf u r = record { font = number r; place = place r; len = sizeOf r; orientation = under u r .orientation; unfinished = unfinished r }
+abbrev pub itemOf : Under → List ℕ → Rec → Item
+itemOf u s r = record { font = number r; place = place r; len = sizeOf r; orientation = under u r .orientation; unfinished = unfinished r; held = heldIn s r }
 
 -- the record at the front, if it may stand behind the font u
-unfoldable pub seen : Under → Option Rec → Head
-seen u none = Bad
-seen u (some r) = cond (allowed u r) (HeadRec (itemOf u r)) Bad
+unfoldable pub seen : Under → List ℕ → Option Rec → Head
+seen u s none = Bad
+seen u s (some r) = cond (allowed u r) (HeadRec (itemOf u s r)) Bad
 
 unfoldable pub headOf : Under → List ℕ → Head
-headOf u s = cond (ltb (length s) characterRecord) End (cond (eqb (field 4 0 s) 0) End (seen u (headRec s)))
+headOf u s = cond (ltb (length s) characterRecord) End (cond (eqb (field 4 0 s) 0) End (seen u s (headRec s)))
 
 -- a record's length and more stand at a place of s
 pub record Heading (s : List ℕ) (at len : ℕ) : Type 0 where
@@ -62,18 +67,29 @@ pub record Heading (s : List ℕ) (at len : ℕ) : Type 0 where
 -- where a walk begins: behind the first record
 abbrev pub walkStart : Pos
 walkStart =
-    record { at = markRecord; lo = markRecord; from = markRecord; to = markRecord; hi = markRecord; chars = 0; marked = false; key = 0; owner = 0; orientation = 0 }
+    record { at = markRecord; lo = markRecord; from = markRecord; to = markRecord; hi = markRecord; marked = false; key = 0; owner = 0; orientation = 0; held = noCharacters; met = noCharacters }
 
 abbrev pub standing : Pos → Under
 standing p = record { owner = p .owner; orientation = p .orientation }
 
 -- what is asked for of font n and its place p, where m is the key of the open character
 abbrev pub queryFor : ℕ → ℕ → ℕ → Query
-queryFor n p m = record { font = n; lo = keyOf n 0; from = keyOf n p; to = keyOf n p + 1; hi = keyOf (n + 1) 0; mark = m }
+queryFor n p m = record { lo = keyOf n 0; from = keyOf n p; to = keyOf n p + 1; hi = keyOf (n + 1) 0; mark = m }
 
 -- n, if the test holds
 unfoldable pub countIf : Bool → ℕ → ℕ
 countIf b n = cond b n 0
+
+-- the numbers that a font holds, and those of its characters met so far, behind a record
+unfoldable pub heldBehind : Pos → Item → Tally
+heldBehind p i = cond (eqb (i .place) 0) (i .held) (p .held)
+
+unfoldable pub metBehind : Pos → Item → Tally
+metBehind p i = cond (eqb (i .place) 0) noCharacters (oneMore true (i .len - characterRecord) (p .met))
+
+-- what is held is true, if this record is the next font's
+unfoldable pub settled : Pos → Item → Bool
+settled p i = not (eqb (i .place) 0) || sameTally (p .held) (p .met)
 
 -- a walk behind a record
 abbrev pub behind : Query → Pos → Item → Pos
@@ -84,16 +100,17 @@ behind q p i =
       from = p .from + countIf (ltb (keyOf (i .font) (i .place)) (q .from)) (i .len);
       to = p .to + countIf (ltb (keyOf (i .font) (i .place)) (q .to)) (i .len);
       hi = p .hi + countIf (ltb (keyOf (i .font) (i .place)) (q .hi)) (i .len);
-      chars = p .chars + countIf (eqb (i .font) (q .font) && not (eqb (i .place) 0)) 1;
       marked = p .marked || (eqb (keyOf (i .font) (i .place)) (q .mark) && i .unfinished);
       key = keyOf (i .font) (i .place) + 1;
       owner = i .font + 1;
       orientation = i .orientation;
+      held = heldBehind p i;
+      met = metBehind p i;
     }
 
--- a record's key rises
+-- a record's key rises, and the font before it held what is true
 unfoldable pub passed : Query → Pos → Item → Step
-passed q p i = cond (leb (p .key) (keyOf (i .font) (i .place))) (Go (behind q p i)) (Stop Broken)
+passed q p i = cond (leb (p .key) (keyOf (i .font) (i .place)) & settled p i) (Go (behind q p i)) (Stop Broken)
 
 -- the places of a walk that goes on from p over these records
 abbrev pub placesFrom : Query → Pos → List Rec → Places
@@ -104,17 +121,26 @@ placesFrom q p rs =
       from = p .from + total (below (q .from) rs);
       to = p .to + total (below (q .to) rs);
       hi = p .hi + total (below (q .hi) rs);
-      chars = p .chars + length (charactersOf (q .font) rs);
     }
 
--- the answer of a walk from p on over these records
-unfoldable pub walked : Query → Pos → Option (List Rec) → Walk
-walked q p none = Broken
-walked q p (some rs) = cond (sorted (p .key) (standing p) rs) (Run (placesFrom q p rs) (p .marked || opened (q .mark) rs)) Broken
+-- the numbers that fonts hold are true, where the font before these records, which stand in s, holds t and its characters so far have m
+unfoldable pub tallied : Tally → Tally → List ℕ → List Rec → Bool
+tallied t m s [] = sameTally t m
+tallied t m s (font n h ∷ rs) = sameTally t m & tallied (tallyIn s) noCharacters (drop fontRecord s) rs
+tallied t m s (character n c h d ∷ rs) = tallied t (oneMore true (length d) m) (drop (characterRecord + length d) s) rs
+
+-- the answer of a walk from p on over these records, which stand in s
+unfoldable pub walkedOver : Query → Pos → List ℕ → Option (List Rec) → Walk
+walkedOver q p s none = Broken
+walkedOver q p s (some rs) =
+    cond (sorted (p .key) (standing p) rs & tallied (p .held) (p .met) s rs) (Run (placesFrom q p rs) (p .marked || opened (q .mark) rs)) Broken
+
+abbrev pub walked : Query → Pos → List ℕ → Walk
+walked q p s = walkedOver q p s (split s)
 
 -- the answer after a step
 unfoldable pub walkAfter : Query → List ℕ → Step → Walk
-walkAfter q s (Go p) = walked q p (split (drop (p .at) s))
+walkAfter q s (Go p) = walked q p (drop (p .at) s)
 walkAfter q s (Stop w) = w
 
 -- the sums of a walk stay within what it passed
@@ -124,7 +150,8 @@ pub record Within (n : ℕ) (p : Pos) : Type 0 where
   pub from : p .from ≤ p .at
   pub to : p .to ≤ p .at
   pub hi : p .hi ≤ p .at
-  pub chars : p .chars ≤ p .at
+  pub characters : p .met .characters ≤ p .at
+  pub bytes : p .met .bytes ≤ p .at
 
 -- a step goes ahead, within n bytes
 unfoldable pub Ahead : ℕ → Pos → Step → Type 0
@@ -132,20 +159,15 @@ Ahead n p (Go q) = (p .at < q .at) × Within n q
 Ahead n p (Stop w) = Unit {0}
 
 -- ── a whole buffer: the places of font n, and of the record at place p of it (0 the font, code + 1 a character)
-abbrev pub placesWith : ℕ → ℕ → ℕ → List Rec → Places
-placesWith n p k rs =
+abbrev pub placesOf : ℕ → ℕ → List Rec → Places
+placesOf n p rs =
     record {
       used = markRecord + total rs;
       lo = markRecord + total (below (keyOf n 0) rs);
       from = markRecord + total (below (keyOf n p) rs);
       to = markRecord + total (below (keyOf n p + 1) rs);
       hi = markRecord + total (below (keyOf (n + 1) 0) rs);
-      chars = k;
     }
-
--- with the number of the font's characters
-abbrev pub placesOf : ℕ → ℕ → List Rec → Places
-placesOf n p rs = placesWith n p (length (charactersOf n rs)) rs
 
 -- the open mark by its numbers: closed, naming the character with a key, or neither
 unfoldable pub markSeen : Mark → MarkSeen
@@ -155,19 +177,22 @@ markSeen m =
     (cond (eqb (m .on) 1 & leb (m .fontOf) lastFont & leb (m .codeOf) lastCode) (Open (keyOf (m .fontOf) (m .codeOf + 1))) Wrong)
 
 -- the records of a buffer whose first record is right; with `must`, the character with the key m must be there and incomplete
-unfoldable pub surveyed : ℕ → ℕ → ℕ → Bool → Option (List Rec) → Inspected
-surveyed n p m must none = NotStore
-surveyed n p m must (some rs) = cond (sorted 0 alone rs & (not must || opened m rs)) (Found (placesOf n p rs)) NotStore
+unfoldable pub surveyedOver : ℕ → ℕ → ℕ → Bool → List ℕ → Option (List Rec) → Inspected
+surveyedOver n p m must s none = NotStore
+surveyedOver n p m must s (some rs) = cond ((sorted 0 alone rs & counted (tallyOf rs) s rs) & (not must || opened m rs)) (Found (placesOf n p rs)) NotStore
+
+abbrev pub surveyed : ℕ → ℕ → ℕ → Bool → List ℕ → Inspected
+surveyed n p m must s = surveyedOver n p m must s (split s)
 
 unfoldable pub inspected : ℕ → ℕ → Option Store → Inspected
 inspected n p none = NotStore
 inspected n p (some st) = Found (placesOf n p (st .recs))
 
--- s is a store, and w are the places of font n and its place p in it; its characters may be uncounted
+-- s is a store, and w are the places of font n and its place p in it
 pub record Stands (n p : ℕ) (s : List ℕ) (w : Places) : Type 0 where
   pub store : Store
   pub is : decode s ≡ some store
-  pub at : placesWith n p (w .chars) (store .recs) ≡ w
+  pub at : placesOf n p (store .recs) ≡ w
 
 -- a font with its characters, or one record, stands from one place to another, if these differ
 abbrev pub fontLookup : Places → Lookup

@@ -1,16 +1,17 @@
 // Changes of a buffer: moving, clearing and writing bytes, and the one splice that every change of the record run is made of.
 ghost use mathlib.Core.Path.{_≡_};
 ghost use Prim.Native.Nat.{_+_, _-_, _≤_, _<_};
+ghost use mathlib.Core.List.{_++_};
 ghost use lib.ListN.{length, take, drop, replicate};
 ghost use lib.Seq.{paste};
 ghost use mathlib.Core.Bool.{cond};
 ghost use Rattle.blocks.specs.Header.{keptHeader, headerBytes};
 ghost use Rattle.blocks.specs.Character.{keptFirst, continuationBytes, descriptorBytes};
 ghost use Rattle.pictures.specs.Size.{dataLimit};
-ghost use Rattle.store.specs.Layout.{characterKeptAt, characterRecord, fontRecord, leastStore, markRecord};
-ghost use Rattle.store.specs.Num.{le, wordEnd};
-ghost use Rattle.store.specs.Model.{bytesOf, font, character, characterHead};
-ghost use Rattle.store.specs.Change.{splicedAt, withBytes, remarked, unmarkedFor, unmarkedAt};
+ghost use Rattle.store.specs.Layout.{characterKeptAt, characterRecord, fontCharactersAt, fontKeptAt, fontRecord, leastStore, markRecord};
+ghost use Rattle.store.specs.Num.{le, wordEnd, doubleEnd};
+ghost use Rattle.store.specs.Model.{noCharacters, tallyBytes, fontHead, characterHead, characterBytes};
+ghost use Rattle.store.specs.Change.{splicedAt, withBytes, tallyBy, Recounting, recounted, remarked, unmarkedFor, unmarkedAt};
 ghost use Rattle.store.specs.Calls.{shut};
 use crate::layout::CHARACTER_KEPT_AT;
 use crate::layout::CHARACTER_KIND;
@@ -18,6 +19,8 @@ use crate::layout::CHARACTER_RECORD;
 use crate::layout::CODE_AT;
 use crate::layout::CONTINUATION_BYTES;
 use crate::layout::DESCRIPTOR_BYTES;
+use crate::layout::FONT_BYTES_AT;
+use crate::layout::FONT_CHARACTERS_AT;
 use crate::layout::FONT_KEPT_AT;
 use crate::layout::FONT_KIND;
 use crate::layout::FONT_RECORD;
@@ -26,7 +29,11 @@ use crate::layout::MARK_CODE_AT;
 use crate::layout::MARK_FONT_AT;
 use crate::layout::MARK_ON_AT;
 use crate::layout::NUMBER_AT;
+use crate::layout::WORD_END;
 use crate::number;
+use crate::tally;
+use crate::tally::NONE;
+use crate::tally::Tally;
 
 // Moves n bytes down by a font record's length. The distance is a constant, of which the compiler makes one block move.
 fn font_down(s: &mut [u8], to: usize, n: usize)
@@ -135,6 +142,53 @@ pub(crate) fn put16(s: &mut [u8], at: usize, v: usize)
     s[at + 1] = (v / 256) as u8;
 }
 
+// Writes a number of four bytes, low byte first.
+fn put32(s: &mut [u8], at: usize, v: usize)
+    requires { ⌜ (at + 4 ≤ length (now s)) × (v < doubleEnd) ⌝ }
+    ensures { λ _. ⌜ now (s .exit) ≡ withBytes (now (s .entry)) at (le 4 v) ⌝ }
+{
+    put16(s, at, v % WORD_END);
+    put16(s, at + 2, v / WORD_END);
+}
+
+// Writes the numbers of the font whose record begins at a place.
+fn put_tally(s: &mut [u8], at: usize, t: Tally)
+    requires { ⌜ (at + fontKeptAt ≤ length (now s)) × (t .characters < wordEnd) × (t .bytes < doubleEnd) ⌝ }
+    ensures { λ _. ⌜ now (s .exit) ≡ withBytes (now (s .entry)) (at + fontCharactersAt) (tallyBytes t) ⌝ }
+{
+    put16(s, at + FONT_CHARACTERS_AT, t.characters);
+    put32(s, at + FONT_BYTES_AT, t.bytes);
+}
+
+// The characters and the data bytes of a character's record of len bytes, or of none.
+fn tally_by(len: usize) -> Tally
+    requires { ⌜ ((len ≡ 0 → ⊥) → characterRecord ≤ len) ⌝ }
+    ensures { λ r. ⌜ r ≡ tallyBy len ⌝ }
+{
+    if len == 0 {
+        return NONE;
+    }
+    Tally {
+        characters: 1,
+        bytes: len - CHARACTER_RECORD,
+    }
+}
+
+// Keeps the numbers of the font at a place true where a character's record of old bytes gives way to one of new bytes, 0 where there is none.
+pub(crate) fn recount(s: &mut [u8], at: usize, old: usize, new: usize)
+    requires { ⌜ Recounting (now s) at old new ⌝ }
+    ensures { λ _. ⌜ now (s .exit) ≡ recounted at old new (now (s .entry)) ⌝ }
+{
+    let held = tally::tally_at(s, at);
+    let gone = tally_by(old);
+    let added = tally_by(new);
+    let after = Tally {
+        characters: held.characters + added.characters - gone.characters,
+        bytes: held.bytes + added.bytes - gone.bytes,
+    };
+    put_tally(s, at, after);
+}
+
 // Writes bytes.
 pub(crate) fn copy(s: &mut [u8], at: usize, b: &[u8])
     requires { ⌜ at + length (now b) ≤ length (now s) ⌝ }
@@ -188,15 +242,15 @@ pub(crate) fn unmark_character(s: &mut [u8], font: usize, code: usize)
     remark(s, 0, 0, 0);
 }
 
-// Writes a font's record: its head, and what is kept of an accepted block.
+// Writes a font's record: its head, with no characters, and what is kept of an accepted block.
 pub(crate) fn write_font(s: &mut [u8], at: usize, n: usize, block: &[u8])
     requires { ⌜ (at + fontRecord ≤ length (now s)) × (n < wordEnd) × (headerBytes ≤ length (now block)) ⌝ }
-    ensures { λ _. ⌜ now (s .exit) ≡ withBytes (now (s .entry)) at (bytesOf (font n (keptHeader (now (block .entry))))) ⌝ }
+    ensures { λ _. ⌜ now (s .exit) ≡ withBytes (now (s .entry)) at (fontHead n noCharacters ++ keptHeader (now (block .entry))) ⌝ }
 {
-    put16(s, at, FONT_RECORD);
-    put16(s, at + 2, 0);
+    put32(s, at, FONT_RECORD);
     put16(s, at + KIND_AT, FONT_KIND);
     put16(s, at + NUMBER_AT, n);
+    put_tally(s, at, NONE);
     let from = at + FONT_KEPT_AT;
     let to = at + FONT_RECORD;
     blocks::header::keep_header(block, &mut s[from..to]);
@@ -254,7 +308,7 @@ pub(crate) fn write_character(
     n: usize,
 )
     requires { ⌜ (at + characterRecord + n ≤ length (now s)) × (font < wordEnd) × (code < wordEnd) × (n ≤ dataLimit) × (descriptorBytes + n ≤ length (now block)) ⌝ }
-    ensures { λ _. ⌜ now (s .exit) ≡ withBytes (now (s .entry)) at (bytesOf (character font code (keptFirst (now (block .entry))) (take n (drop descriptorBytes (now (block .entry)))))) ⌝ }
+    ensures { λ _. ⌜ now (s .exit) ≡ withBytes (now (s .entry)) at (characterBytes font code (keptFirst (now (block .entry))) (take n (drop descriptorBytes (now (block .entry))))) ⌝ }
 {
     write_head(s, at, CHARACTER_RECORD + n, font, code);
     write_descriptor(s, at + CHARACTER_KEPT_AT, block);

@@ -20,7 +20,9 @@ pub fn remove_character(s: &mut [u8], font: u32, code: u32) -> u32
         Sought::Refused(k) => k,
         Sought::Here(p) => {
             let from = p.from;
-            change::splice(s, from, p.to - from, p.used, 0);
+            let old = p.to - from;
+            change::splice(s, from, old, p.used, 0);
+            change::recount(s, p.lo, old, 0);
             change::unmark_character(s, font as usize, code as usize);
             0
         }

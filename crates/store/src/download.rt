@@ -87,6 +87,7 @@ fn place_first(
     }
     change::splice(s, from, old, used, CHARACTER_RECORD + n);
     change::write_character(s, from, font, code, block, n);
+    change::recount(s, p.lo, old, CHARACTER_RECORD + n);
     change::mark_character(s, marked, font, code);
     0
 }
@@ -115,6 +116,7 @@ fn place_more(
     }
     change::splice(s, from, old, used, old + n);
     change::extend_character(s, from, old, block, n);
+    change::recount(s, p.lo, old, old + n);
     change::mark_character(s, marked, font, code);
     0
 }

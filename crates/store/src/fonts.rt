@@ -9,6 +9,7 @@ ghost use Rattle.blocks.specs.Header.{readHeader};
 ghost use Rattle.store.specs.Calls.{makingFresh, removingFont, downloadingFont, tellingFont};
 ghost use Rattle.store.specs.Putting.{puttingFont};
 use crate::change;
+use crate::layout::FONT_CHARACTERS_AT;
 use crate::layout::FONT_KEPT_AT;
 use crate::layout::FONT_RECORD;
 use crate::layout::HEADER_BYTES;
@@ -18,6 +19,7 @@ use crate::layout::LEAST_STORE;
 use crate::layout::MARK_KIND;
 use crate::layout::MARK_RECORD;
 use crate::layout::MOST_STORE;
+use crate::number;
 use crate::seek;
 use crate::seek::Sought;
 use crate::telling;
@@ -110,7 +112,7 @@ pub fn tell_font(s: &[u8], out: &mut [u8], font: u32) -> Told
             telling::copy_kept(s, at + FONT_KEPT_AT, HEADER_BYTES, out);
             Told {
                 refusal: 0,
-                count: p.chars as u32,
+                count: number::le16(s, at + FONT_CHARACTERS_AT) as u32,
             }
         }
     }

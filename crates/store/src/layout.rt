@@ -29,7 +29,11 @@ pub(crate) const FONT_KIND: usize = 2;
 
 pub(crate) const FONT_RECORD: usize = FONT_KEPT_AT + HEADER_BYTES;
 
-pub(crate) const FONT_KEPT_AT: usize = 8;
+pub(crate) const FONT_CHARACTERS_AT: usize = 8;
+
+pub(crate) const FONT_BYTES_AT: usize = 10;
+
+pub(crate) const FONT_KEPT_AT: usize = 14;
 
 pub(crate) const FONT_ORIENTATION_AT: usize = FONT_KEPT_AT + header::ORIENTATION_AT;
 

@@ -11,5 +11,6 @@ pub mod locate;
 pub mod number;
 pub mod records;
 pub mod seek;
+pub mod tally;
 pub mod telling;
 pub mod walk;

@@ -79,7 +79,7 @@ fn seek_place(s: &[u8], c: Cursor, lo: usize, font: usize, key: usize) -> usize
     advance(s, c.used, c.at, key)
 }
 
-// Where font `font` stands in a store, and the record at a place of it: 0 the font itself, code + 1 a character. Its characters are not counted.
+// Where font `font` stands in a store, and the record at a place of it: 0 the font itself, code + 1 a character.
 pub(crate) fn locate(s: &[u8], c: Cursor, font: usize, place: usize) -> Places
     requires { ⌜ Points (now s) c × (font ≤ lastFont) × (place ≤ lastCode + 1) ⌝ }
     ensures { λ r. ⌜ Stands font place (now (s .entry)) r ⌝ }
@@ -95,6 +95,5 @@ pub(crate) fn locate(s: &[u8], c: Cursor, font: usize, place: usize) -> Places
         from: from,
         to: to,
         hi: hi,
-        chars: 0,
     }
 }

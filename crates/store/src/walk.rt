@@ -6,8 +6,8 @@ ghost use lib.ListN.{length, take, drop};
 ghost use Rattle.blocks.specs.Character.{descriptorBytes};
 ghost use Rattle.store.specs.Layout.{characterKeptAt, characterRecord, kindAt, lastFont, leastStore, markRecord, mostStore, characterKind, fontKind, lastCode};
 ghost use Rattle.store.specs.Num.{field};
-ghost use Rattle.store.specs.Model.{Under, heldUnder, split, decode, begins, markIn};
-ghost use Rattle.store.specs.Walk.{headOf, Heading, passed, walked, walkAfter, Ahead, Within, walkStart, markSeen, surveyed, inspected, countIf, fontLookup, characterLookup};
+ghost use Rattle.store.specs.Model.{Under, heldUnder, decode, begins, markIn};
+ghost use Rattle.store.specs.Walk.{headOf, Heading, passed, walked, walkAfter, Ahead, Within, heldBehind, metBehind, settled, walkStart, markSeen, surveyed, inspected, countIf, fontLookup, characterLookup};
 use crate::layout::CHARACTER_KEPT_AT;
 use crate::layout::CHARACTER_KIND;
 use crate::layout::CHARACTER_RECORD;
@@ -29,15 +29,17 @@ use crate::layout::MARK_RECORD;
 use crate::layout::MOST_STORE;
 use crate::layout::NUMBER_AT;
 use crate::number;
+use crate::tally;
+use crate::tally::NONE;
+use crate::tally::Tally;
 use blocks::character;
 use blocks::header;
 use pictures::picture;
 use pictures::picture::Held;
 
-// What a call asks for: a font, the keys between which it stands with its characters, those between which one record stands, and the key of
-// the open character.
+// What a call asks for: the keys between which a font stands with its characters, those between which one record stands, and the key of the
+// open character.
 pub struct Query {
-    pub font: usize,
     pub lo: usize,
     pub from: usize,
     pub to: usize,
@@ -45,13 +47,15 @@ pub struct Query {
     pub mark: usize,
 }
 
-// What stands at a place of the run: the font number, 0 or the code and 1, the length, the font's orientation, whether it is incomplete.
+// What stands at a place of the run: the font number, 0 or the code and 1, the length, the font's orientation, whether it is incomplete, and the
+// numbers that a font's record holds.
 pub struct Item {
     pub font: usize,
     pub place: usize,
     pub len: usize,
     pub orientation: u8,
     pub unfinished: bool,
+    pub held: Tally,
 }
 
 pub enum Head {
@@ -60,29 +64,29 @@ pub enum Head {
     Bad,
 }
 
-// How far a walk has come: the place; the places asked for; the font's characters; whether the open character was met; the least key, the
-// font and the orientation that the next record must have.
+// How far a walk has come: the place; the places asked for; whether the open character was met; the least key, the font and the orientation
+// that the next record must have; the numbers that the font's record holds, and those of its characters met so far.
 pub struct Pos {
     pub at: usize,
     pub lo: usize,
     pub from: usize,
     pub to: usize,
     pub hi: usize,
-    pub chars: usize,
     pub marked: bool,
     pub key: usize,
     pub owner: usize,
     pub orientation: u8,
+    pub held: Tally,
+    pub met: Tally,
 }
 
-// Where the records end; where a font with its characters starts and ends; where one record starts and ends; how many characters the font has.
+// Where the records end; where a font with its characters starts and ends; where one record starts and ends.
 pub struct Places {
     pub used: usize,
     pub lo: usize,
     pub from: usize,
     pub to: usize,
     pub hi: usize,
-    pub chars: usize,
 }
 
 pub enum Walk {
@@ -162,6 +166,7 @@ fn look_font(s: &[u8], at: usize, len: usize) -> Head
         len: FONT_RECORD,
         orientation: s[at + FONT_ORIENTATION_AT],
         unfinished: false,
+        held: tally::tally_at(s, at),
     })
 }
 
@@ -190,6 +195,7 @@ fn look_character(s: &[u8], at: usize, len: usize, owner: usize, orientation: u8
             len: len,
             orientation: orientation,
             unfinished: false,
+            held: NONE,
         }),
         Held::Unfinished => Head::Rec(Item {
             font: font,
@@ -197,6 +203,7 @@ fn look_character(s: &[u8], at: usize, len: usize, owner: usize, orientation: u8
             len: len,
             orientation: orientation,
             unfinished: true,
+            held: NONE,
         }),
         Held::Foreign => Head::Bad,
     }
@@ -236,13 +243,46 @@ pub(crate) fn add_if(n: usize, test: bool, m: usize) -> usize
     if test { n + m } else { n }
 }
 
+// The numbers that the font's record holds, behind a record.
+fn held_behind(p: Pos, i: Item) -> Tally
+    ensures { λ r. ⌜ r ≡ heldBehind p i ⌝ }
+{
+    if i.place == 0 { i.held } else { p.held }
+}
+
+// Those of the font's characters met so far, behind a record.
+fn met_behind(p: Pos, i: Item) -> Tally
+    requires { ⌜ (i .len ≤ mostStore) × Within mostStore p ⌝ }
+    requires { ⌜ ((i .place ≡ 0 → ⊥) → characterRecord ≤ i .len) ⌝ }
+    ensures { λ r. ⌜ r ≡ metBehind p i ⌝ }
+{
+    if i.place == 0 {
+        return NONE;
+    }
+    Tally {
+        characters: p.met.characters + 1,
+        bytes: p.met.bytes + (i.len - CHARACTER_RECORD),
+    }
+}
+
+// Whether the numbers that the last font's record holds are true, if this record is the next font's.
+fn settles(p: Pos, i: Item) -> bool
+    ensures { λ r. ⌜ r ≡ settled p i ⌝ }
+{
+    !(i.place == 0) | tally::same_tally(p.held, p.met)
+}
+
 // A walk at p, over a record.
 fn pass(q: Query, p: Pos, i: Item) -> Step
     requires { ⌜ (i .font ≤ lastFont) × (i .place ≤ lastCode + 1) × (i .len ≤ mostStore) × Within mostStore p ⌝ }
+    requires { ⌜ ((i .place ≡ 0 → ⊥) → characterRecord ≤ i .len) ⌝ }
     ensures { λ r. ⌜ r ≡ passed q p i ⌝ }
 {
     let key = i.font * KEYS_EACH + i.place;
     if key < p.key {
+        return Step::Stop(Walk::Broken);
+    }
+    if !settles(p, i) {
         return Step::Stop(Walk::Broken);
     }
     Step::Go(Pos {
@@ -251,29 +291,29 @@ fn pass(q: Query, p: Pos, i: Item) -> Step
         from: add_if(p.from, key < q.from, i.len),
         to: add_if(p.to, key < q.to, i.len),
         hi: add_if(p.hi, key < q.hi, i.len),
-        chars: add_if(p.chars, (i.font == q.font) & !(i.place == 0), 1),
         marked: p.marked | ((key == q.mark) & i.unfinished),
         key: key + 1,
         owner: i.font + 1,
         orientation: i.orientation,
+        held: held_behind(p, i),
+        met: met_behind(p, i),
     })
 }
 
 fn walk_one(s: &[u8], q: Query, p: Pos) -> Step
     requires { ⌜ (length (now s) ≤ mostStore) × Within (length (now s)) p ⌝ }
-    ensures { λ r. ⌜ (walkAfter q (now (s .entry)) r ≡ walked q p (split (drop (p .at) (now (s .entry))))) × Ahead (length (now (s .entry))) p r ⌝ }
+    ensures { λ r. ⌜ (walkAfter q (now (s .entry)) r ≡ walked q p (drop (p .at) (now (s .entry)))) × Ahead (length (now (s .entry))) p r ⌝ }
 {
     let at = p.at;
     match look(s, at, p.owner, p.orientation) {
         Head::End => {
-            if number::zeros(s, at) {
+            if tally::same_tally(p.held, p.met) & number::zeros(s, at) {
                 let places = Places {
                     used: p.at,
                     lo: p.lo,
                     from: p.from,
                     to: p.to,
                     hi: p.hi,
-                    chars: p.chars,
                 };
                 Step::Stop(Walk::Run(places, p.marked))
             } else {
@@ -288,7 +328,7 @@ fn walk_one(s: &[u8], q: Query, p: Pos) -> Step
 // The whole run of a buffer, behind its first record.
 fn survey(s: &[u8], q: Query) -> Walk
     requires { ⌜ (leastStore ≤ length (now s)) × (length (now s) ≤ mostStore) ⌝ }
-    ensures { λ r. ⌜ r ≡ walked q walkStart (split (drop markRecord (now (s .entry)))) ⌝ }
+    ensures { λ r. ⌜ r ≡ walked q walkStart (drop markRecord (now (s .entry))) ⌝ }
 {
     let mut p = Pos {
         at: MARK_RECORD,
@@ -296,11 +336,12 @@ fn survey(s: &[u8], q: Query) -> Walk
         from: MARK_RECORD,
         to: MARK_RECORD,
         hi: MARK_RECORD,
-        chars: 0,
         marked: false,
         key: 0,
         owner: 0,
         orientation: 0,
+        held: NONE,
+        met: NONE,
     };
     loop {
         match walk_one(s, q, p) {
@@ -358,11 +399,10 @@ fn see_mark(s: &[u8]) -> MarkSeen
 // The records of a buffer whose first record is right: with must, the character with the key mark must be there and incomplete.
 fn inspect_records(s: &[u8], font: usize, place: usize, mark: usize, must: bool) -> Inspected
     requires { ⌜ (leastStore ≤ length (now s)) × (length (now s) ≤ mostStore) × (font ≤ 4294967296) × (place ≤ 4294967296) ⌝ }
-    ensures { λ r. ⌜ r ≡ surveyed font place mark must (split (drop markRecord (now (s .entry)))) ⌝ }
+    ensures { λ r. ⌜ r ≡ surveyed font place mark must (drop markRecord (now (s .entry))) ⌝ }
 {
     let key = font * KEYS_EACH + place;
     let q = Query {
-        font: font,
         lo: font * KEYS_EACH + 0,
         from: key,
         to: key + 1,

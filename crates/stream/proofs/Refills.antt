@@ -13,7 +13,7 @@ use Rattle.blocks.specs.Header.{orientation}
 use Rattle.blocks.specs.Character.{class, width, height, isKeptFirst}
 use Rattle.pictures.specs.declared.picture.Held.the-variants.{Unfinished}
 use Rattle.blocks.proofs.KeptFirst.{is-kept-length}
-use Rattle.store.specs.Layout.{keyOf}
+use Rattle.store.specs.Layout.{characterRecord, keyOf, markRecord}
 use Rattle.store.specs.Model.{Rec, font, character, Store, heldOf, heldUnder, isKept, isUnfinished, encode, total, sizeOf}
 use Rattle.store.specs.Download.{markFor}
 use Rattle.store.proofs.Changed.{changed}
@@ -34,7 +34,7 @@ words : (a b c rest : List ℕ) → (a ++ (b ++ c)) ++ rest ≡ a ++ (b ++ (c ++
 words a b c rest = append-assoc a (b ++ c) rest ∙ ap (λ (l : List ℕ). a ++ l) (append-assoc b c rest)
 
 module _ (n c : ℕ) (g h d : List ℕ) (low : n ≤ 32767) (code : c ≤ 255) (ok : isKept (heldUnder (orientation g) h d) ≡ true) (st : Store) (w : Laid n (keyOf n (c + 1)) g st)
-    (room : 12 + total (st .recs) + 26 + length d ≤ st .size) (pre rest : List ℕ) (m k : ℕ) where
+    (room : markRecord + total (st .recs) + characterRecord + length d ≤ st .size) (pre rest : List ℕ) (m k : ℕ) where
   held-first : isKeptFirst h (orientation g) ≡ true
   held-first = held-kept (orientation g) h d ok .0
 
@@ -121,8 +121,8 @@ Fills n rs st = (pre : List ℕ) (m j : ℕ) → (reads pre (writtenRun rs) (tar
 module _ (n : ℕ) (g : List ℕ) (low : n ≤ 32767) where
   -- a character read, and what follows it
   one-read : (c : ℕ) (h d : List ℕ) (rs : List Rec) (k : ℕ) (st : Store) → Laid n k g st → c ≤ 255 → k ≤ keyOf n (c + 1) → isKept (heldUnder (orientation g) h d) ≡ true
-      → 12 + total (st .recs) + total (character n c h d ∷ rs) ≤ st .size
-      → ((st′ : Store) → Laid n (keyOf n (c + 1) + 1) g st′ → 12 + total (st′ .recs) + total rs ≤ st′ .size → Fills n rs st′)
+      → markRecord + total (st .recs) + total (character n c h d ∷ rs) ≤ st .size
+      → ((st′ : Store) → Laid n (keyOf n (c + 1) + 1) g st′ → markRecord + total (st′ .recs) + total rs ≤ st′ .size → Fills n rs st′)
       → Fills n (character n c h d ∷ rs) st
   unfolding total sizeOf writtenRun commandsIn markAfter
   one-read c h d rs k st w code least ok room more pre m j =
@@ -134,7 +134,7 @@ module _ (n : ℕ) (g : List ℕ) (low : n ≤ 32767) where
       let i = append-snoc (st .recs) (character n c h d) rs in
       (x .1 ∙ y .0 ∙ rw (i, q), subst (λ (l : List Rec). Valid (changed (markAfter (markFor n c h d) rs) l st)) i (y .1))
 
-  pub run-read : (rs : List Rec) (k : ℕ) → Chars n g k rs → (st : Store) → Laid n k g st → 12 + total (st .recs) + total rs ≤ st .size → Fills n rs st
+  pub run-read : (rs : List Rec) (k : ℕ) → Chars n g k rs → (st : Store) → Laid n k g st → markRecord + total (st .recs) + total rs ≤ st .size → Fills n rs st
   run-read [] k a st w room = λ pre m j. unfold writtenRun commandsIn markAfter in
       (on-end pre (target n m) (allDone j (encode st)) ∙ rw (append-nil (st .recs), add-zero j), subst (λ (l : List Rec). Valid (changed (st .mark) l st)) (sym (append-nil (st .recs))) (w .valid))
   run-read (font i h ∷ rs) k a st w room = absurd a

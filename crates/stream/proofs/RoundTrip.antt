@@ -10,14 +10,13 @@ use lib.Dec.{leb, eqb}
 use Rattle.blocks.specs.Header.{orientation, isKeptHeader}
 use Rattle.blocks.specs.Character.{isKeptFirst}
 use Rattle.blocks.proofs.KeptHeader.{is-kept-length as header-length}
-use Rattle.store.specs.Layout.{keyOf}
+use Rattle.store.specs.Layout.{fontRecord, keyOf, markRecord}
 use Rattle.store.specs.Model.{Rec, font, character, Store, Under, number, place, key, under, alone, sorted, heldOf, heldUnder, isKept, allowed, encode, decode, total, sizeOf}
 use Rattle.store.specs.Answer.{onStore}
 use Rattle.store.specs.Order.{keep, below, from, after, find}
 use Rattle.store.specs.Records.{recordsOf}
 use Rattle.store.specs.Calls.{fresh}
 use Rattle.store.proofs.Holds.{valid-decode}
-use Rattle.store.proofs.Totals.{length-run}
 use Rattle.store.proofs.RecordBytes.{allowed-char, allowed-font}
 use Rattle.store.proofs.Appends.{fresh-valid, first-store, font-laid}
 use Rattle.store.proofs.Codec.{Valid, decode-encode, sorted-inv}
@@ -96,11 +95,11 @@ kept-of n g rs o f =
 
 -- ── the round trip
 module _ (n : ℕ) (g : List ℕ) (st : Store) (v : Valid st) (low : n ≤ 32767) (ok : isKeptHeader g ≡ true) (w : Kept n g (st .recs)) where
-  fits : 84 + total (w .rest) ≤ st .size
+  fits : markRecord + fontRecord + total (w .rest) ≤ st .size
   unfolding total sizeOf
   fits =
       let t : total (font n g ∷ w .rest) ≤ total (st .recs) = subst (λ (l : List Rec). total l ≤ total (st .recs)) (w .are) (total-of (st .recs) n) in
-      omega (arith, v .room, length-run 0 alone (st .recs) (v .order))
+      omega (arith, v .room)
 
   font-read : (reads [] (writtenRun (font n g ∷ w .rest)) (target 0 0) (allDone 0 (encode (fresh (st .size)))) ≡ finished (commandsIn (font n g ∷ w .rest)) (filled (font n g ∷ w .rest) (fresh (st .size)))) × Valid (filled (font n g ∷ w .rest) (fresh (st .size)))
   unfolding writtenRun writtenRecord commandsIn commandsOf markAfter total sizeOf

@@ -1,4 +1,4 @@
-// "Store of 84 bytes takes one font, 83 none (10)."
+// W-205: "the 84-byte case (now 90 and 89)": a store of 90 bytes takes one font, 89 none (10).
 use crate::calls;
 use crate::print;
 use crate::samples;
@@ -11,10 +11,10 @@ fn two_fonts(s: &mut [u8]) {
 }
 
 pub fn run() {
-    let mut s84 = [0u8; 84];
-    print::text(b"a store of 84 bytes\n");
-    two_fonts(&mut s84);
-    let mut s83 = [0u8; 83];
-    print::text(b"a store of 83 bytes\n");
-    two_fonts(&mut s83);
+    let mut enough = [0u8; 90];
+    print::text(b"a store of 90 bytes\n");
+    two_fonts(&mut enough);
+    let mut short = [0u8; 89];
+    print::text(b"a store of 89 bytes\n");
+    two_fonts(&mut short);
 }

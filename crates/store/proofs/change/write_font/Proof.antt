@@ -5,8 +5,9 @@ use lib.ListN.{length}
 use denote.Ref.{now}
 use Rattle.blocks.specs.Header.{keptHeader, headerBytes}
 use Rattle.blocks.proofs.KeptHeader.{kept-length}
-use Rattle.store.specs.Layout.{fontKeptAt, fontKind, fontRecord, kindAt, numberAt}
+use Rattle.store.specs.Layout.{fontCharactersAt, fontKeptAt, fontKind, fontRecord, kindAt, numberAt}
 use Rattle.store.specs.Num.{le}
+use Rattle.store.specs.Model.{noCharacters, tallyBytes}
 use Rattle.store.specs.Change.{withBytes}
 use Rattle.store.proofs.Written.{mid-put, font-put}
 use borrow.Author.Needs.{needs}
@@ -14,22 +15,27 @@ use native.Mathlib.Omega.{arith}
 use Rattle.store.proofs.change.write_font.Statement.{statement}
 use Rattle.store.proofs.change.write_font.Tie as tie
 
--- the head's four numbers and the kept bytes, one after the other
-
-written : (n at : ℕ) (s s1 s2 s3 s4 h : List ℕ) → s1 ≡ withBytes s at (le 2 fontRecord) → s2 ≡ withBytes s1 (at + 2) (le 2 0) → s3 ≡ withBytes s2 (at + kindAt) (le 2 fontKind) → s4 ≡ withBytes s3 (at + numberAt) (le 2 n)
-    → withBytes s4 (at + fontKeptAt) h ≡ withBytes (withBytes (withBytes (withBytes (withBytes s at (le 2 fontRecord)) (at + 2) (le 2 0)) (at + kindAt) (le 2 fontKind)) (at + numberAt) (le 2 n)) (at + fontKeptAt) h
+-- the head's parts and the kept bytes, one after the other
+written : (n at : ℕ) (s s1 s2 s3 s4 h : List ℕ) → s1 ≡ withBytes s at (le 4 fontRecord) → s2 ≡ withBytes s1 (at + kindAt) (le 2 fontKind) → s3 ≡ withBytes s2 (at + numberAt) (le 2 n) → s4 ≡ withBytes s3 (at + fontCharactersAt) (tallyBytes noCharacters)
+    → withBytes s4 (at + fontKeptAt) h ≡ withBytes (withBytes (withBytes (withBytes (withBytes s at (le 4 fontRecord)) (at + kindAt) (le 2 fontKind)) (at + numberAt) (le 2 n)) (at + fontCharactersAt) (tallyBytes noCharacters)) (at + fontKeptAt) h
 written n at s s1 s2 s3 s4 h a b c d = rw (d, c, b, a)
 
 returns : tie.Need-returns
-returns c = let a = c .before .before .before .before .before .before .before .before .before .before .before .before .before .before .before .before .before .before .before .before .before .before .args in
+returns c =
+    let k6 = c .before .before .before .before .before .before in
+    let k10 = k6 .before .before .before .before in
+    let k14 = k10 .before .before .before .before in
+    let k18 = k14 .before .before .before .before in
+    let k22 = k18 .before .before .before .before in
+    let a = k22 .args in
     let h = keptHeader (now (a .block)) in
-    let l : length h ≡ headerBytes = kept-length (now (a .block)) (c .before .before .before .before .before .before .before .before .before .before .before .before .before .before .before .before .before .before .before .before .before .before .pre .2) in
+    let l : length h ≡ headerBytes = kept-length (now (a .block)) (k22 .pre .2) in
     let d : length h ≡ a .at + fontRecord - (a .at + fontKeptAt) = omega (arith, l) in
     let o : a .at + fontKeptAt ≤ a .at + fontRecord = omega arith in
     rw (c .before .before .keep-header .ensures)
-    (mid-put (c .before .before .before .before .before .before .put164 .last .0) (a .at + fontKeptAt) (a .at + fontRecord) h o d
-    ∙ written (a .n) (a .at) (now (a .s)) (c .before .before .before .before .before .before .before .before .before .before .before .before .before .before .before .before .before .before .put16 .last .0) (c .before .before .before .before .before .before .before .before .before .before .before .before .before .before .put162 .last .0) (c .before .before .before .before .before .before .before .before .before .before .put163 .last .0) (c .before .before .before .before .before .before .put164 .last .0) h (c .before .before .before .before .before .before .before .before .before .before .before .before .before .before .before .before .before .before .put16 .ensures) (c .before .before .before .before .before .before .before .before .before .before .before .before .before .before .put162 .ensures) (c .before .before .before .before .before .before .before .before .before .before .put163 .ensures) (c .before .before .before .before .before .before .put164 .ensures)
-    ∙ font-put (now (a .s)) (a .at) (a .n) h l (c .before .before .before .before .before .before .before .before .before .before .before .before .before .before .before .before .before .before .before .before .before .before .pre .0))
+    (mid-put (k6 .put-tally .last .0) (a .at + fontKeptAt) (a .at + fontRecord) h o d
+    ∙ written (a .n) (a .at) (now (a .s)) (k18 .put32 .last .0) (k14 .put16 .last .0) (k10 .put162 .last .0) (k6 .put-tally .last .0) h (k18 .put32 .ensures) (k14 .put16 .ensures) (k10 .put162 .ensures) (k6 .put-tally .ensures)
+    ∙ font-put (now (a .s)) (a .at) (a .n) noCharacters h l (k22 .pre .0))
 
 pub write-font-spec : {M : Type 1} → statement M
 write-font-spec =
@@ -40,7 +46,6 @@ write-font-spec =
     (λ c κs. search needs)
     (λ c. search needs)
     (λ c κs. search needs)
-    (λ c. search needs)
     (λ c κs. search needs)
     (λ c. search needs)
     (λ c. search needs)

@@ -1,4 +1,4 @@
-use mathlib.Core.Path.{_≡_, sym, ap, _∙_}
+use mathlib.Core.Path.{_≡_, sym, ap, _∙_, subst}
 use mathlib.Core.Bool.{Bool, cond}
 use mathlib.Core.List.{List}
 use Prim.Native.Nat.{ℕ, _+_, _-_}
@@ -6,11 +6,11 @@ use lib.ListN.{length, take, drop, length-take, length-drop}
 use denote.Ref.{now}
 use Rattle.blocks.specs.Character.{keptFirst, descriptorBytes}
 use Rattle.store.specs.Layout.{characterRecord}
-use Rattle.store.specs.Model.{bytesOf, character}
-use Rattle.store.specs.Change.{splicedAt, withBytes, remarked}
+use Rattle.store.specs.Model.{characterBytes}
+use Rattle.store.specs.Change.{splicedAt, withBytes, Recounting, recounted, remarked}
 use Rattle.store.specs.Calls.{shut}
 use Rattle.store.specs.Download.{markFor}
-use Rattle.store.proofs.Downloads.{Space, space, place-full, place-done}
+use Rattle.store.proofs.Downloads.{Space, space, place-full, place-ready, place-done}
 use Rattle.store.proofs.FontCalls.{answered}
 use borrow.Author.Needs.{needs}
 use native.Mathlib.Omega.{arith}
@@ -50,21 +50,42 @@ write-character-requires c κs = let x = at-start (c .before .before .before .be
     let r = x .ready in
     (omega (arith, r .one, r .last, r .room, c .before .before .before .before .before .if1 .left, c .before .before .before .splice .kept .0), omega (arith, x .low), omega (arith, x .code), c .before .before .before .before .before .before .before .before .before .pre .0 .0, c .before .before .before .before .before .before .before .before .before .pre .0 .1)
 
+add-recount : tie.Need-add-recount
+add-recount c = omega (arith, c .before .before .before .before .before .before .before .before .before .before .before .before .before .pre .0 .0)
+
+recount-requires : tie.Need-recount-requires
+recount-requires c κs =
+    let k = c .before .before .before .before .before .before .before .before .before .before .before .before in
+    let a = c .before .before .before .before .before .before .before .before .before .before .before .before .before .args in
+    let l = data-length k in
+    let d = take (a .n) (drop descriptorBytes (now (a .block))) in
+    let put : c .before .before .before .write-character .last .0 ≡ withBytes (splicedAt (a .p .from) (a .p .to - a .p .from) (a .p .used) (characterRecord + length d) (now (a .s))) (a .p .from) (characterBytes (a .font) (a .code) (keptFirst (now (a .block))) d) =
+    c .before .before .before .write-character .ensures ∙ ap (λ (y : List ℕ). withBytes y (a .p .from) (characterBytes (a .font) (a .code) (keptFirst (now (a .block))) d)) (c .before .before .before .before .before .before .before .splice .ensures ∙ ap (λ (y : ℕ). splicedAt (a .p .from) (a .p .to - a .p .from) (a .p .used) (characterRecord + y) (now (a .s))) (sym l)) in
+    subst (λ (y : ℕ). Recounting (c .before .before .before .write-character .last .0) (a .p .lo) (a .p .to - a .p .from) (characterRecord + y)) l
+    (rw put (place-ready _ _ _ _ _ _ (at-start k) (omega (arith, c .before .before .before .before .before .before .before .before .before .if1 .left, l))))
+
 mark-character-requires : tie.Need-mark-character-requires
-mark-character-requires c κs = let x = at-start (c .before .before .before .before .before .before .before .before .before .before .before .before) in
+mark-character-requires c κs = let x = at-start (c .before .before .before .before .before .before .before .before .before .before .before .before .before .before .before .before) in
     let r = x .ready in
-    (omega (arith, r .least, r .span, r .end, r .room, c .before .before .before .before .before .before .before .splice .kept .0, c .before .before .before .write-character .kept .0), omega (arith, x .low), omega (arith, x .code))
+    (omega (arith, r .least, r .span, r .end, r .room, c .before .before .before .before .before .before .before .before .before .before .before .splice .kept .0, c .before .before .before .before .before .before .before .write-character .kept .0, c .before .before .before .recount .kept .0), omega (arith, x .low), omega (arith, x .code))
 
 returns-2 : tie.Need-returns-2
 unfolding markFor
-returns-2 c = let x = at-start (c .before .before .before .before .before .before .before .before .before .before .before .before .before .before .before) in
-    let l = data-length (c .before .before .before .before .before .before .before .before .before .before .before .before .before .before .before) in
-    let a = c .before .before .before .before .before .before .before .before .before .before .before .before .before .before .before .before .args in
-    let e = answered (place-done _ _ _ _ _ _ x (omega (arith, c .before .before .before .before .before .before .before .before .before .before .before .before .if1 .left, l))) in (
+returns-2 c =
+    let k = c .before .before .before .before .before .before .before .before .before .before .before .before .before .before .before .before .before .before .before in
+    let k20 = k .before in
+    let a = k20 .args in
+    let l = data-length k in
+    let d = take (a .n) (drop descriptorBytes (now (a .block))) in
+    let e = answered (place-done _ _ _ _ _ _ (at-start k) (omega (arith, c .before .before .before .before .before .before .before .before .before .before .before .before .before .before .before .before .if1 .left, l))) in
+    let old = a .p .to - a .p .from in
+    let put : c .before .before .before .before .before .before .before .before .before .before .write-character .last .0 ≡ withBytes (splicedAt (a .p .from) old (a .p .used) (characterRecord + length d) (now (a .s))) (a .p .from) (characterBytes (a .font) (a .code) (keptFirst (now (a .block))) d) =
+    c .before .before .before .before .before .before .before .before .before .before .write-character .ensures ∙ ap (λ (y : List ℕ). withBytes y (a .p .from) (characterBytes (a .font) (a .code) (keptFirst (now (a .block))) d)) (c .before .before .before .before .before .before .before .before .before .before .before .before .before .before .splice .ensures ∙ ap (λ (y : ℕ). splicedAt (a .p .from) old (a .p .used) (characterRecord + y) (now (a .s))) (sym l)) in (
       e .0,
       c .before .before .mark-character .ensures
-          ∙ ap (λ (y : Bool). remarked (cond y (record { on = 1; fontOf = a .font; codeOf = a .code }) shut) (c .before .before .before .before .before .before .write-character .last .0)) (c .before .before .before .before .before .before .before .before .before .before .before .before .before .before .before .before .pre .1)
-          ∙ ap (remarked (markFor (a .font) (a .code) (keptFirst (now (a .block))) (take (a .n) (drop descriptorBytes (now (a .block)))))) (c .before .before .before .before .before .before .write-character .ensures ∙ ap (λ (y : List ℕ). withBytes y (a .p .from) (bytesOf (character (a .font) (a .code) (keptFirst (now (a .block))) (take (a .n) (drop descriptorBytes (now (a .block))))))) (c .before .before .before .before .before .before .before .before .before .before .splice .ensures ∙ ap (λ (y : ℕ). splicedAt (a .p .from) (a .p .to - a .p .from) (a .p .used) (characterRecord + y) (now (a .s))) (sym l)))
+          ∙ ap (λ (y : Bool). remarked (cond y (record { on = 1; fontOf = a .font; codeOf = a .code }) shut) (c .before .before .before .before .before .before .recount .last .0)) (k20 .pre .1)
+          ∙ ap (remarked (markFor (a .font) (a .code) (keptFirst (now (a .block))) d))
+          (c .before .before .before .before .before .before .recount .ensures ∙ ap (λ (y : ℕ). recounted (a .p .lo) old (characterRecord + y) (c .before .before .before .before .before .before .before .before .before .before .write-character .last .0)) (sym l) ∙ ap (recounted (a .p .lo) old (characterRecord + length d)) put)
           ∙ e .1,
     )
 
@@ -82,6 +103,8 @@ place-first-spec =
     (λ c. search needs)
     splice-requires
     write-character-requires
+    add-recount
+    recount-requires
     mark-character-requires
     (λ c. search needs)
     returns-2)

@@ -1,4 +1,4 @@
-use mathlib.Core.Path.{_≡_, sym, ap, _∙_}
+use mathlib.Core.Path.{_≡_, sym, ap, _∙_, subst}
 use mathlib.Core.Bool.{Bool, cond}
 use mathlib.Core.List.{List, _++_}
 use Prim.Native.Nat.{ℕ, _+_, _-_, _≤_}
@@ -8,11 +8,12 @@ use Rattle.blocks.specs.Character.{continuationBytes}
 use Rattle.pictures.specs.Size.{dataLimit}
 use Rattle.store.specs.Layout.{characterRecord}
 use Rattle.store.specs.Num.{Bytes, le}
-use Rattle.store.specs.Change.{splicedAt, withBytes, remarked}
+use Rattle.store.specs.Model.{characterBytes}
+use Rattle.store.specs.Change.{splicedAt, withBytes, Recounting, recounted, remarked}
 use Rattle.store.specs.Calls.{shut}
 use Rattle.store.specs.Walk.{keptAt, dataAt}
 use Rattle.store.specs.Download.{markFor}
-use Rattle.store.proofs.Downloads.{Space, growing, grow-span, grow-small, grow-put, place-full, place-done}
+use Rattle.store.proofs.Downloads.{Space, growing, grow-span, grow-small, grow-put, place-full, place-ready, place-done}
 use Rattle.store.proofs.FontCalls.{answered}
 use borrow.Author.Needs.{needs}
 use native.Mathlib.Omega.{arith}
@@ -71,29 +72,54 @@ extend-character-requires c κs = let x = at-start (c .before .before .before .b
     let r = x .ready in
     (omega (arith, r .one, r .last, r .room, c .before .before .before .before .before .if1 .left, c .before .before .before .splice .kept .0), omega (arith, z .old), omega (arith, z .old, z .small), c .before .before .before .before .before .before .before .before .before .pre .0 .0)
 
-mark-character-requires : tie.Need-mark-character-requires
-mark-character-requires c κs = let x = at-start (c .before .before .before .before .before .before .before .before .before .before .before .before) in
-    let r = x .ready in
-    (omega (arith, r .least, r .span, r .end, r .room, c .before .before .before .before .before .before .before .splice .kept .0, c .before .before .before .extend-character .kept .0), omega (arith, x .low), omega (arith, x .code))
+add-recount : tie.Need-add-recount
+add-recount c = let z = sizes (c .before .before .before .before .before .before .before .before .before .before .before .before) in omega (arith, z .old, z .small)
 
-returns-2 : tie.Need-returns-2
-unfolding markFor
-returns-2 c = let k = c .before .before .before .before .before .before .before .before .before .before .before .before .before .before .before in
+recount-requires : tie.Need-recount-requires
+recount-requires c κs =
+    let a = c .before .before .before .before .before .before .before .before .before .before .before .before .before .args in
+    let k = c .before .before .before .before .before .before .before .before .before .before .before .before in
     let x = at-start k in
     let z = sizes k in
     let l = data-length k in
-    let a = c .before .before .before .before .before .before .before .before .before .before .before .before .before .before .before .before .args in
     let s = now (a .s) in
     let t = take (a .n) (drop continuationBytes (now (a .block))) in
-    let e = answered (place-done _ _ _ _ _ _ x (omega (arith, c .before .before .before .before .before .before .before .before .before .before .before .before .if1 .left, z .old, z .more, x .ready .last))) in
     let old = a .p .to - a .p .from in
-    let f : a .p .used + length t ≤ length s = omega (arith, c .before .before .before .before .before .before .before .before .before .before .before .before .if1 .left, l) in (
+    let f : a .p .used + length t ≤ length s = omega (arith, c .before .before .before .before .before .before .before .before .before .if1 .left, l) in
+    let m : characterRecord + length (dataAt s (a .p) ++ t) ≡ old + a .n = omega (arith, z .old, z .more) in
+    let put : c .before .before .before .extend-character .last .0 ≡ withBytes (splicedAt (a .p .from) old (a .p .used) (characterRecord + length (dataAt s (a .p) ++ t)) s) (a .p .from) (characterBytes (a .font) (a .code) (keptAt s (a .p)) (dataAt s (a .p) ++ t)) =
+    c .before .before .before .extend-character .ensures ∙ ap (λ (y : List ℕ). withBytes (withBytes y (a .p .from) (le 2 (old + a .n))) (a .p .from + old) t) (c .before .before .before .before .before .before .before .splice .ensures)
+    ∙ ap (λ (y : ℕ). withBytes (withBytes (splicedAt (a .p .from) old (a .p .used) (old + y) s) (a .p .from) (le 2 (old + y))) (a .p .from + old) t) (sym l) ∙ grow-put _ _ _ _ _ (bytes-at k) (c .before .before .before .before .before .before .before .before .before .before .before .before .before .pre .0 .1) f in
+    subst (λ (y : ℕ). Recounting (c .before .before .before .extend-character .last .0) (a .p .lo) old y) m
+    (rw put (place-ready _ _ _ _ _ _ x (omega (arith, c .before .before .before .before .before .before .before .before .before .if1 .left, z .old, z .more, x .ready .last))))
+
+mark-character-requires : tie.Need-mark-character-requires
+mark-character-requires c κs = let x = at-start (c .before .before .before .before .before .before .before .before .before .before .before .before .before .before .before .before) in
+    let r = x .ready in
+    (omega (arith, r .least, r .span, r .end, r .room, c .before .before .before .before .before .before .before .before .before .before .before .splice .kept .0, c .before .before .before .before .before .before .before .extend-character .kept .0, c .before .before .before .recount .kept .0), omega (arith, x .low), omega (arith, x .code))
+
+returns-2 : tie.Need-returns-2
+unfolding markFor
+returns-2 c =
+    let a = c .before .before .before .before .before .before .before .before .before .before .before .before .before .before .before .before .before .before .before .before .args in
+    let k = c .before .before .before .before .before .before .before .before .before .before .before .before .before .before .before .before .before .before .before in
+    let x = at-start k in
+    let z = sizes k in
+    let l = data-length k in
+    let s = now (a .s) in
+    let t = take (a .n) (drop continuationBytes (now (a .block))) in
+    let old = a .p .to - a .p .from in
+    let f : a .p .used + length t ≤ length s = omega (arith, c .before .before .before .before .before .before .before .before .before .before .before .before .before .before .before .before .if1 .left, l) in
+    let m : characterRecord + length (dataAt s (a .p) ++ t) ≡ old + a .n = omega (arith, z .old, z .more) in
+    let put : c .before .before .before .before .before .before .before .before .before .before .extend-character .last .0 ≡ withBytes (splicedAt (a .p .from) old (a .p .used) (characterRecord + length (dataAt s (a .p) ++ t)) s) (a .p .from) (characterBytes (a .font) (a .code) (keptAt s (a .p)) (dataAt s (a .p) ++ t)) =
+    c .before .before .before .before .before .before .before .before .before .before .extend-character .ensures ∙ ap (λ (y : List ℕ). withBytes (withBytes y (a .p .from) (le 2 (old + a .n))) (a .p .from + old) t) (c .before .before .before .before .before .before .before .before .before .before .before .before .before .before .splice .ensures)
+    ∙ ap (λ (y : ℕ). withBytes (withBytes (splicedAt (a .p .from) old (a .p .used) (old + y) s) (a .p .from) (le 2 (old + y))) (a .p .from + old) t) (sym l) ∙ grow-put _ _ _ _ _ (bytes-at k) (c .before .before .before .before .before .before .before .before .before .before .before .before .before .before .before .before .before .before .before .before .pre .0 .1) f in
+    let e = answered (place-done _ _ _ _ _ _ x (omega (arith, c .before .before .before .before .before .before .before .before .before .before .before .before .before .before .before .before .if1 .left, z .old, z .more, x .ready .last))) in (
       e .0,
       c .before .before .mark-character .ensures
-          ∙ ap (λ (y : Bool). remarked (cond y (record { on = 1; fontOf = a .font; codeOf = a .code }) shut) (c .before .before .before .before .before .before .extend-character .last .0)) (c .before .before .before .before .before .before .before .before .before .before .before .before .before .before .before .before .pre .1)
+          ∙ ap (λ (y : Bool). remarked (cond y (record { on = 1; fontOf = a .font; codeOf = a .code }) shut) (c .before .before .before .before .before .before .recount .last .0)) (c .before .before .before .before .before .before .before .before .before .before .before .before .before .before .before .before .before .before .before .before .pre .1)
           ∙ ap (remarked (markFor (a .font) (a .code) (keptAt s (a .p)) (dataAt s (a .p) ++ t)))
-          (c .before .before .before .before .before .before .extend-character .ensures ∙ ap (λ (y : List ℕ). withBytes (withBytes y (a .p .from) (le 2 (old + a .n))) (a .p .from + old) t) (c .before .before .before .before .before .before .before .before .before .before .splice .ensures)
-          ∙ ap (λ (y : ℕ). withBytes (withBytes (splicedAt (a .p .from) old (a .p .used) (old + y) s) (a .p .from) (le 2 (old + y))) (a .p .from + old) t) (sym l) ∙ grow-put _ _ _ _ _ (bytes-at k) (c .before .before .before .before .before .before .before .before .before .before .before .before .before .before .before .before .pre .0 .1) f)
+          (c .before .before .before .before .before .before .recount .ensures ∙ ap (λ (y : ℕ). recounted (a .p .lo) old y (c .before .before .before .before .before .before .before .before .before .before .extend-character .last .0)) (sym m) ∙ ap (recounted (a .p .lo) old (characterRecord + length (dataAt s (a .p) ++ t))) put)
           ∙ e .1,
     )
 
@@ -109,6 +135,8 @@ place-more-spec =
     add-splice
     splice-requires
     extend-character-requires
+    add-recount
+    recount-requires
     mark-character-requires
     (λ c. search needs)
     returns-2)

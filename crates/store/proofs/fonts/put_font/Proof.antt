@@ -1,10 +1,10 @@
 use mathlib.Core.Path.{ap, _∙_}
-use mathlib.Core.List.{List}
+use mathlib.Core.List.{List, _++_}
 use Prim.Native.Nat.{ℕ, _-_}
 use denote.Ref.{now}
 use Rattle.blocks.specs.Header.{keptHeader}
 use Rattle.blocks.proofs.KeptHeader.{header-long}
-use Rattle.store.specs.Model.{bytesOf, font}
+use Rattle.store.specs.Model.{noCharacters, fontHead}
 use Rattle.store.specs.Change.{withBytes, unmarkedFor}
 use Rattle.store.proofs.Ready.{Ready, standing}
 use Rattle.store.proofs.FontCalls.{answered, put-full, put-done}
@@ -50,7 +50,7 @@ returns-2 c =
     let k16 = k12 .before .before .before .before in
     let r = at-start (c .before .before .before .before .before .before .before .before .before .before .before .before .before .before .before) in
     let e = answered (put-done _ _ _ _ r (k16 .pre .0) (k16 .pre .1) (k12 .if1 .left)) in
-    (e .0, c .before .before .unmark-font .ensures ∙ ap (unmarkedFor (k16 .args .font)) (k6 .write-font .ensures ∙ ap (λ (l : List ℕ). withBytes l (k16 .args .p .lo) (bytesOf (font (k16 .args .font) (keptHeader (now (k16 .args .block)))))) (k10 .splice .ensures)) ∙ e .1)
+    (e .0, c .before .before .unmark-font .ensures ∙ ap (unmarkedFor (k16 .args .font)) (k6 .write-font .ensures ∙ ap (λ (l : List ℕ). withBytes l (k16 .args .p .lo) (fontHead (k16 .args .font) noCharacters ++ keptHeader (now (k16 .args .block)))) (k10 .splice .ensures)) ∙ e .1)
 
 pub put-font-spec : {M : Type 1} → statement M
 put-font-spec =

@@ -10,8 +10,8 @@ use Rattle.store.specs.Answer.{checked, Telling, untold}
 use Rattle.store.specs.Calls.{tellingFont, charactersOf, onto}
 use Rattle.store.specs.Model.{font}
 use Rattle.store.specs.declared.walk.Places.{Places}
-use Rattle.store.proofs.Seeks.{KeptFont, font-sought, font-refused, font-call, font-counted}
-use Rattle.store.proofs.Spots.{chars-few, font-span, font-kept}
+use Rattle.store.proofs.Seeks.{KeptFont, font-sought, font-refused, font-call}
+use Rattle.store.proofs.Spots.{font-span, font-kept, font-held}
 use borrow.Author.Needs.{needs}
 use native.Mathlib.Omega.{arith}
 use Rattle.store.proofs.fonts.tell_font.Statement.{statement}
@@ -21,9 +21,6 @@ use Rattle.store.proofs.fonts.tell_font.Tie as tie
 at-found : (c : tie.After-known-told2) → KeptFont (c .before .before .before .before .before .before .args .font) 0 (now (c .before .before .before .before .before .before .args .s)) (c .before .p .given .0 .0)
 at-found c =
     font-sought _ _ (c .before .p .given .0 .0) (λ i. c .before .before .before .before .before .shared-slice-known .given i .fits) (sym (c .before .before .before .seek-font .ensures) ∙ c .before .p .given .1)
-
-counted : (c : tie.After-known-told2) → c .before .p .given .0 .0 .chars ≡ length (charactersOf (c .before .before .before .before .before .before .args .font) (at-found c .ready .store .recs))
-counted c = font-counted _ _ _ (sym (c .before .before .before .seek-font .ensures) ∙ c .before .p .given .1) (at-found c)
 
 -- what is told of a font that is there
 told : (n : ℕ) (s out : List ℕ) (w : Places) (x : KeptFont n 0 s w)
@@ -46,8 +43,11 @@ add-copy-kept c = let x = at-found (c .before) in omega (arith, font-span _ _ _ 
 copy-kept-requires : tie.Need-copy-kept-requires
 copy-kept-requires c κs = let x = at-found (c .before .before) in (omega (arith, font-span _ _ _ _ x, x .ready .end, x .ready .room), c .before .if1 .left)
 
-cast-t14 : tie.Need-cast-t14
-cast-t14 c = let k6 = c .before .before .before .before .before .before in omega (arith, chars-few _ _ _ _ (at-found k6 .ready) (counted k6))
+add-le16 : tie.Need-add-le16
+add-le16 c = let x = at-found (c .before .before .before .before .before) in omega (arith, font-span _ _ _ _ x, x .ready .end, x .ready .room)
+
+le16-requires : tie.Need-le16-requires
+le16-requires c κs = let x = at-found (c .before .before .before .before .before) in omega (arith, font-span _ _ _ _ x, x .ready .end, x .ready .room)
 
 returns-2 : tie.Need-returns-2
 unfolding tellingFont
@@ -57,11 +57,11 @@ returns-2 c =
 
 returns-3 : tie.Need-returns-3
 returns-3 c =
-    let k = c .before .before .before in
-    let x = at-found (k .before .before .before) in
-    let a = k .before .before .before .before .before .before .before .before .before .args in
-    same (counted (k .before .before .before)) (k .copy-kept .ensures ∙ ap (λ (h : List ℕ). onto h (now (a .out))) (font-kept _ _ _ _ x))
-    ∙ sym (told _ _ (now (a .out)) _ x ∙ rw (le-leb headerBytes (length (now (a .out))) (k .before .before .if1 .left)))
+    let k3 = c .before .before .before in
+    let x = at-found (k3 .before .before .before) in
+    let a = k3 .before .before .before .before .before .before .before .before .before .args in
+    same (c .le16 .ensures .0 ∙ font-held _ _ _ _ x) (k3 .copy-kept .ensures ∙ ap (λ (h : List ℕ). onto h (now (a .out))) (font-kept _ _ _ _ x))
+    ∙ sym (told _ _ (now (a .out)) _ x ∙ rw (le-leb headerBytes (length (now (a .out))) (k3 .before .before .if1 .left)))
 
 pub tell-font-spec : {M : Type 1} → statement M
 tell-font-spec =
@@ -75,7 +75,9 @@ tell-font-spec =
     returns
     add-copy-kept
     copy-kept-requires
-    cast-t14
+    add-le16
+    le16-requires
+    (λ c. search needs)
     returns-2
     (λ c. search needs)
     returns-3)

@@ -33,12 +33,12 @@ returns-3 c =
 returns-4 : tie.Need-returns-4
 unfolding _&_
 returns-4 c =
-    let k4 = c .before .before .before .before in
-    let k5 = k4 .before in
+    let k5 = c .before .before .before .before .before in
     let k6 = k5 .before in
-    let k8 = k6 .before .before in
+    let k7 = k6 .before in
+    let k9 = k7 .before .before in
     λ u.
-    rw (k5 .le16 .ensures .0) (sym (font-is u _ _ _ (k8 .pre .0) (k8 .pre .1) (k6 .if1 .left) ∙ rw (le-leb _ _ (rw (k5 .le16 .ensures .0) at (k4 .if2 .left)), ← (part-at (k8 .args .at) fontKeptAt headerBytes fontRecord (now (k8 .args .s)) (omega arith)), passed (c .before .before .is-kept-header .ensures) (c .before .if3 .left))))
+    rw (c .tally-at .ensures, k6 .le16 .ensures .0) (sym (font-is u _ _ _ (k9 .pre .0) (k9 .pre .1) (k7 .if1 .left) ∙ rw (le-leb _ _ (rw (k6 .le16 .ensures .0) at (k5 .if2 .left)), ← (part-at (k9 .args .at) fontKeptAt headerBytes fontRecord (now (k9 .args .s)) (omega arith)), passed (c .before .before .before .is-kept-header .ensures) (c .before .before .if3 .left))))
 
 pub look-font-spec : {M : Type 1} → statement M
 look-font-spec =
@@ -57,4 +57,5 @@ look-font-spec =
     returns-3
     (λ c. search needs)
     (λ c. search needs)
+    (λ c κs. search needs)
     returns-4)

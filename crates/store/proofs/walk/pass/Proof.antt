@@ -1,5 +1,6 @@
 use mathlib.Core.Path.{sym}
-use Rattle.store.proofs.Walks.{pass-low, pass-go}
+use Rattle.pictures.proofs.Tests.{failed, passed}
+use Rattle.store.proofs.Walks.{pass-low, pass-unsettled, pass-go}
 use borrow.Author.Needs.{needs}
 use native.Mathlib.Omega.{arith}
 use Rattle.store.proofs.walk.pass.Statement.{statement}
@@ -8,36 +9,33 @@ use Rattle.store.proofs.walk.pass.Tie as tie
 returns : tie.Need-returns
 returns c = sym (pass-low _ _ _ (c .if1 .taken))
 
-add-if-requires : tie.Need-add-if-requires
-add-if-requires c κs = (omega (arith, c .before .before .before .before .before .before .before .pre .3 .lo, c .before .before .before .before .before .before .before .pre .3 .at), c .before .before .before .before .before .before .before .pre .2)
-
-add-if-requires-2 : tie.Need-add-if-requires-2
-add-if-requires-2 c κs = (omega (arith, c .before .before .before .before .before .before .before .before .before .pre .3 .from, c .before .before .before .before .before .before .before .before .before .pre .3 .at), c .before .before .before .before .before .before .before .before .before .pre .2)
+returns-2 : tie.Need-returns-2
+returns-2 c = sym (pass-unsettled _ _ _ (c .before .before .if1 .left) (failed (c .before .settles .ensures) (c .if2 .taken)))
 
 add-if-requires-3 : tie.Need-add-if-requires-3
-add-if-requires-3 c κs = (omega (arith, c .before .before .before .before .before .before .before .before .before .before .before .pre .3 .to, c .before .before .before .before .before .before .before .before .before .before .before .pre .3 .at), c .before .before .before .before .before .before .before .before .before .before .before .pre .2)
+add-if-requires-3 c κs = let p = c .before .before .before .before .before .before .before .before .before .before .before .before .before .pre .0 in (omega (arith, p .3 .to, p .3 .at), p .2)
 
 add-if-requires-4 : tie.Need-add-if-requires-4
-add-if-requires-4 c κs = (omega (arith, c .before .before .before .before .before .before .before .before .before .before .before .before .before .pre .3 .hi, c .before .before .before .before .before .before .before .before .before .before .before .before .before .pre .3 .at), c .before .before .before .before .before .before .before .before .before .before .before .before .before .pre .2)
+add-if-requires-4 c κs = let p = c .before .before .before .before .before .before .before .before .before .before .before .before .before .before .before .pre .0 in (omega (arith, p .3 .hi, p .3 .at), p .2)
 
-add-if-requires-5 : tie.Need-add-if-requires-5
-add-if-requires-5 c κs = (omega (arith, c .before .before .before .before .before .before .before .before .before .before .before .before .before .before .before .before .before .pre .3 .chars, c .before .before .before .before .before .before .before .before .before .before .before .before .before .before .before .before .before .pre .3 .at), omega arith)
+add-t19 : tie.Need-add-t19
+add-t19 c = let p = c .before .before .before .before .before .before .before .before .before .before .before .before .before .before .before .before .before .before .before .pre .0 in omega (arith, p .0, p .1)
 
-add-t23 : tie.Need-add-t23
-add-t23 c = omega (arith, c .before .before .before .before .before .before .before .before .before .before .before .before .before .before .before .before .before .before .before .before .before .pre .0, c .before .before .before .before .before .before .before .before .before .before .before .before .before .before .before .before .before .before .before .before .before .pre .1)
+add-t20 : tie.Need-add-t20
+add-t20 c = omega (arith, c .before .before .before .before .before .before .before .before .before .before .before .before .before .before .before .before .before .before .before .before .pre .0 .0)
 
-add-t24 : tie.Need-add-t24
-add-t24 c = omega (arith, c .before .before .before .before .before .before .before .before .before .before .before .before .before .before .before .before .before .before .before .before .before .before .pre .0)
+met-behind-requires : tie.Need-met-behind-requires
+met-behind-requires c κs = let p = c .before .before .before .before .before .before .before .before .before .before .before .before .before .before .before .before .before .before .before .before .before .pre in ((p .0 .2, p .0 .3), p .1)
 
-returns-2 : tie.Need-returns-2
-returns-2 c =
-    let k4 = c .before .before .before .before in
-    let k8 = k4 .before .before .before .before in
+returns-3 : tie.Need-returns-3
+returns-3 c =
+    let k6 = c .before .before .before .before .before .before in
+    let k8 = k6 .before .before in
     let k10 = k8 .before .before in
     let k12 = k10 .before .before in
-    let k14 = k12 .before .before in
-    let k18 = k14 .before .before .before .before in
-    rw (k14 .add-if .ensures, k12 .add-if2 .ensures, k10 .add-if3 .ensures, k8 .add-if4 .ensures, k4 .add-if5 .ensures) (sym (pass-go _ _ _ (k18 .if1 .left)))
+    let k16 = k12 .before .before .before .before in
+    rw (k12 .add-if .ensures, k10 .add-if2 .ensures, k8 .add-if3 .ensures, k6 .add-if4 .ensures, c .before .held-behind .ensures, c .met-behind .ensures)
+    (sym (pass-go _ _ _ (k16 .before .before .if1 .left) (passed (k16 .before .settles .ensures) (k16 .if2 .left))))
 
 pub pass-spec : {M : Type 1} → statement M
 pass-spec =
@@ -46,12 +44,15 @@ pass-spec =
     (λ c. search needs)
     (λ c. search needs)
     returns
+    (λ c κs. search needs)
+    returns-2
     (λ c. search needs)
-    add-if-requires
-    add-if-requires-2
+    (λ c κs. search needs)
+    (λ c κs. search needs)
     add-if-requires-3
     add-if-requires-4
-    add-if-requires-5
-    add-t23
-    add-t24
-    returns-2)
+    add-t19
+    add-t20
+    (λ c κs. search needs)
+    met-behind-requires
+    returns-3)

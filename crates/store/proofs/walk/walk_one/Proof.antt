@@ -1,9 +1,10 @@
-use mathlib.Core.Path.{_≡_, sym, _∙_}
-use mathlib.Core.Bool.{true, false}
+use mathlib.Core.Path.{_≡_, sym, ap₂, _∙_}
+use mathlib.Core.Bool.{Bool, true, false, _&&_}
 use lib.ListN.{drop, length-drop}
 use denote.Ref.{now}
 use Rattle.store.specs.Layout.{mostStore}
 use Rattle.store.specs.Num.{allZero}
+use Rattle.store.specs.Model.{sameTally}
 use Rattle.store.specs.Walk.{headOf, standing, walkAfter, Ahead}
 use Rattle.store.specs.declared.walk.Head.the-variants.{Rec as HeadRec}
 use Rattle.store.proofs.Walks.{walked-end, walked-bad, walked-pass, ahead-pass, looked-item, within-more}
@@ -13,29 +14,31 @@ use Rattle.store.proofs.walk.walk_one.Statement.{statement}
 use Rattle.store.proofs.walk.walk_one.Tie as tie
 
 pass-requires : tie.Need-pass-requires
-pass-requires c κs = let a = c .before .before .before .before .before .args in
+pass-requires c κs =
+    let k5 = c .before .before .before .before .before in
+    let a = k5 .args in
     let i = c .before .i .given .0 .0 in
     let e : headOf (standing (a .p)) (drop (a .p .at) (now (a .s))) ≡ HeadRec i = sym (c .before .before .before .look .ensures) ∙ c .before .i .given .1 in
     let k = looked-item (standing (a .p)) (drop (a .p .at) (now (a .s))) i e in
-    (k .0, k .1, omega (arith, k .3, length-drop (a .p .at) (now (a .s)), c .before .before .before .before .before .pre .0), within-more _ mostStore (a .p) (c .before .before .before .before .before .pre .1) (c .before .before .before .before .before .pre .0))
+    ((k .0, k .1, omega (arith, k .3, length-drop (a .p .at) (now (a .s)), k5 .pre .0), within-more _ mostStore (a .p) (k5 .pre .1) (k5 .pre .0)), λ f. k .2)
 
 returns : tie.Need-returns
 unfolding walkAfter Ahead
 returns c =
-    let k4 = c .before .before .before .before in
-    let k6 = k4 .before .before in
-    let a = k6 .args in
-    let z : allZero (drop (a .p .at) (now (a .s))) ≡ true = sym (c .before .zeros .ensures) ∙ c .if1 .taken in
-    (sym (walked-end (a .q) (a .p) (drop (a .p .at) (now (a .s))) (sym (k4 .look .ensures) ∙ c .before .before .enum-told .given .1) ∙ rw z), tt)
+    let k5 = c .before .before .before .before .before in
+    let a = k5 .before .before .args in
+    let t = drop (a .p .at) (now (a .s)) in
+    let z : (sameTally (a .p .held) (a .p .met) && allZero t) ≡ true = ap₂ (λ (x y : Bool). x && y) (sym (c .before .before .same-tally .ensures)) (sym (c .before .zeros .ensures)) ∙ c .if1 .taken in
+    (sym (walked-end (a .q) (a .p) t (sym (k5 .look .ensures) ∙ c .before .before .before .enum-told .given .1) ∙ rw z), tt)
 
 returns-2 : tie.Need-returns-2
 unfolding walkAfter Ahead
 returns-2 c =
-    let k4 = c .before .before .before .before in
-    let k6 = k4 .before .before in
-    let a = k6 .args in
-    let z : allZero (drop (a .p .at) (now (a .s))) ≡ false = sym (c .before .zeros .ensures) ∙ c .if1 .left in
-    (sym (walked-end (a .q) (a .p) (drop (a .p .at) (now (a .s))) (sym (k4 .look .ensures) ∙ c .before .before .enum-told .given .1) ∙ rw z), tt)
+    let k5 = c .before .before .before .before .before in
+    let a = k5 .before .before .args in
+    let t = drop (a .p .at) (now (a .s)) in
+    let z : (sameTally (a .p .held) (a .p .met) && allZero t) ≡ false = ap₂ (λ (x y : Bool). x && y) (sym (c .before .before .same-tally .ensures)) (sym (c .before .zeros .ensures)) ∙ c .if1 .left in
+    (sym (walked-end (a .q) (a .p) t (sym (k5 .look .ensures) ∙ c .before .before .before .enum-told .given .1) ∙ rw z), tt)
 
 returns-3 : tie.Need-returns-3
 returns-3 c =
@@ -49,8 +52,7 @@ returns-3 c =
 returns-4 : tie.Need-returns-4
 unfolding walkAfter Ahead
 returns-4 c =
-    let k4 = c .before .before .before .before in
-    let a = k4 .args in
+    let a = c .before .before .before .before .args in
     (sym (walked-bad (a .q) (a .p) (drop (a .p .at) (now (a .s))) (sym (c .before .before .look .ensures) ∙ c .enum-told2 .given .1)), tt)
 
 pub walk-one-spec : {M : Type 1} → statement M
@@ -59,6 +61,7 @@ walk-one-spec =
     (tie.spec
     (λ c κs. search needs)
     (λ c. search needs)
+    (λ c κs. search needs)
     (λ c κs. search needs)
     (λ c. search needs)
     pass-requires
