@@ -5,7 +5,10 @@
  * or as a whole command stream, ask which font fits a request, and have
  * characters drawn as rows of dots. The library keeps nothing outside the
  * buffers you lend, never allocates, and holds no state between calls: a store
- * may be saved, copied and taken up again as plain bytes.
+ * may be saved, copied and taken up again as plain bytes. A store with fonts that an
+ * earlier version of the library made is not a store any more (MF_NOT_A_STORE), since
+ * its font records are shorter: have that version write its fonts out, and read the
+ * streams into a fresh store, in which each font takes 6 bytes more.
  *
  *     static uint8_t store[MF_STORE_MAX];
  *     mf_make_fresh(store, sizeof store);
@@ -94,8 +97,9 @@ enum mf_orientation {
 #define MF_SIDE_MAX 16384      /* the greatest width and height, in dots */
 
 /* Room that a store needs: 12 bytes, then for each font and each character
- * these, with the character's kept data beside them. */
-#define MF_FONT_ROOM 72
+ * these, with the character's kept data beside them. A store of 90 bytes takes
+ * one font without characters, one of 89 none. */
+#define MF_FONT_ROOM 78
 #define MF_CHARACTER_ROOM 26
 
 /* An output so long takes any font written out of a store of this length. */
@@ -303,7 +307,8 @@ uint32_t mf_choose_sheet(const uint8_t *store, size_t store_len,
                          const mf_request *requests, size_t request_count,
                          mf_answer *answers, size_t answer_count);
 
-/* Copies a font's 64 kept bytes to out and answers how many characters it has.
+/* Copies a font's 64 kept bytes to out and answers how many characters it has, a
+ * number that the store holds beside the font.
  * Refuses: 1, 2, 6, 12 if out_len is below MF_FONT_BYTES. */
 mf_told mf_tell_font(const uint8_t *store, size_t store_len,
                      uint8_t *out, size_t out_len, uint32_t font);

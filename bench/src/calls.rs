@@ -33,6 +33,10 @@ pub enum Call {
     TellFont {
         font: u32,
     },
+    /// Fonts 1, 2, .., each by a call of its own: a listing.
+    TellEach {
+        fonts: u32,
+    },
     TellCharacter {
         font: u32,
         code: u32,
@@ -50,7 +54,11 @@ pub enum Call {
         font: u32,
     },
     ReadStream,
-    TurnPicture { width: u32, height: u32, turn: u32 },
+    TurnPicture {
+        width: u32,
+        height: u32,
+        turn: u32,
+    },
 }
 
 /// The refusal and the other numbers.
@@ -81,6 +89,17 @@ fn each(sheet: &Sheet, out: &mut [u8], choose: impl Fn(&Request) -> Entry) -> An
         *entry = choose(request);
     }
     bare(0)
+}
+
+/// The characters of all of them together, and whether one was refused.
+fn tell_each(fonts: u32, mut tell: impl FnMut(u32) -> Answer) -> Answer {
+    let mut all = bare(0);
+    for font in 1..=fonts {
+        let told = tell(font);
+        all[0] |= told[0];
+        all[1] += told[1];
+    }
+    all
 }
 
 fn our_choice(store: *const u8, len: usize, r: &Request) -> c::Chosen {
@@ -142,6 +161,9 @@ pub fn ours(call: Call, store: &mut [u8], input: &[u8], out: &mut [u8]) -> Answe
                 Entry { font, refusal }
             }),
             Call::TellFont { font } => told(c::mf_tell_font(at, len, to, to_len, font)),
+            Call::TellEach { fonts } => tell_each(fonts, |font| {
+                told(c::mf_tell_font(at, len, to, to_len, font))
+            }),
             Call::TellCharacter { font, code } => {
                 told(c::mf_tell_character(at, len, to, to_len, font, code))
             }
@@ -194,6 +216,10 @@ pub fn theirs(call: Call, store: &mut [u8], input: &[u8], out: &mut [u8]) -> Ans
             let told = reference::tell_font(store, out, font);
             two(told.refusal, told.count)
         }
+        Call::TellEach { fonts } => tell_each(fonts, |font| {
+            let told = reference::tell_font(store, out, font);
+            two(told.refusal, told.count)
+        }),
         Call::TellCharacter { font, code } => {
             let told = reference::tell_character(store, out, font, code);
             two(told.refusal, told.count)

@@ -15,7 +15,7 @@ pub struct Input {
 /// A name, and its input for a store of a length.
 pub type Named = (&'static str, fn(usize) -> Input);
 
-pub const INPUTS: [Named; 32] = [
+pub const INPUTS: [Named; 35] = [
     ("choose, store full of fonts", choose_among_fonts),
     ("choose, class 2 characters kept", choose_beside_runs),
     ("choose, class 1 characters kept", choose_beside_dots),
@@ -40,6 +40,9 @@ pub const INPUTS: [Named; 32] = [
     ),
     ("tell the last of many fonts", tell_last_font),
     ("tell the last of many characters", tell_last_character),
+    ("tell a font of 224 characters", tell_font_of_224),
+    ("list ten fonts of characters", list_ten_fonts),
+    ("check many small characters", check_small_characters),
     ("draw a class 2 picture", draw_runs),
     ("draw a class 1 picture", draw_dots),
     ("draw the last row, class 2", draw_last_row),
@@ -67,6 +70,12 @@ pub const INPUTS: [Named; 32] = [
         turn(300, 3000, 3, length)
     }),
 ];
+
+/// The bytes that a font's and a character's record take beside data, and those
+/// before the first.
+const FONT_RECORD: usize = 78;
+const CHARACTER_RECORD: usize = 26;
+const MARK_RECORD: usize = 12;
 
 const REQUEST: Request = Request {
     symbol_set: 277,
@@ -151,7 +160,7 @@ fn fresh(length: usize) -> Vec<u8> {
 /// Fonts 1, 2, .. as long as `spare` bytes are left.
 fn full_of_fonts(length: usize, spare: usize) -> (Vec<u8>, usize) {
     let mut store = fresh(length);
-    let fonts = (length - 12 - spare) / 72;
+    let fonts = (length - MARK_RECORD - spare) / FONT_RECORD;
     for number in 1..=fonts {
         let block = header(number);
         assert_eq!(
@@ -164,6 +173,11 @@ fn full_of_fonts(length: usize, spare: usize) -> (Vec<u8>, usize) {
 
 /// Font 5 with characters of codes 1, 2, .. as long as `spare` bytes are left.
 fn full_of_characters(length: usize, spare: usize, class: u8) -> (Vec<u8>, u32) {
+    at_most(255, length, spare, class)
+}
+
+/// The same with fewer codes.
+fn at_most(most: usize, length: usize, spare: usize, class: u8) -> (Vec<u8>, u32) {
     let mut store = fresh(length);
     assert_eq!(reference::download_font(&mut store, &header(1), 5), 0);
     // 255 codes fill a store of 64 KiB; fewer, as large, a smaller one.
@@ -173,8 +187,9 @@ fn full_of_characters(length: usize, spare: usize, class: u8) -> (Vec<u8>, u32) 
     };
     let (width, height) = if class == 1 { (64, 28) } else { (96, 20) };
     let block = first_block(class, width, height, &data);
-    let record = 26 + data.len();
-    let codes = ((length - 84 - spare) / record).min(255) as u32;
+    let record = CHARACTER_RECORD + data.len();
+    let room = length - MARK_RECORD - FONT_RECORD - spare;
+    let codes = (room / record).min(most) as u32;
     for code in 1..=codes {
         assert_eq!(
             reference::download_character(&mut store, &block, 5, code),
@@ -187,6 +202,12 @@ fn full_of_characters(length: usize, spare: usize, class: u8) -> (Vec<u8>, u32) 
 /// Ten fonts, and class 2 characters of codes 1, 2, .. in each of them in turn, as
 /// long as they fit: 60 KB of them in 64 KiB.
 fn fonts_with_runs(length: usize) -> Vec<u8> {
+    let data = runs(96, 20, 17);
+    ten_fonts(length, &first_block(2, 96, 20, &data))
+}
+
+/// Ten fonts with as many characters of this block as fit.
+fn ten_fonts(length: usize, block: &[u8]) -> Vec<u8> {
     let mut store = fresh(length);
     for number in 1..=10 {
         let block = header(number);
@@ -195,13 +216,12 @@ fn fonts_with_runs(length: usize) -> Vec<u8> {
             0
         );
     }
-    let data = runs(96, 20, 17);
-    let block = first_block(2, 96, 20, &data);
-    let characters = (length - 12 - 10 * 72) / (26 + data.len());
+    let record = CHARACTER_RECORD + block.len() - 16;
+    let characters = (length - MARK_RECORD - 10 * FONT_RECORD) / record;
     for at in 0..characters as u32 {
         let (font, code) = (1 + at % 10, 1 + at / 10);
         assert_eq!(
-            reference::download_character(&mut store, &block, font, code),
+            reference::download_character(&mut store, block, font, code),
             0
         );
     }
@@ -268,7 +288,10 @@ fn make_fresh(length: usize) -> Input {
 fn font_at_the_front(length: usize) -> Input {
     Input {
         given: header(2),
-        ..input(full_of_fonts(length, 72).0, Call::DownloadFont { font: 0 })
+        ..input(
+            full_of_fonts(length, FONT_RECORD).0,
+            Call::DownloadFont { font: 0 },
+        )
     }
 }
 
@@ -348,6 +371,32 @@ fn tell_last_character(length: usize) -> Input {
                 code: codes,
             },
         )
+    }
+}
+
+/// 224 at 64 KiB, of 250 bytes with their records; as many as fit at less.
+fn tell_font_of_224(length: usize) -> Input {
+    Input {
+        out: 64,
+        ..input(at_most(224, length, 0, 1).0, Call::TellFont { font: 5 })
+    }
+}
+
+/// A listing: each font of the store told.
+fn list_ten_fonts(length: usize) -> Input {
+    let store = ten_fonts(length, &first_block(1, 64, 28, &[0x5A; 224]));
+    Input {
+        out: 64,
+        ..input(store, Call::TellEach { fonts: 10 })
+    }
+}
+
+/// 2,400 characters of one byte in 64 KiB: telling the first font is nearly all check.
+fn check_small_characters(length: usize) -> Input {
+    let store = ten_fonts(length, &first_block(1, 8, 1, &[0x5A]));
+    Input {
+        out: 64,
+        ..input(store, Call::TellFont { font: 1 })
     }
 }
 

@@ -333,6 +333,45 @@ static void turning(void)
     TURN(8, 5, 5, 7, 3);
 }
 
+static void tell_count(const char *name)
+{
+    mf_told told = mf_tell_font(store, sizeof store, out, sizeof out, 5);
+    printf("%s: refusal %u, %u characters\n", name, (unsigned)told.refusal,
+           (unsigned)told.count);
+}
+
+/* W-205: the count beside the font after each kind of call; a store with a count or
+ * a sum that is untrue, and one with font records of 72 bytes, as they were before.
+ * Font 5's record begins at byte 12, with its numbers at bytes 20 and 22. */
+static void counting(void)
+{
+    const uint8_t rows[] = {1, 2, 3};
+    const uint8_t more[] = {4, 1, 9};
+    unsigned at;
+
+    mf_make_fresh(store, sizeof store);
+    download(5);
+    tell_count("no character");
+    character(1, 8, 3, rows, 2);
+    tell_count("first block");
+    mf_download_character(store, sizeof store, more, sizeof more, 5, 65);
+    tell_count("continuation");
+    character(1, 8, 1, rows, 1);
+    tell_count("replaced");
+    for (at = 20; at < 26; at++) {
+        store[at] ^= 1;
+        printf("byte %u: ", at);
+        tell_count("untrue");
+        store[at] ^= 1;
+    }
+    tell_count("true again");
+    mf_remove_character(store, sizeof store, 5, 65);
+    tell_count("removed");
+    memmove(store + 20, store + 26, sizeof store - 26);
+    store[12] = 72;
+    tell_count("the version before");
+}
+
 /* The header's names against the numbers answered; document 01's edges. */
 static void refusals(void)
 {
@@ -362,10 +401,12 @@ static void refusals(void)
     download(5);
     SHOW(MF_OUTPUT_SHORT, mf_tell_font(store, sizeof store, out, 63, 5).refusal);
     named(block, 5);
-    mf_make_fresh(store, 84);
-    answer("font in 84 bytes", mf_download_font(store, 84, block, 64, 5));
-    mf_make_fresh(store, 83);
-    SHOW(MF_NO_ROOM, mf_download_font(store, 83, block, 64, 5));
+#define ONE_FONT (MF_STORE_MIN + MF_FONT_ROOM)
+    mf_make_fresh(store, ONE_FONT);
+    printf("font in %d bytes: %u\n", ONE_FONT,
+           (unsigned)mf_download_font(store, ONE_FONT, block, 64, 5));
+    mf_make_fresh(store, ONE_FONT - 1);
+    SHOW(MF_NO_ROOM, mf_download_font(store, ONE_FONT - 1, block, 64, 5));
 }
 
 int main(void)
@@ -376,6 +417,7 @@ int main(void)
     drawing();
     writing();
     turning();
+    counting();
     refusals();
     return 0;
 }

@@ -15,6 +15,15 @@ pub struct Record {
     pub code: Option<u32>,
 }
 
+/// A font's record: its length, and where its kept bytes stand; before them the
+/// number of its characters (2 bytes) and the sum of their data (4 bytes), W-205.
+pub const FONT_RECORD: usize = 78;
+pub const FONT_KEPT: usize = 14;
+pub const FONT_COUNT: usize = 8;
+pub const FONT_SUM: usize = 10;
+/// A character's record without its data.
+pub const CHARACTER_RECORD: usize = 26;
+
 fn low16(bytes: &[u8], at: usize) -> u32 {
     u32::from(bytes[at]) + 256 * u32::from(bytes[at + 1])
 }
@@ -49,6 +58,49 @@ pub fn records(store: &[u8]) -> Vec<Record> {
     found
 }
 
+/// The numbers that a font's record holds: its characters, and their data bytes.
+pub fn held(store: &[u8], font: &Record) -> (u32, u32) {
+    let sum = font.at + FONT_SUM;
+    (
+        low16(store, font.at + FONT_COUNT),
+        low16(store, sum) + 65536 * low16(store, sum + 2),
+    )
+}
+
+/// Every font's record, with the numbers that it holds and those counted anew.
+pub fn counts(store: &[u8]) -> Vec<(Record, (u32, u32), (u32, u32))> {
+    let mut fonts = Vec::new();
+    for record in records(store) {
+        match (record.code, fonts.last_mut()) {
+            (None, _) => fonts.push((record, held(store, &record), (0, 0))),
+            (Some(_), Some((_, _, (characters, data)))) => {
+                *characters += 1;
+                *data += (record.length - CHARACTER_RECORD) as u32;
+            }
+            (Some(_), None) => unreachable!("a character stands behind its font"),
+        }
+    }
+    fonts
+}
+
+/// The held numbers made those of the characters that stand behind each font.
+fn make_counts_true(parts: &mut [Vec<u8>]) {
+    let mut of = None;
+    for at in 0..parts.len() {
+        if parts[at][4] == 2 {
+            of = Some(at);
+            parts[at][FONT_COUNT..FONT_KEPT].fill(0);
+        } else if let Some(font) = of {
+            let data = parts[at].len().saturating_sub(CHARACTER_RECORD) as u32;
+            let font = &mut parts[font];
+            let count = low16(font, FONT_COUNT) as u16 + 1;
+            font[FONT_COUNT..FONT_SUM].copy_from_slice(&count.to_le_bytes());
+            let sum = low16(font, FONT_SUM) + 65536 * low16(font, FONT_SUM + 2) + data;
+            font[FONT_SUM..FONT_KEPT].copy_from_slice(&sum.to_le_bytes());
+        }
+    }
+}
+
 /// The open character of a store.
 pub fn open(store: &[u8]) -> Option<(u32, u32)> {
     (low16(store, 6) == 1).then(|| (low16(store, 8), low16(store, 10)))
@@ -81,7 +133,7 @@ pub fn character<'a>(store: &'a [u8], font: u32, code: u32) -> Option<Kept<'a>> 
         class: bytes[13],
         width: high16(bytes, 20),
         height: high16(bytes, 22),
-        data: &bytes[26..],
+        data: &bytes[CHARACTER_RECORD..],
     })
 }
 
@@ -419,7 +471,7 @@ impl Generator<'_> {
         let orientation = records(store)
             .iter()
             .find(|record| record.font == font)
-            .map_or(0, |record| store[record.at + 8 + 12]);
+            .map_or(0, |record| store[record.at + FONT_KEPT + 12]);
         let class = self.chance.of(&[1, 2, 2]);
         let (mut width, mut height) = self.size();
         let mut class = class;
@@ -431,7 +483,7 @@ impl Generator<'_> {
                     .iter()
                     .find(|record| record.font == font && record.code == Some(code))
                     .map_or(0, |record| record.length);
-            let data = free as i64 - 26 + self.chance.of(&[-1, 0, 0, 1, 1, 2]);
+            let data = free as i64 - CHARACTER_RECORD as i64 + self.chance.of(&[-1, 0, 0, 1, 1, 2]);
             if (1..=16000).contains(&data) {
                 class = 1;
                 width = 8;
@@ -592,7 +644,7 @@ impl Generator<'_> {
         let fonts: Vec<&[u8]> = records(store)
             .iter()
             .filter(|record| record.code.is_none())
-            .map(|record| &store[record.at + 8..record.at + 72])
+            .map(|record| &store[record.at + FONT_KEPT..record.at + FONT_RECORD])
             .collect();
         let mut request = Request {
             symbol_set: chance.of(&[277, 277, 277, 341, 85, 21, 0, 2047]),
@@ -970,15 +1022,56 @@ impl Generator<'_> {
             .iter()
             .find(|record| record.font == font && record.code == Some(200))
             .map_or(0, |record| record.length);
-        let data = (room(store) + taken + 1).saturating_sub(26).max(1);
+        let data = (room(store) + taken + 1)
+            .saturating_sub(CHARACTER_RECORD)
+            .max(1);
         if data > 16384 {
             return None;
         }
-        let mut block = vec![4, 0, 14, 1, store[record.at + 20], 0, 0, 0, 0, 0, 0, 8];
+        let orientation = store[record.at + FONT_KEPT + 12];
+        let mut block = vec![4, 0, 14, 1, orientation, 0, 0, 0, 0, 0, 0, 8];
         block.extend((data as u16).to_be_bytes());
         block.extend([0, 0]);
         block.resize(16 + data, 0xC3);
         Some(block)
+    }
+
+    /// A held count made untrue: by one, by a byte, another font's, or none at all.
+    fn change_count(&mut self, bytes: &mut [u8]) {
+        let fonts = counts(bytes);
+        let chance = &mut *self.chance;
+        let (font, (characters, data), _) = fonts[chance.below(fonts.len())];
+        let other = fonts[chance.below(fonts.len())].1;
+        let by = chance.of(&[1, 255, 256, 65535, 65536, u32::MAX]);
+        let (characters, data) = match chance.below(6) {
+            0 => (characters.wrapping_add(by), data),
+            1 => (characters, data.wrapping_add(by)),
+            2 => (characters.wrapping_add(by), data.wrapping_sub(by)),
+            3 => other,
+            4 => (0, 0),
+            _ => (data, characters),
+        };
+        let numbers = &mut bytes[font.at + FONT_COUNT..font.at + FONT_KEPT];
+        numbers[..2].copy_from_slice(&(characters as u16).to_le_bytes());
+        numbers[2..].copy_from_slice(&data.to_le_bytes());
+    }
+
+    /// The store with font records of 72 bytes, without the held counts: as it was
+    /// written before W-205.
+    pub fn of_the_version_before(store: &[u8]) -> Vec<u8> {
+        let mut bytes = store[..12].to_vec();
+        for record in records(store) {
+            let part = &store[record.at..record.at + record.length];
+            if record.code.is_none() {
+                bytes.extend([72, 0, 0, 0]);
+                bytes.extend(&part[4..FONT_COUNT]);
+                bytes.extend(&part[FONT_KEPT..FONT_KEPT + 64]);
+            } else {
+                bytes.extend(part);
+            }
+        }
+        bytes.resize(store.len(), 0);
+        bytes
     }
 
     /// The store with one byte changed, or its records put otherwise: mostly
@@ -1000,7 +1093,7 @@ impl Generator<'_> {
                 }
                 (false, _) => {
                     let record = records[chance.below(records.len())];
-                    record.at + chance.below(record.length.min(52))
+                    record.at + chance.below(record.length.min(FONT_KEPT + 44))
                 }
             }
             .min(bytes.len() - 1);
@@ -1012,6 +1105,10 @@ impl Generator<'_> {
                 4 => chance.of(&[2, 3, 7, 8, 16, 64, 128, 249, 248]),
                 _ => chance.of(&[0, 1, 255]),
             };
+            return bytes;
+        }
+        if chance.once_in(4) {
+            self.change_count(&mut bytes);
             return bytes;
         }
         let pick = chance.below(records.len());
@@ -1050,7 +1147,7 @@ impl Generator<'_> {
                 // Kept data at its limit or one byte past it, by zero runs.
                 let of_character = records.iter().position(|record| record.code.is_some());
                 let part = &mut parts[of_character.unwrap_or(pick)];
-                part.resize(26 + chance.of(&[32768, 32769]), 0);
+                part.resize(CHARACTER_RECORD + chance.of(&[32768, 32769]), 0);
                 let length = part.len() as u32;
                 part[..4].copy_from_slice(&length.to_le_bytes());
             }
@@ -1064,6 +1161,10 @@ impl Generator<'_> {
                 bytes.resize(length, 0);
                 return bytes;
             }
+        }
+        // So that the records' own rules are seen to be held, not the counts alone.
+        if chance.below(4) > 0 {
+            make_counts_true(&mut parts);
         }
         let length = bytes.len();
         bytes.truncate(12);

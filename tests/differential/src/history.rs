@@ -4,7 +4,7 @@
 use crate::book::{self, Book, Font};
 use crate::calls::{entries, ours, theirs, Answer, Call, Lending, Lent, Request, ANSWER};
 use crate::chance::Chance;
-use crate::generate::{self, Generator, Reading, Theme};
+use crate::generate::{self, Generator, Reading, Theme, CHARACTER_RECORD, FONT_KEPT};
 use crate::met::Met;
 use marlinfold_reference as reference;
 
@@ -38,14 +38,14 @@ pub fn run(
     let mut chance = Chance::new(seed, number);
     let (theme, length, calls) = match chance.below(40) {
         0 | 1 if !small => {
-            let length = chance.of(&[32860, 32861, 32877, 32878, 32879, 40000, 65535, 65536]);
+            let length = chance.of(&[32866, 32867, 32883, 32884, 32885, 40000, 65535, 65536]);
             (Theme::Giants, length, 24)
         }
         2 if !small => (Theme::Fonts, chance.of(&[4096, 16384, 65536]), 60),
         3..=4 => (Theme::Fonts, chance.between(300, 3000), 60),
         5 => (
             Theme::Small,
-            chance.of(&[12, 13, 18, 83, 84, 85, 155, 156, 157]),
+            chance.of(&[12, 13, 18, 89, 90, 91, 167, 168, 169]),
             20,
         ),
         6 if !small => (Theme::Small, chance.between(20_000, 65_536), 40),
@@ -192,7 +192,25 @@ impl History<'_> {
             let request = self.generator().good_request(&pair.theirs);
             self.demand_3(pair, &request)?;
         }
+        self.counts_are_true(pair)?;
         self.told_as_in_the_book(pair)
+    }
+
+    /// W-205: "Every download, replacement, continuation and removal, also the one
+    /// for lack of room, keeps both equal to a fresh count."
+    fn counts_are_true(&mut self, pair: &Pair) -> Found<()> {
+        for (font, held, anew) in generate::counts(pair.ours.content()) {
+            if held != anew {
+                return Err(format!(
+                    "font {} holds {held:?} characters and data bytes, but has {anew:?}",
+                    font.font
+                ));
+            }
+            if anew.0 == 256 {
+                self.met.situation("font of 256 characters");
+            }
+        }
+        Ok(())
     }
 
     /// "A stream counts as the downloads spelled by its whole commands before
@@ -446,8 +464,14 @@ impl History<'_> {
             font,
         };
         let (answer, out) = self.only_ours(&mut pair.ours, &call)?;
+        let characters = generate::records(&pair.theirs)
+            .iter()
+            .filter(|record| record.font == font && record.code.is_some())
+            .count();
         let right = match self.book.fonts.get(&font) {
-            Some(header) => answer.refusal == 0 && out == header,
+            Some(header) => {
+                answer.refusal == 0 && out == header && answer.number() as usize == characters
+            }
             None => answer.refusal == 6 && out == [0x55; 64],
         };
         match right {
@@ -461,7 +485,11 @@ impl History<'_> {
 
     /// A few calls on a copy with one byte changed or records put otherwise.
     fn changed(&mut self, pair: &Pair) -> Found<()> {
-        let bytes = self.generator().changed(&pair.theirs);
+        let bytes = match self.chance.once_in(40) {
+            true => Generator::of_the_version_before(&pair.theirs),
+            false => self.generator().changed(&pair.theirs),
+        };
+        self.counts_changed(&bytes, &pair.theirs)?;
         self.met.situation(match reference::is_store(&bytes) {
             true => "a changed buffer is still a store",
             false => "a changed buffer is no store",
@@ -470,7 +498,7 @@ impl History<'_> {
         let fonts = generate::records(&pair.theirs);
         let changed = first_difference(&bytes, &pair.theirs);
         if fonts.iter().any(|font| {
-            let places = [40, 41].map(|byte| Some(font.at + 8 + byte));
+            let places = [40, 41].map(|byte| Some(font.at + FONT_KEPT + byte));
             font.code.is_none() && places.contains(&changed)
         }) && reference::is_store(&bytes)
         {
@@ -486,6 +514,51 @@ impl History<'_> {
                 )
             })?;
         }
+        Ok(())
+    }
+
+    /// W-205: "1 also where a held count is untrue", said without the reference: a
+    /// store of which only held counts differ is none.
+    fn counts_changed(&mut self, bytes: &[u8], store: &[u8]) -> Found<()> {
+        if bytes == store {
+            return Ok(());
+        }
+        let mut again = bytes.to_vec();
+        let (mut characters, mut data) = (false, false);
+        for (font, ..) in generate::counts(store) {
+            let count = font.at + generate::FONT_COUNT..font.at + generate::FONT_SUM;
+            let sum = font.at + generate::FONT_SUM..font.at + FONT_KEPT;
+            if bytes.len() < sum.end {
+                return Ok(());
+            }
+            characters |= bytes[count.clone()] != store[count.clone()];
+            data |= bytes[sum.clone()] != store[sum.clone()];
+            again[count.start..sum.end].copy_from_slice(&store[count.start..sum.end]);
+        }
+        let before = bytes.len() == store.len()
+            && !generate::records(store).is_empty()
+            && bytes == Generator::of_the_version_before(store);
+        if again != store && !before {
+            return Ok(());
+        }
+        let mut copy = self.pair(bytes);
+        for call in [
+            Call::RemoveFont { font: 0 },
+            Call::Choose(Request::default()),
+        ] {
+            let (answer, _) = self.only_ours(&mut copy.ours, &call)?;
+            if answer.refusal != 1 {
+                return Err(format!(
+                    "{call}\n  answered {answer:?}: a held count is untrue"
+                ));
+            }
+        }
+        self.met.situation(match (before, characters, data) {
+            (true, ..) => "store of the version before refused",
+            (_, true, false) => "untrue count of characters refused",
+            (_, false, _) => "untrue sum of data bytes refused",
+            (_, true, true) => "both numbers untrue, refused",
+        });
         Ok(())
     }
 
@@ -516,7 +589,7 @@ impl History<'_> {
             .into_iter()
             .filter(|record| record.font == font)
             .collect();
-        let long = |record: &&generate::Record| record.length > 26 + 32751;
+        let long = |record: &&generate::Record| record.length > CHARACTER_RECORD + 32751;
         let split = records.iter().filter(long).count();
         let done = (2 * records.len() + split) as u64;
         if answer.refusal != 0 || answer.numbers != [done, 0, 0] {
@@ -573,6 +646,7 @@ impl History<'_> {
         if let (Call::DownloadFont { block, .. }, 0) = (call, answer.refusal) {
             fields_cut(block, met);
         }
+        counts_kept(call, answer, before, after, met);
         match (call, answer.refusal) {
             (Call::DownloadFont { font, .. }, 0) if kept(*font) => {
                 met.situation("font replaced");
@@ -678,6 +752,43 @@ impl History<'_> {
             }
             _ => {}
         }
+    }
+}
+
+/// W-205: what a call made of the held counts of its font, and of others.
+fn counts_kept(call: &Call, answer: &Answer, before: &[u8], after: &[u8], met: &mut Met) {
+    let (font, code) = match call {
+        Call::DownloadCharacter { font, code, .. } | Call::RemoveCharacter { font, code } => {
+            (*font, *code)
+        }
+        _ => return,
+    };
+    let of = |store: &[u8]| {
+        let fonts = generate::counts(store);
+        let found = fonts.iter().find(|(record, ..)| record.font == font);
+        found.map(|(_, held, _)| *held)
+    };
+    let kept = generate::character(before, font, code).is_some();
+    match (call, answer.refusal, of(before), of(after)) {
+        (Call::RemoveCharacter { .. }, 0, Some(_), Some((left, _))) => {
+            met.situation("held count lowered by a removal");
+            if left == 0 {
+                met.situation("last character of a font removed");
+            }
+        }
+        (Call::DownloadCharacter { block, .. }, 0, Some((_, was)), Some((_, now))) => {
+            match (block[1] == 0, kept) {
+                (true, false) => met.situation("held count raised by a first block"),
+                (true, true) if now > was => met.situation("held sum raised by a replacement"),
+                (true, true) if now < was => met.situation("held sum lowered by a replacement"),
+                (false, _) if now > was => met.situation("held sum raised by a continuation"),
+                _ => {}
+            }
+        }
+        (Call::DownloadCharacter { .. }, 10, Some((characters, _)), None) if characters > 1 => {
+            met.situation("font of several characters struck for lack of room");
+        }
+        _ => {}
     }
 }
 

@@ -3,7 +3,7 @@
 use crate::calls::{Answer, Call, CALLS, NAMES, POSSIBLE};
 
 /// Every one must be met by a whole run.
-const SITUATIONS: [&str; 56] = [
+const SITUATIONS: [&str; 68] = [
     "font replaced",
     "font of the open character replaced",
     "font block while a character is open",
@@ -55,6 +55,18 @@ const SITUATIONS: [&str; 56] = [
     "sheet's entry with none to choose",
     "sheet's entry done behind one out of range",
     "sheet refused with 12, all its requests out of range",
+    "held count raised by a first block",
+    "held sum raised by a replacement",
+    "held sum lowered by a replacement",
+    "held sum raised by a continuation",
+    "held count lowered by a removal",
+    "last character of a font removed",
+    "font of several characters struck for lack of room",
+    "font of 256 characters",
+    "untrue count of characters refused",
+    "untrue sum of data bytes refused",
+    "both numbers untrue, refused",
+    "store of the version before refused",
     "a changed buffer is still a store",
     "a changed buffer is no store",
     "round trip",

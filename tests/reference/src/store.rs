@@ -14,9 +14,13 @@ const HEAD: usize = 6;
 /// bytes each".
 const MARK_KIND: u16 = 1;
 const MARK_RECORD: usize = 12;
-/// "Kind 2, 72 bytes: font number, 64 kept bytes."
+/// "Kind 2 [..]: font number, 64 kept bytes." 02, W-205: "The font record is to
+/// hold the number of its characters (2 bytes) and the sum of their kept data bytes
+/// (4 bytes) after the font number, making it 78 bytes."
 const FONT_KIND: u16 = 2;
-const FONT_KEPT: usize = 8;
+const FONT_COUNT: usize = 8;
+const FONT_SUM: usize = 10;
+const FONT_KEPT: usize = 14;
 const FONT_RECORD: usize = FONT_KEPT + HEADER;
 /// "Kind 3, 26 bytes and the data: font number, code, 16 kept bytes, data."
 const CHARACTER_KIND: u16 = 3;
@@ -45,6 +49,56 @@ struct Open {
     font: u32,
     code: u32,
     reading: Reading,
+}
+
+/// 02, W-205: the number of a font's characters, and the sum of their kept data
+/// bytes.
+#[derive(Clone, Copy, Default, PartialEq, Eq)]
+struct Counts {
+    characters: u16,
+    data: u32,
+}
+
+impl Counts {
+    /// As a font's record holds them.
+    fn held(record: &[u8; FONT_RECORD]) -> Counts {
+        Counts {
+            characters: low16(record, FONT_COUNT),
+            data: low32(record, FONT_SUM),
+        }
+    }
+
+    fn write(self, record: &mut [u8]) {
+        record[FONT_COUNT..FONT_SUM].copy_from_slice(&self.characters.to_le_bytes());
+        record[FONT_SUM..FONT_KEPT].copy_from_slice(&self.data.to_le_bytes());
+    }
+
+    fn add(&mut self, data: usize) {
+        self.characters += 1;
+        self.data += data as u32;
+    }
+
+    fn take(&mut self, data: usize) {
+        self.characters -= 1;
+        self.data -= data as u32;
+    }
+}
+
+/// The font whose records the check walks over.
+struct Walked {
+    font: u32,
+    orientation: u8,
+    held: Counts,
+    /// Anew, so far.
+    counted: Counts,
+}
+
+/// 02, W-205: "1 also where a held count is untrue."
+fn counts_are_true(walked: &Option<Walked>) -> bool {
+    match walked {
+        Some(walked) => walked.held == walked.counted,
+        None => true,
+    }
 }
 
 /// What the check of a buffer finds: where its records end, and the open
@@ -83,9 +137,9 @@ fn form_of(bytes: &[u8]) -> Option<Form> {
     };
     let mut open = None;
     // "Fonts stand by rising number, each followed by its characters by rising
-    // code": the font being walked with its orientation, and the least number
-    // and code that may come next.
-    let mut font = None;
+    // code": the font being walked, and the least number and code that may come
+    // next.
+    let mut walked: Option<Walked> = None;
     let mut next_font = 0;
     let mut next_code = 0;
     while let Some(head) = rest.first_chunk::<HEAD>() {
@@ -100,10 +154,19 @@ fn form_of(bytes: &[u8]) -> Option<Form> {
                 let record: &[u8; FONT_RECORD] = record.try_into().ok()?;
                 let number = u32::from(low16(record, 6));
                 let header = Header(record.last_chunk()?);
-                if number < next_font || number > FONT_MAX || !header.is_kept() {
+                if number < next_font
+                    || number > FONT_MAX
+                    || !header.is_kept()
+                    || !counts_are_true(&walked)
+                {
                     return None;
                 }
-                font = Some((number, header.orientation()));
+                walked = Some(Walked {
+                    font: number,
+                    orientation: header.orientation(),
+                    held: Counts::held(record),
+                    counted: Counts::default(),
+                });
                 next_font = number + 1;
                 next_code = 0;
             }
@@ -112,14 +175,15 @@ fn form_of(bytes: &[u8]) -> Option<Form> {
                 let number = u32::from(low16(first, 6));
                 let code = u32::from(low16(first, 8));
                 let descriptor = Descriptor(first.last_chunk()?);
-                let (font, orientation) = font?;
-                if number != font
+                let walked = walked.as_mut()?;
+                if number != walked.font
                     || code < next_code
                     || code > CODE_MAX
-                    || !descriptor.is_kept(orientation)
+                    || !descriptor.is_kept(walked.orientation)
                 {
                     return None;
                 }
+                walked.counted.add(data.len());
                 let reading = block::read_kept_data(descriptor.shape(), data)?;
                 // "the open mark names a kept, incomplete character"
                 if marked == Some((number, code)) {
@@ -127,7 +191,7 @@ fn form_of(bytes: &[u8]) -> Option<Form> {
                         return None;
                     }
                     open = Some(Open {
-                        font,
+                        font: number,
                         code,
                         reading,
                     });
@@ -137,7 +201,7 @@ fn form_of(bytes: &[u8]) -> Option<Form> {
             _ => return None,
         }
     }
-    if marked.is_some() && open.is_none() {
+    if !counts_are_true(&walked) || (marked.is_some() && open.is_none()) {
         return None;
     }
     // "All remaining bytes are 0." Readings: also where fewer bytes are left
@@ -216,6 +280,15 @@ fn code_at(records: &[u8], at: usize) -> u32 {
         records[at + HEAD + 2],
         records[at + HEAD + 3],
     ]))
+}
+
+/// What the font's record at `at` holds.
+fn counts_at(records: &[u8], at: usize) -> Counts {
+    Counts::held(
+        records[at..]
+            .first_chunk()
+            .expect("a font's record stands here"),
+    )
 }
 
 fn header_at(records: &[u8], at: usize) -> Header<'_> {
@@ -361,11 +434,13 @@ impl<'a> View<'a> {
     }
 
     /// "Telling copies the 64 or 16 kept bytes to an output, answers the number
-    /// of characters or of data bytes, and checks as removing does, then 12."
+    /// of characters or of data bytes, and checks as removing does, then 12." The
+    /// number of characters is the held one.
     pub fn tell_font(&self, out: &mut [u8], font: u32) -> Result<u32, Refusal> {
-        let (kept, characters) = self.font_with_characters(font)?;
-        first_of(out, HEADER)?.copy_from_slice(kept);
-        Ok(characters.count() as u32)
+        check_range(font, 0)?;
+        let at = self.font(font)?;
+        first_of(out, HEADER)?.copy_from_slice(header_at(self.records, at).0);
+        Ok(u32::from(counts_at(self.records, at).characters))
     }
 
     pub fn tell_character(&self, out: &mut [u8], font: u32, code: u32) -> Result<u32, Refusal> {
@@ -506,6 +581,14 @@ impl<'a> Store<'a> {
         write_numbers(&mut self.bytes[HEAD..MARK_RECORD], mark);
     }
 
+    /// 02, W-205: "Every download, replacement, continuation and removal, also the
+    /// one for lack of room, keeps both equal to a fresh count."
+    fn recount(&mut self, font_at: usize, change: impl FnOnce(&mut Counts)) {
+        let mut counts = counts_at(self.records(), font_at);
+        change(&mut counts);
+        counts.write(&mut self.bytes[font_at..font_at + FONT_RECORD]);
+    }
+
     /// "It also closes if removed."
     fn close_in_font(&mut self, font: u32) {
         if self.open.is_some_and(|open| open.font == font) {
@@ -530,7 +613,8 @@ impl<'a> Store<'a> {
         self.resize(at, old, FONT_RECORD);
         let record = &mut self.bytes[at..at + FONT_RECORD];
         write_head(record, FONT_RECORD, FONT_KIND);
-        write_numbers(&mut record[HEAD..FONT_KEPT], [font]);
+        write_numbers(&mut record[HEAD..FONT_COUNT], [font]);
+        Counts::default().write(record);
         record[FONT_KEPT..].copy_from_slice(&kept);
         self.close_in_font(font);
         self.cursor = Cursor {
@@ -593,6 +677,12 @@ impl<'a> Store<'a> {
         write_numbers(&mut record[HEAD..CHARACTER_KEPT], [font, code]);
         record[CHARACTER_KEPT..CHARACTER_RECORD].copy_from_slice(&first.kept);
         record[CHARACTER_RECORD..].copy_from_slice(first.data);
+        self.recount(font_at, |counts| {
+            if old > 0 {
+                counts.take(old - CHARACTER_RECORD);
+            }
+            counts.add(first.data.len());
+        });
         self.cursor.at = at;
         // "An accepted first block makes its character the open one if
         // incomplete, else leaves none open."
@@ -631,6 +721,7 @@ impl<'a> Store<'a> {
         self.resize(at + old, 0, data.len());
         write_head(&mut self.bytes[at..], new, CHARACTER_KIND);
         self.bytes[at + old..at + new].copy_from_slice(data);
+        self.recount(font_at, |counts| counts.data += data.len() as u32);
         // "A completing continuation closes it."
         if reading.is_complete() {
             self.set_open(None);
@@ -665,14 +756,15 @@ impl<'a> Store<'a> {
 
     pub fn remove_character(&mut self, font: u32, code: u32) -> Result<(), Refusal> {
         check_range(font, code)?;
-        if self.find_font(font).is_err() {
+        let Ok(font_at) = self.find_font(font) else {
             return Err(Refusal::NoFont);
-        }
+        };
         let Ok(at) = self.find_character(code) else {
             return Err(Refusal::NoCharacter);
         };
         let old = length_at(self.records(), at);
         self.resize(at, old, 0);
+        self.recount(font_at, |counts| counts.take(old - CHARACTER_RECORD));
         if self
             .open
             .is_some_and(|open| open.font == font && open.code == code)

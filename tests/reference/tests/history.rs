@@ -210,8 +210,9 @@ fn the_open_mark() {
 
 #[test]
 fn no_room_for_a_continuation() {
-    // 26 bytes and one of data fill the store.
-    let mut store = with_fonts(12 + 72 + 72 + 27, &[(5, A), (6, B)]);
+    // Two fonts, 26 bytes and one of data fill the store.
+    let length = ONE_FONT + FONT_RECORD + CHARACTER_RECORD + 1;
+    let mut store = with_fonts(length, &[(5, A), (6, B)]);
     let half = first(1, 8, 4, &[1]);
     assert_eq!(download_character(&mut store, &half, 5, 65), 0);
     let filled = store.clone();
@@ -221,7 +222,7 @@ fn no_room_for_a_continuation() {
         10
     );
     assert_eq!(open_mark(&store), CLOSED);
-    assert_eq!(store, with_fonts(12 + 72 + 72 + 27, &[(6, B)]));
+    assert_eq!(store, with_fonts(length, &[(6, B)]));
     // The replaced character's room is free.
     store = filled;
     let whole = first(1, 8, 1, &[9, 9, 9]);
@@ -401,10 +402,10 @@ fn streams_broken_and_whole() {
     // A block as long as a block may be.
     let mut long = A.header().to_vec();
     long.resize(32767, 7);
-    let mut store = fresh(84);
+    let mut store = fresh(ONE_FONT);
     let read = read_stream(&mut store, &font_block(&long));
     assert_eq!((read.refusal, read.done), (0, 1));
-    assert_eq!(store, with_fonts(84, &[(0, A)]));
+    assert_eq!(store, with_fonts(ONE_FONT, &[(0, A)]));
     // Reading checks 1 first.
     let not = StreamRead {
         refusal: 1,
@@ -421,9 +422,10 @@ fn what_is_a_store() {
         0
     );
     assert!(is_store(&store));
-    // Places: the mark's record, font 5 at 12, its character at 84, font 9.
-    let nine = 84 + 26 + 5;
-    let end = nine + 72;
+    // Places: the mark's record, font 5, its character, font 9.
+    let (five, letter) = (MARK_RECORD, ONE_FONT);
+    let nine = letter + CHARACTER_RECORD + 5;
+    let end = nine + FONT_RECORD;
     let changes: &[(usize, u8)] = &[
         (0, 13),
         (4, 2),
@@ -432,29 +434,41 @@ fn what_is_a_store() {
         (7, 1),
         (8, 6),
         (10, 66),
-        (12, 71),
-        (16, 4),
-        (18, 9),
-        (18, 10),
-        (19, 128),
-        (20, 1),
-        (21, 65),
-        (22, 1),
-        (25, 1),
-        (12 + 8 + 12, 1),
-        (84, 32),
-        (88, 2),
-        (90, 9),
-        (93, 1),
-        (94, 5),
-        (95, 1),
-        (97, 3),
-        (98, 1),
-        (99, 1),
-        (108, 128),
-        (113, 6),
+        (five, 77),
+        (five, 72),
+        (five + 4, 4),
+        (five + 6, 9),
+        (five + 6, 10),
+        (five + 7, 128),
+        (five + FONT_COUNT, 0),
+        (five + FONT_COUNT, 2),
+        (five + FONT_COUNT + 1, 1),
+        (five + FONT_SUM, 0),
+        (five + FONT_SUM, 4),
+        (five + FONT_SUM, 6),
+        (five + FONT_SUM + 1, 1),
+        (five + FONT_SUM + 2, 1),
+        (five + FONT_SUM + 3, 1),
+        (five + FONT_KEPT, 1),
+        (five + FONT_KEPT + 1, 65),
+        (five + FONT_KEPT + 2, 1),
+        (five + FONT_KEPT + 5, 1),
+        (five + FONT_KEPT + 12, 1),
+        (letter, 32),
+        (letter + 4, 2),
+        (letter + 6, 9),
+        (letter + 9, 1),
+        (letter + 10, 5),
+        (letter + 11, 1),
+        (letter + 13, 3),
+        (letter + 14, 1),
+        (letter + 15, 1),
+        (letter + 24, 128),
+        (letter + 29, 6),
         (nine + 6, 5),
-        (nine + 8 + 12, 4),
+        (nine + FONT_COUNT, 1),
+        (nine + FONT_SUM, 1),
+        (nine + FONT_KEPT + 12, 4),
         (end, 1),
         (end + 4, 1),
         (399, 1),
@@ -490,14 +504,16 @@ fn what_is_a_store() {
         0
     );
     let mut long = store.clone();
-    long[84] += 1;
+    long[letter] += 1;
+    long[five + FONT_SUM] += 1;
     assert!(!is_store(&long));
     let mut open = store;
     open[6..12].copy_from_slice(&[1, 0, 5, 0, 65, 0]);
     assert!(!is_store(&open));
     // Incomplete, it may be open or not.
-    open[84] -= 1;
-    open[111] = 0;
+    open[letter] -= 1;
+    open[letter + CHARACTER_RECORD + 1] = 0;
+    open[five + FONT_SUM] -= 1;
     assert!(is_store(&open));
     open[6..12].fill(0);
     assert!(is_store(&open));
@@ -527,7 +543,7 @@ fn each_field_of_a_header_on_both_sides() {
         (23, &[0, 255], &[]),
         (24, &[0, 7, 249, 255], &[8, 127, 128, 248]),
     ];
-    let answer = |header: &[u8]| download_font(&mut fresh(84), header, 0);
+    let answer = |header: &[u8]| download_font(&mut fresh(ONE_FONT), header, 0);
     for (at, taken, not) in words {
         for (values, refusal) in [(taken, 0), (not, 5)] {
             for &value in *values {
@@ -606,6 +622,135 @@ fn each_field_of_a_descriptor_on_both_sides() {
     assert_eq!(download_character(&mut store, &block, 5, 65), 0);
 }
 
+/// 02, W-205: "Every download, replacement, continuation and removal, also the one
+/// for lack of room, keeps both equal to a fresh count"; those of a stream too.
+#[test]
+fn the_count_beside_the_font() {
+    let length = MARK_RECORD + 2 * FONT_RECORD + 3 * CHARACTER_RECORD + 8;
+    let mut store = with_fonts(length, &[(5, A), (9, B)]);
+    let counts = |store: &[u8]| (held(store, 5), held(store, 9));
+    assert_eq!(counts(&store), ((0, 0), (0, 0)));
+    let steps: &[(u32, u32, Vec<u8>, (u32, u32))] = &[
+        (5, 65, first(1, 8, 4, &[1, 2, 3, 4]), (1, 4)),
+        // Another code, without data.
+        (5, 66, first(1, 8, 2, &[]), (2, 4)),
+        (5, 66, continuation(&[9]), (2, 5)),
+        // What is dropped isn't counted, nor a continuation that is refused.
+        (5, 66, continuation(&[9, 9, 9]), (2, 6)),
+        (5, 66, continuation(&[9]), (2, 6)),
+        // In place of four bytes, one; then three.
+        (5, 65, first(1, 8, 1, &[7, 7]), (2, 3)),
+        (5, 65, first(2, 8, 1, &[0, 0, 8]), (2, 5)),
+        (5, 65, first(2, 8, 1, &[0, 9]), (2, 5)),
+    ];
+    for (font, code, block, expected) in steps {
+        download_character(&mut store, block, *font, *code);
+        assert_eq!(counts(&store), (*expected, (0, 0)), "{block:?}");
+        let told = tell_font(&store, &mut [0; 64], 5);
+        assert_eq!(told.count, expected.0);
+    }
+    let dot = first(1, 1, 1, &[128]);
+    assert_eq!(download_character(&mut store, &dot, 9, 0), 0);
+    assert_eq!(counts(&store), ((2, 5), (1, 1)));
+    assert_eq!(remove_character(&mut store, 5, 66), 0);
+    assert_eq!(counts(&store), ((1, 3), (1, 1)));
+    assert_eq!(remove_character(&mut store, 5, 66), 7);
+    assert_eq!(counts(&store), ((1, 3), (1, 1)));
+    // Lack of room strikes font 9 alone; a new font of a number has nothing yet.
+    let row = first(1, 8, 40, &[7; 40]);
+    assert_eq!(download_character(&mut store, &row, 9, 1), 10);
+    assert_eq!(held(&store, 5), (1, 3));
+    assert_eq!(tell_font(&store, &mut [0; 64], 9).refusal, 6);
+    let stream = [
+        font_number(5),
+        code(70),
+        character_block(&dot),
+        font_block(&C.header()),
+        font_number(9),
+        font_block(&B.header()),
+        code(1),
+        character_block(&first(1, 8, 2, &[1])),
+        character_block(&continuation(&[2])),
+        character_block(&dot),
+    ]
+    .concat();
+    assert_eq!(read_stream(&mut store, &stream).done, 10);
+    assert_eq!(counts(&store), ((0, 0), (1, 1)));
+    // 256 characters, which one byte wouldn't count.
+    let mut store = with_fonts(65536, &[(5, A)]);
+    for code in 0..256 {
+        assert_eq!(download_character(&mut store, &row, 5, code), 0);
+    }
+    assert_eq!(held(&store, 5), (256, 256 * 40));
+    assert_eq!(tell_font(&store, &mut [0; 64], 5).count, 256);
+}
+
+/// "1 also where a held count is untrue", from every call.
+#[test]
+fn an_untrue_count_is_no_store() {
+    let mut store = with_fonts(600, &[(5, A), (9, B)]);
+    for (font, data) in [(5, &[1, 2][..]), (9, &[1])] {
+        for code in [1, 2] {
+            let block = first(1, 8, 3, data);
+            assert_eq!(download_character(&mut store, &block, font, code), 0);
+        }
+    }
+    let nine = ONE_FONT + 2 * (CHARACTER_RECORD + 2);
+    for font in [MARK_RECORD, nine] {
+        for at in FONT_COUNT..FONT_KEPT {
+            for other in [1, 2, 4, 128, 255] {
+                let mut changed = store.clone();
+                changed[font + at] ^= other;
+                refuses_all(&mut changed);
+            }
+        }
+    }
+    // Both fonts' numbers together true, each untrue.
+    let mut changed = store.clone();
+    changed[MARK_RECORD + FONT_SUM] = 2;
+    changed[nine + FONT_SUM] = 4;
+    refuses_all(&mut changed);
+    // The first font's characters gone, its numbers left standing.
+    let mut changed = store.clone();
+    changed.drain(ONE_FONT..nine);
+    changed.resize(600, 0);
+    refuses_all(&mut changed);
+    assert!(is_store(&store));
+}
+
+/// Font records of 72 bytes, as they were before W-205.
+#[test]
+fn a_store_of_the_version_before() {
+    let mut before = with_fonts(600, &[(5, A)]);
+    before.drain(MARK_RECORD + FONT_COUNT..MARK_RECORD + FONT_KEPT);
+    before[MARK_RECORD] = 72;
+    refuses_all(&mut before);
+}
+
+/// 1 from every call on a store, and nothing changed.
+fn refuses_all(store: &mut [u8]) {
+    let before = store.to_vec();
+    let dot = first(1, 1, 1, &[128]);
+    let mut out = [0xAA; 100];
+    let refusals = [
+        download_font(store, &A.header(), 5),
+        download_character(store, &dot, 5, 65),
+        remove_font(store, 5),
+        remove_character(store, 5, 1),
+        choose(store, &BASE).refusal,
+        choose_sheet(store, &[], &mut []),
+        tell_font(store, &mut out, 5).refusal,
+        tell_character(store, &mut out, 5, 1).refusal,
+        draw_row(store, &mut out, 5, 1, 0),
+        draw_picture(store, &mut out, 5, 1),
+        write_font(store, &mut out, 5).refusal,
+        read_stream(store, b"").refusal,
+    ];
+    assert_eq!(refusals, [1; 12]);
+    assert_eq!(store, before);
+    assert_eq!(out, [0xAA; 100]);
+}
+
 #[test]
 fn forms_that_no_call_leaves() {
     // Class 2 data of 32,769 bytes.
@@ -613,7 +758,9 @@ fn forms_that_no_call_leaves() {
     let block = first(2, 300, 2, &endless(32751));
     assert_eq!(download_character(&mut store, &block, 5, 65), 0);
     let length = |store: &mut [u8], data: u32| {
-        store[84..88].copy_from_slice(&(26 + data).to_le_bytes());
+        store[ONE_FONT..ONE_FONT + 4].copy_from_slice(&(26 + data).to_le_bytes());
+        let sum = MARK_RECORD + FONT_SUM;
+        store[sum..sum + 4].copy_from_slice(&data.to_le_bytes());
         is_store(store)
     };
     assert!(length(&mut store, 32768));
@@ -623,7 +770,7 @@ fn forms_that_no_call_leaves() {
     let block = first(1, 1024, 256, &[]);
     assert_eq!(download_character(&mut store, &block, 5, 65), 0);
     assert!(is_store(&store));
-    set(&mut store, 84 + 10 + 12, 257);
+    set(&mut store, ONE_FONT + 10 + 12, 257);
     assert!(!is_store(&store));
     // The same code twice, the same font twice, and fonts that fall.
     let mut store = with_fonts(400, &[(5, A)]);
@@ -631,12 +778,12 @@ fn forms_that_no_call_leaves() {
     assert_eq!(download_character(&mut store, &block, 5, 65), 0);
     assert_eq!(download_character(&mut store, &block, 5, 66), 0);
     for (code, is) in [(64, false), (65, false), (66, true), (255, true)] {
-        store[84 + 27 + 8] = code;
+        store[ONE_FONT + 27 + 8] = code;
         assert_eq!(is_store(&store), is, "{code}");
     }
     let mut store = with_fonts(400, &[(5, A), (6, A)]);
     for (font, is) in [(4, false), (5, false), (6, true), (255, true)] {
-        store[84 + 6] = font;
+        store[ONE_FONT + 6] = font;
         assert_eq!(is_store(&store), is, "{font}");
     }
 }

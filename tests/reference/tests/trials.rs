@@ -250,12 +250,12 @@ fn a_cut_field_beside_its_extended_byte() {
             extended,
             ..A
         };
-        let store = with_fonts(84, &[(1, font(sent))]);
+        let store = with_fonts(ONE_FONT, &[(1, font(sent))]);
         let mut told = [0; 64];
         assert_eq!(tell_font(&store, &mut told, 1).refusal, 0);
         assert_eq!(told, font(kept).header(), "{sent:?}");
         // What is kept is taken as it is.
-        assert_eq!(with_fonts(84, &[(1, font(kept))]), store);
+        assert_eq!(with_fonts(ONE_FONT, &[(1, font(kept))]), store);
     }
     // So the cut one is the narrower, and the lower.
     let widest = Request { pitch: 0, ..BASE };
@@ -321,15 +321,16 @@ fn p12_a_run_past_the_width() {
     assert_eq!(open_mark(&store), CLOSED);
 }
 
+/// 02, W-205: "the 84-byte case (now 90 and 89)".
 #[test]
-fn a_store_of_84_bytes_takes_one_font_and_83_none() {
-    let mut store = fresh(84);
+fn a_store_that_one_font_fills() {
+    let mut store = fresh(90);
     assert_eq!(download_font(&mut store, &A.header(), 32767), 0);
     assert_eq!(download_font(&mut store, &B.header(), 0), 10);
     assert_eq!(download_font(&mut store, &B.header(), 32767), 0);
-    let mut store = fresh(83);
+    let mut store = fresh(89);
     assert_eq!(download_font(&mut store, &A.header(), 5), 10);
-    assert_eq!(store, fresh(83));
+    assert_eq!(store, fresh(89));
 }
 
 #[test]

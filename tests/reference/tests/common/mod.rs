@@ -90,6 +90,17 @@ pub fn continuation(data: &[u8]) -> Vec<u8> {
     block
 }
 
+/// The records' lengths, of a character's without its data.
+pub const MARK_RECORD: usize = 12;
+pub const FONT_RECORD: usize = 78;
+pub const CHARACTER_RECORD: usize = 26;
+/// Where a font's record holds its numbers (W-205) and its kept bytes.
+pub const FONT_COUNT: usize = 8;
+pub const FONT_SUM: usize = 10;
+pub const FONT_KEPT: usize = 14;
+/// A store that one font fills; its characters begin here.
+pub const ONE_FONT: usize = MARK_RECORD + FONT_RECORD;
+
 pub fn fresh(length: usize) -> Vec<u8> {
     let mut store = vec![0xEE; length];
     assert_eq!(make_fresh(&mut store), 0);
@@ -103,6 +114,21 @@ pub fn with_fonts(length: usize, fonts: &[(u32, Font)]) -> Vec<u8> {
         assert_eq!(download_font(&mut store, &font.header(), number), 0);
     }
     store
+}
+
+/// What a font's record holds: how many characters, and the sum of their data.
+pub fn held(store: &[u8], font: u32) -> (u32, u32) {
+    let mut at = MARK_RECORD;
+    loop {
+        let length = u32::from_le_bytes(store[at..at + 4].try_into().unwrap());
+        let number = u16::from_le_bytes([store[at + 6], store[at + 7]]);
+        if store[at + 4] == 2 && u32::from(number) == font {
+            let count = u16::from_le_bytes([store[at + FONT_COUNT], store[at + FONT_COUNT + 1]]);
+            let sum = store[at + FONT_SUM..at + FONT_KEPT].try_into().unwrap();
+            return (u32::from(count), u32::from_le_bytes(sum));
+        }
+        at += length as usize;
+    }
 }
 
 /// The body of the store's first record: open mark, font number, code.

@@ -198,8 +198,12 @@ impl Model {
             bytes.extend(two(number));
         }
         for (&number, font) in &self.fonts {
-            bytes.extend([72, 0, 0, 0, 2, 0]);
+            bytes.extend([78, 0, 0, 0, 2, 0]);
             bytes.extend(two(number));
+            // W-205, counted anew each time.
+            bytes.extend(two(font.characters.len() as u32));
+            let data = font.characters.values().map(|c| c.data.len() as u32);
+            bytes.extend(data.sum::<u32>().to_le_bytes());
             bytes.extend(&font.header);
             for (&code, character) in &font.characters {
                 bytes.extend((26 + character.data.len() as u32).to_le_bytes());
@@ -240,7 +244,7 @@ impl Model {
             let body = bytes.get(at..)?.get(..length)?;
             if two(at + 4) == 2 {
                 let font = Font {
-                    header: body.get(8..)?.to_vec(),
+                    header: body.get(14..)?.to_vec(),
                     characters: BTreeMap::new(),
                 };
                 model.fonts.insert(two(at + 6), font);
