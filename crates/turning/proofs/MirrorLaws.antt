@@ -13,7 +13,7 @@ use lib.Pow.{high, pow-mono, shl-shr}
 use Rattle.pictures.specs.Dots.{dotsIn}
 use Rattle.pictures.specs.Size.{rowSize, pictureSize}
 use Rattle.turning.specs.Turn.{each, pictureRows, turned}
-use Rattle.turning.specs.Mirror.{mirror, joinedDots, mirroredAt, halfByte}
+use Rattle.turning.specs.Mirror.{mirror, joinedDots, mirroredAt, halfByte, MirroredInto, pairBefore}
 use Rattle.turning.proofs.DotLaws.{dotIn, dot-bits, bits-lt, dot-above, dot-none, dot-shr, dot-low, byte-is}
 use Rattle.turning.proofs.PictureLaws.{dot, each-at, each-past, drawn-at, length-drawn, dot-at, written}
 use Rattle.turning.proofs.Places.{turned-places}
@@ -96,6 +96,10 @@ pub row-end : (all out₀ out : List ℕ) (to n v : ℕ) → 0 < n → to + n �
     → out ≡ take (to + (n - 1)) all ++ drop (to + (n - 1)) out₀ → set out (to + (n - 1)) v ≡ take (to + n) all ++ drop (to + n) out₀
 row-end all out₀ out to n v l a b e p = let z : n - 1 + 1 ≡ n = omega arith in rw z at (row-next all out₀ out to n (n - 1) v (omega arith) a b e p)
 
+-- as many bytes as were asked for are written
+pub run-end : (all out₀ out : List ℕ) (to k count : ℕ) → k ≡ count → out ≡ take (to + k) all ++ drop (to + k) out₀ → out ≡ take (to + count) all ++ drop (to + count) out₀
+run-end all out₀ out to k count e p = p ∙ rw e
+
 pub last-at : (to n q : ℕ) (all out₀ out : List ℕ) → q ≡ n - 1 → out ≡ take (to + q) all ++ drop (to + q) out₀ → out ≡ take (to + (n - 1)) all ++ drop (to + (n - 1)) out₀
 last-at to n q all out₀ out e p = p ∙ rw e
 
@@ -108,6 +112,46 @@ joined-as s from n scale q left right e f = rw (e, f)
 pub last-as : (s : List ℕ) (from n scale q left : ℕ) → 0 < n → q ≡ n - 1 → left ≡ mirroredAt s from n q → joinedDots left 0 scale ≡ halfByte s from n scale (n - 1)
 unfolding halfByte
 last-as s from n scale q left l e f = rw (f, e, mirrored-out s from n (n - 1 + 1) (omega arith))
+
+-- ---- eight bytes, two of them read ahead
+pub pair-none : (s : List ℕ) (end : ℕ) → end < 2 → pairBefore s end ≡ 0
+unfolding pairBefore
+pair-none s end l = rw (lt-ltb end 2 l)
+
+pub pair-in : (s : List ℕ) (end : ℕ) → 2 ≤ end → pairBefore s end ≡ getD s (end - 2) 0 + getD s (end - 1) 0 * 256
+unfolding pairBefore
+pair-in s end l = rw (le-ltb end 2 l)
+
+pub eight-next : (s out out' : List ℕ) (end to pair : ℕ) → 8 ≤ end → pair ≡ pairBefore s end → getD s (end - 2) 0 < 256
+    → MirroredInto s (end - 2) (to + 2) 6 (set (set out to (mirror (pair / 256))) (to + 1) (mirror (pair % 256))) out' → MirroredInto s end to 8 out out'
+unfolding MirroredInto
+eight-next s out out' end to pair l e b m all out₀ al ol g p =
+    let x : to + 2 + 6 ≡ to + 8 = omega arith in
+    rw x at (m all out₀ (omega arith) (omega arith) others two)
+  where
+    others : (k : ℕ) → k < 6 → getD all (to + 2 + k) 0 ≡ mirror (getD s (end - 2 - 1 - k) 0)
+    others k q =
+        let y : to + (k + 2) ≡ to + 2 + k = omega arith in
+        let z : end - 1 - (k + 2) ≡ end - 2 - 1 - k = omega arith in
+        rw (y, z) at (g (k + 2) (omega arith))
+
+    first : mirror (pair / 256) ≡ getD all (to + 0) 0
+    first =
+        let z : end - 1 - 0 ≡ end - 1 = omega arith in
+        let f : pair / 256 ≡ getD s (end - 1) 0 = omega (arith, e, pair-in s end (omega arith)) in
+        ap mirror f ∙ sym (rw z at (g 0 (omega arith)))
+
+    second : mirror (pair % 256) ≡ getD all (to + 1) 0
+    second =
+        let z : end - 1 - 1 ≡ end - 2 = omega arith in
+        let f : pair % 256 ≡ getD s (end - 2) 0 = omega (arith, e, pair-in s end (omega arith)) in
+        ap mirror f ∙ sym (rw z at (g 1 (omega arith)))
+
+    one : set out to (mirror (pair / 256)) ≡ take (to + 1) all ++ drop (to + 1) out₀
+    one = rw add-zero at (row-next all out₀ out to 8 0 (mirror (pair / 256)) (omega arith) al ol first (row-none all out₀ out to p))
+
+    two : set (set out to (mirror (pair / 256))) (to + 1) (mirror (pair % 256)) ≡ take (to + 2) all ++ drop (to + 2) out₀
+    two = row-next all out₀ (set out to (mirror (pair / 256))) to 8 1 (mirror (pair % 256)) (omega arith) al ol second one
 
 -- ---- the turned picture: the dots of a row's bytes
 abbrev halfRow : ℕ → ℕ → List ℕ → ℕ → ℕ → Bool
@@ -202,12 +246,14 @@ module _ (w h : ℕ) (s : List ℕ) (p : 0 < w) (full : w % 8 ≡ 0) (enough : p
       ∙ mirrored-in s ((h - 1 - r) * n) n q inside
       ∙ ap (λ (j : ℕ). mirror (getD s j 0)) (from-end n h r q below inside ∙ ap (λ (j : ℕ). h * n - 1 - j) place))
 
-  -- one more byte is written
-  pub bytes-next : (out₀ out : List ℕ) (i v : ℕ) → i < pictureSize w h → pictureSize w h ≤ length out₀ → v ≡ mirror (getD s (pictureSize w h - 1 - i) 0)
-      → out ≡ take i (turned 2 w h s) ++ drop i out₀ → set out i v ≡ take (i + 1) (turned 2 w h s) ++ drop (i + 1) out₀
-  bytes-next out₀ out i v l room e q =
-      let z : suc i ≡ i + 1 = omega arith in
-      rw (q, e, mirrored-byte i l) (rw z at (written (turned 2 w h s) out₀ i (omega (arith, length-half w h s enough)) (omega arith)))
+  -- so many more bytes are written
+  pub run-next : (out₀ out out' : List ℕ) (i from count : ℕ) → from + i ≡ pictureSize w h → count ≤ from → pictureSize w h ≤ length out₀ → MirroredInto s from i count out out'
+      → out ≡ take i (turned 2 w h s) ++ drop i out₀ → out' ≡ take (i + count) (turned 2 w h s) ++ drop (i + count) out₀
+  unfolding MirroredInto
+  run-next out₀ out out' i from count e l room m q = m (turned 2 w h s) out₀ (omega (arith, length-half w h s enough)) (omega arith) each-byte q
+    where
+      each-byte : (k : ℕ) → k < count → getD (turned 2 w h s) (i + k) 0 ≡ mirror (getD s (from - 1 - k) 0)
+      each-byte k x = let z : pictureSize w h - 1 - (i + k) ≡ from - 1 - k = omega arith in sym (rw z at (mirrored-byte (i + k) (omega arith)))
 
   pub bytes-all : (out₀ out : List ℕ) (i : ℕ) → i ≡ pictureSize w h → out ≡ take i (turned 2 w h s) ++ drop i out₀ → out ≡ turned 2 w h s ++ drop (pictureSize w h) out₀
   bytes-all out₀ out i e q = half-all w h s out₀ out h enough refl (q ∙ rw e)

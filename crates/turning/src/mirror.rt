@@ -1,10 +1,10 @@
 // Turns a picture by a half: each row mirrored, the rows from the bottom.
 ghost use mathlib.Core.Path.{_≡_};
 ghost use mathlib.Core.List.{List, _++_};
-ghost use Prim.Native.Nat.{ℕ, _+_, _*_, _-_, _≤_, _<_, _%_, _^_};
-ghost use lib.ListN.{length, getD, take, drop};
+ghost use Prim.Native.Nat.{ℕ, _+_, _*_, _-_, _≤_, _<_, _/_, _%_, _^_};
+ghost use lib.ListN.{length, getD, take, drop, set};
 ghost use Rattle.pictures.specs.Size.{sideLimit, pictureSize};
-ghost use Rattle.turning.specs.Mirror.{mirror, Mirrors, joinedDots, halfByte};
+ghost use Rattle.turning.specs.Mirror.{mirror, Mirrors, joinedDots, halfByte, MirroredInto, pairBefore};
 ghost use Rattle.turning.specs.Turn.{turned};
 use crate::block;
 
@@ -335,7 +335,62 @@ fn mirror_rows(table: &[u8; 256], picture: &[u8], out: &mut [u8], width: usize, 
     }
 }
 
-// Mirrors a picture without padding: all its bytes, from the last.
+// Mirrors the bytes before a place of the picture, from the last, into as many from a place of the output on.
+fn mirror_run(
+    table: &[u8; 256],
+    picture: &[u8],
+    out: &mut [u8],
+    end: usize,
+    to: usize,
+    count: usize,
+)
+    requires { ⌜ Mirrors (now table) × (count ≤ end) × (end ≤ length (now picture)) × (to + count ≤ length (now out)) ⌝ }
+    ensures { λ _. ⌜ MirroredInto (now (picture .entry)) end to count (now (out .entry)) (now (out .exit)) ⌝ }
+{
+    let mut k = 0;
+    while k < count {
+        out[to + k] = mirrored(table, picture[end - 1 - k]);
+        k += 1;
+    }
+}
+
+// The two bytes before a place as one number; 0 where there are not two.
+fn pair_before(picture: &[u8], end: usize) -> u32
+    requires { ⌜ end ≤ length (now picture) ⌝ }
+    ensures { λ r. ⌜ r ≡ pairBefore (now (picture .entry)) end ⌝ }
+{
+    if end < 2 {
+        return 0;
+    }
+    (picture[end - 2] as u32) + (picture[end - 1] as u32) * 256
+}
+
+// Mirrors two bytes, the high one first.
+fn mirror_pair(table: &[u8; 256], pair: u32, out: &mut [u8], to: usize)
+    requires { ⌜ Mirrors (now table) × (pair < 65536) × (to + 2 ≤ length (now out)) ⌝ }
+    ensures { λ _. ⌜ now (out .exit) ≡ set (set (now (out .entry)) to (mirror (pair / 256))) (to + 1) (mirror (pair % 256)) ⌝ }
+{
+    out[to] = mirrored(table, (pair / 256) as u8);
+    out[to + 1] = mirrored(table, (pair % 256) as u8);
+}
+
+// Mirrors the eight bytes before a place, of which two were read ahead.
+fn mirror_eight(
+    table: &[u8; 256],
+    picture: &[u8],
+    out: &mut [u8],
+    end: usize,
+    to: usize,
+    ahead: u32,
+)
+    requires { ⌜ Mirrors (now table) × (8 ≤ end) × (end ≤ length (now picture)) × (to + 8 ≤ length (now out)) × (ahead ≡ pairBefore (now picture) end) ⌝ }
+    ensures { λ _. ⌜ MirroredInto (now (picture .entry)) end to 8 (now (out .entry)) (now (out .exit)) ⌝ }
+{
+    mirror_pair(table, ahead, out, to);
+    mirror_run(table, picture, out, end - 2, to + 2, 6);
+}
+
+// Mirrors a picture without padding: all its bytes, from the last. Loads are what takes time, and a pair is one: it's read a turn ahead, since the compiler would part it again.
 fn mirror_bytes(table: &[u8; 256], picture: &[u8], out: &mut [u8], width: usize, height: usize)
     requires { ⌜ Mirrors (now table) × (0 < width) × (width ≤ sideLimit) × (height ≤ sideLimit) × (width % 8 ≡ 0)
         × (pictureSize width height ≤ length (now picture)) × (pictureSize width height ≤ length (now out)) ⌝ }
@@ -344,11 +399,14 @@ fn mirror_bytes(table: &[u8; 256], picture: &[u8], out: &mut [u8], width: usize,
     let size = height * ((width + 7) / 8);
     let mut i = 0;
     let mut from = size;
-    while i < size {
-        from -= 1;
-        out[i] = mirrored(table, picture[from]);
-        i += 1;
+    let mut ahead = pair_before(picture, size);
+    while 16 <= from {
+        mirror_eight(table, picture, out, from, i, ahead);
+        i += 8;
+        from -= 8;
+        ahead = pair_before(picture, from);
     }
+    mirror_run(table, picture, out, from, i, from);
 }
 
 // Mirrors a picture by the table.
