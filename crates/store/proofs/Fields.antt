@@ -48,6 +48,18 @@ zeros-turn any i s h = rw (drop-cons s i 0, or-zero, add-one) (and-assoc (eqb an
     and-assoc true b c = unfold _&_ in refl
     and-assoc false b c = unfold _&_ in refl
 
+pub zero-here : (i : ℕ) (s : List ℕ) → i < length s → getD s i 0 ≡ 0 → allZero (drop (i + 1) s) ≡ allZero (drop i s)
+unfolding allZero _&_
+zero-here i s h e = rw (drop-cons s i 0, e, add-one)
+
+pub more-here : (i : ℕ) (s : List ℕ) → i < length s → 0 < getD s i 0 → allZero (drop i s) ≡ false
+unfolding allZero _&_
+more-here i s h m = rw (drop-cons s i 0, ne-eqb (getD s i 0) 0 (λ e. absurd (omega arith)))
+
+pub zeros-none : (i : ℕ) (s : List ℕ) → length s ≤ i → allZero (drop i s) ≡ true
+unfolding allZero
+zeros-none i s h = rw (drop-of-length-le s)
+
 pub zeros-end : (any i : ℕ) (s : List ℕ) → length s ≤ i → eqb any 0 & allZero (drop i s) ≡ eqb any 0
 unfolding allZero
 zeros-end any i s h = rw (drop-of-length-le s) (and-true (eqb any 0))

@@ -86,6 +86,21 @@ module _ (s : List ℕ) (at : ℕ) (p : Place s at) where
       go (at-end e z) = records-are [] e
       go (at-record r ts e h q) = let z : none ≡ some r = sym (zero-head (drop at s) x) ∙ h in let y : _≡_ {A = ℕ} 0 1 = cc in absurd (omega arith)
 
+  -- where records stand, there is room for one, and its length is not 0
+  pub record-room : (recordsAt s at ≡ [] → ⊥) → at + characterRecord ≤ length s
+  record-room some-here = go (stands-at (drop at s) (p .recs) (p .is))
+    where
+      go : Standing (drop at s) (p .recs) → at + characterRecord ≤ length s
+      go (at-end e z) = absurd (some-here (records-are [] e))
+      go (at-record r ts e h q) = omega (arith, p .within, headed-size (drop at s) r (head-inv (drop at s) r h), length-drop at s)
+
+  pub record-here : (field 4 at s ≡ 0 → ⊥) → recordsAt s at ≡ [] → ⊥
+  record-here x e = go (stands-at (drop at s) (p .recs) (p .is))
+    where
+      go : Standing (drop at s) (p .recs) → ⊥
+      go (at-end e' z) = x (zeros-field 4 (drop at s) z)
+      go (at-record r ts e' h q) = let z : [] ≡ r ∷ ts = sym e ∙ records-are (r ∷ ts) e' in let y : _≡_ {A = ℕ} 0 1 = ap length z ∙ cc in absurd (omega arith)
+
   -- a record, and those behind it
   met-at : (r : Rec) (ts : List Rec) → p .recs ≡ r ∷ ts → headRec (drop at s) ≡ some r → split (drop (sizeOf r) (drop at s)) ≡ some ts → MetAt s at r (at + sizeOf r)
   unfolding recordsAt

@@ -1,5 +1,7 @@
 // The records of a store one after the other, for callers that know nothing of its form.
-ghost use Rattle.store.specs.Records.{Place, Begun, Meeting};
+ghost use mathlib.Core.Path.{_≡_};
+ghost use mathlib.Core.List.{[]};
+ghost use Rattle.store.specs.Records.{Place, Begun, Meeting, recordsAt};
 use crate::layout::CHARACTER_KEPT_AT;
 use crate::layout::CHARACTER_RECORD;
 use crate::layout::CODE_AT;
@@ -47,17 +49,12 @@ pub fn begin_records(s: &[u8]) -> Begin
     Begin::At(MARK_RECORD)
 }
 
-pub fn next_record(s: &[u8], at: usize) -> Met
-    requires { ⌜ Place (now s) at ⌝ }
+// The record at a place of the run where one stands.
+pub fn record_at(s: &[u8], at: usize) -> Met
+    requires { ⌜ Place (now s) at × (recordsAt (now s) at ≡ [] → ⊥) ⌝ }
     ensures { λ m. ⌜ Meeting (now (s .entry)) at m ⌝ }
 {
-    if s.len() - at < CHARACTER_RECORD {
-        return Met::End;
-    }
     let len = number::le32(s, at);
-    if len == 0 {
-        return Met::End;
-    }
     let font = number::le16(s, at + NUMBER_AT);
     if number::le16(s, at + KIND_AT) == FONT_KIND {
         return Met::Font {
@@ -74,4 +71,17 @@ pub fn next_record(s: &[u8], at: usize) -> Met
         bytes: at + CHARACTER_RECORD,
         next: at + len,
     }
+}
+
+pub fn next_record(s: &[u8], at: usize) -> Met
+    requires { ⌜ Place (now s) at ⌝ }
+    ensures { λ m. ⌜ Meeting (now (s .entry)) at m ⌝ }
+{
+    if s.len() - at < CHARACTER_RECORD {
+        return Met::End;
+    }
+    if number::le32(s, at) == 0 {
+        return Met::End;
+    }
+    record_at(s, at)
 }

@@ -95,7 +95,7 @@ fn measure_record(s: &[u8], at: usize) -> Measured
     requires { ⌜ Place (now s) at × (recordsAt (now s) at ≡ [] → ⊥) × (length (now s) ≤ mostStore) ⌝ }
     ensures { λ m. ⌜ ((r : Rec) × MetAt (now (s .entry)) at r (m .next) × (m .length ≡ length (writtenRecord r)) × (m .length ≤ 2 * sizeOf r)) ⌝ }
 {
-    match records::next_record(s, at) {
+    match records::record_at(s, at) {
         Met::Font {
             number,
             kept: _,
@@ -182,7 +182,7 @@ fn write_record(s: &[u8], at: usize, out: &mut [u8], to: usize) -> Reached
     requires { ⌜ Place (now s) at × (recordsAt (now s) at ≡ [] → ⊥) × ((r : Rec) (next : ℕ) → MetAt (now s) at r next → to + length (writtenRecord r) ≤ length (now out)) ⌝ }
     ensures { λ p. ⌜ ((r : Rec) × MetAt (now (s .entry)) at r (p .next) × (p .to ≡ to + length (writtenRecord r)) × (now (out .exit) ≡ withBytes (now (out .entry)) to (writtenRecord r))) ⌝ }
 {
-    match records::next_record(s, at) {
+    match records::record_at(s, at) {
         Met::Font { number, kept, next } => {
             let end = kept + KEPT;
             let to = write_font_record(out, to, number as usize, &s[kept..end]);

@@ -1,31 +1,32 @@
 use Prim.Native.Nat.{_-_}
 use mathlib.Core.Path.{_≡_, refl, sym, _∙_}
+use native.Mathlib.Omega.{arith}
 use denote.Ref.{now}
-use lib.Dec.{eqb}
 use lib.ListN.{length, drop}
-use Rattle.store.specs.Num.{_&_, allZero}
-use Rattle.store.proofs.Fields.{zeros-turn, zeros-end}
+use Rattle.store.specs.Num.{allZero}
+use Rattle.store.proofs.Fields.{zero-here, more-here, zeros-none}
 use borrow.Author.Needs.{needs}
 use Rattle.store.proofs.number.zeros.Statement.{statement}
 use Rattle.store.proofs.number.zeros.Tie as tie
 
 abbrev Inv-loop : tie.InvT-loop
-Inv-loop s at any₀ i₀ any i = eqb any 0 & allZero (drop i s) ≡ allZero (drop at s)
+Inv-loop s at i₀ i = allZero (drop i s) ≡ allZero (drop at s)
 
 abbrev μ-loop : tie.MeasureT-loop
-μ-loop s at any₀ i₀ any i = length s - i
+μ-loop s at i₀ i = length s - i
 
-loop-holds : tie.Need-loop-holds Inv-loop μ-loop
-unfolding _&_
-loop-holds c = refl
+returns-2 : tie.Need-returns-2 Inv-loop μ-loop
+returns-2 c =
+    let at = c .before .before .before .before .loop in
+    sym (more-here (at .i) (now (c .before .before .before .before .before .before .args .s)) (c .before .before .before .loop-test .taken) (c .if2 .taken)) ∙ at .inv
 
 loop-again : tie.Need-loop-again Inv-loop μ-loop
 loop-again c =
-    let k3 = c .before .before .before in
-    sym (zeros-turn (c .before .before .loop .any) (c .before .before .loop .i) (now (k3 .args .s)) (c .before .loop-test .taken)) ∙ c .before .before .loop .inv
+    let at = c .before .before .before .before .loop in
+    zero-here (at .i) (now (c .before .before .before .before .before .before .args .s)) (c .before .before .before .loop-test .taken) (omega arith) ∙ at .inv
 
-returns : tie.Need-returns Inv-loop μ-loop
-returns c = sym (zeros-end (c .before .loop .any) (c .before .loop .i) (now (c .before .before .args .s)) (c .loop-test .left)) ∙ c .before .loop .inv
+returns-3 : tie.Need-returns-3 Inv-loop μ-loop
+returns-3 c = sym (zeros-none (c .before .loop .i) (now (c .before .before .before .args .s)) (c .loop-test .left)) ∙ c .before .loop .inv
 
 pub zeros-spec : {M : Type 1} → statement M
 zeros-spec =
@@ -33,9 +34,12 @@ zeros-spec =
     (tie.spec
     Inv-loop
     μ-loop
-    loop-holds
+    (λ c. refl)
+    (λ c κs. search needs)
+    (λ c. c .rest-zeros .ensures ∙ c .before .before .before .loop .inv)
     (λ c. search needs)
+    returns-2
     (λ c. search needs)
     (λ c. search needs)
     loop-again
-    returns)
+    returns-3)

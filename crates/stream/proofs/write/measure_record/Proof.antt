@@ -8,12 +8,12 @@ use Rattle.stream.proofs.write.measure_record.Tie as tie
 
 -- what was met, where a pattern has bound it
 at-font : (c : tie.After-known-told) → FontMet (now (c .before .before .before .before .before .args .s)) (c .before .before .before .before .before .args .at) (c .before .number .given .0 .0) (c .before .number .given .0 .1 .0) (c .before .number .given .0 .1 .1 .0)
-at-font c = met-font _ _ _ (c .before .before .before .next-record .ensures) _ _ _ (c .before .number .given .1)
+at-font c = met-font _ _ _ (c .before .before .before .record-at .ensures) _ _ _ (c .before .number .given .1)
 
 at-character : (c : tie.After-known-told2)
     → CharacterMet (now (c .before .before .before .before .before .args .s)) (c .before .before .before .before .before .args .at) (c .before .code .given .0 .0) (c .before .code .given .0 .1 .0) (c .before .code .given .0 .1 .1 .0)
     (c .before .code .given .0 .1 .1 .1 .0) (c .before .code .given .0 .1 .1 .1 .1 .0)
-at-character c = met-character _ _ _ (c .before .before .before .next-record .ensures) _ _ _ _ _ (c .before .code .given .1)
+at-character c = met-character _ _ _ (c .before .before .before .record-at .ensures) _ _ _ _ _ (c .before .code .given .1)
 
 sub-character-length : tie.Need-sub-character-length
 sub-character-length c = omega (arith, at-character c .join, at-character c .last)
@@ -28,7 +28,7 @@ returns-2 : tie.Need-returns-2
 returns-2 c = character-measured _ _ _ _ _ _ _ (at-character (c .before)) _ (c .character-length .ensures .0) (c .character-length .ensures .1)
 
 returns-3 : tie.Need-returns-3
-returns-3 c = absurd (c .before .before .before .before .pre .1 (met-end _ _ _ (c .before .before .next-record .ensures) (c .enum-told .given .1)))
+returns-3 c = absurd (c .before .before .before .before .pre .1 (met-end _ _ _ (c .before .before .record-at .ensures) (c .enum-told .given .1)))
 
 pub measure-record-spec : {M : Type 1} → statement M
 measure-record-spec =
