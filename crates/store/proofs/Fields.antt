@@ -6,8 +6,8 @@ use Prim.Native.Nat.{ℕ, suc, _+_, _*_, _-_, _<_, _≤_}
 use native.Mathlib.Omega.{arith}
 use native.Mathlib.Numerals.{add-one}
 use lib.Bits.{bitOr, or-add-and, and-le-r}
-use lib.ListN.{length, getD, take, drop, drop-of-length-le}
-use lib.Seq.{drop-drop, drop-cons}
+use lib.ListN.{length, getD, take, drop, drop-of-length-le, length-drop}
+use lib.Seq.{drop-drop, drop-cons, take-all}
 use lib.Dec.{eqb}
 use borrow.Author.Tests.{eqb-true, eqb-false, ne-eqb}
 use Rattle.store.specs.Num.{_&_, num, field, allZero, wordEnd}
@@ -55,6 +55,9 @@ zero-here i s h e = rw (drop-cons s i 0, e, add-one)
 pub more-here : (i : ℕ) (s : List ℕ) → i < length s → 0 < getD s i 0 → allZero (drop i s) ≡ false
 unfolding allZero _&_
 more-here i s h m = rw (drop-cons s i 0, ne-eqb (getD s i 0) 0 (λ e. absurd (omega arith)))
+
+pub zeros-part : (i : ℕ) (s : List ℕ) → allZero (take (length s - i) (drop i s)) ≡ allZero (drop i s)
+zeros-part i s = ap allZero (take-all (length s - i) (drop i s) (simp length-drop (omega arith)))
 
 pub zeros-none : (i : ℕ) (s : List ℕ) → length s ≤ i → allZero (drop i s) ≡ true
 unfolding allZero

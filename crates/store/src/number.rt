@@ -25,12 +25,12 @@ pub fn le32(s: &[u8], at: usize) -> usize
     le16(s, at) + WORD_END * le16(s, at + 2)
 }
 
-// Whether all bytes from a place on are 0. It has no early end, so that many bytes are tested at a time.
-fn rest_zeros(s: &[u8], at: usize) -> bool
-    ensures { λ r. ⌜ r ≡ allZero (drop at (now (s .entry))) ⌝ }
+// Whether all bytes are 0. It has no early end, so that many bytes are tested at a time.
+fn all_zeros(s: &[u8]) -> bool
+    ensures { λ r. ⌜ r ≡ allZero (now (s .entry)) ⌝ }
 {
     let mut any: u8 = 0;
-    let mut i = at;
+    let mut i = 0;
     while i < s.len() {
         any = any | s[i];
         i += 1;
@@ -41,15 +41,15 @@ fn rest_zeros(s: &[u8], at: usize) -> bool
 // How many bytes a machine reads at once.
 const AT_ONCE: usize = 16;
 
-// The same, one by one up to a multiple of those: a buffer mostly begins at one, and what is read at once is then nowhere parted between two
-// lines of the machine's memory.
+// Whether all bytes from a place on are 0: one by one up to a multiple of those. A buffer mostly begins at one, and what is read at once is
+// then nowhere parted between two lines of the machine's memory.
 pub(crate) fn zeros(s: &[u8], at: usize) -> bool
     ensures { λ r. ⌜ r ≡ allZero (drop at (now (s .entry))) ⌝ }
 {
     let mut i = at;
     while i < s.len() {
         if i % AT_ONCE == 0 {
-            return rest_zeros(s, i);
+            return all_zeros(&s[i..]);
         }
         if 0 < s[i] {
             return false;

@@ -22,8 +22,8 @@ fn short_count(n: usize) -> usize
     4
 }
 
-// How many digits a number has.
-pub fn digit_count(n: usize) -> usize
+// How many digits a number has, four by four.
+fn long_count(n: usize) -> usize
     ensures { λ r. ⌜ r ≡ length (decimal n) ⌝ }
 {
     let mut rest = n;
@@ -33,6 +33,16 @@ pub fn digit_count(n: usize) -> usize
         behind += 4;
     }
     behind + short_count(rest)
+}
+
+// How many digits a number has. Most numbers are short, and their count is then no sum.
+pub fn digit_count(n: usize) -> usize
+    ensures { λ r. ⌜ r ≡ length (decimal n) ⌝ }
+{
+    if n < 10000 {
+        return short_count(n);
+    }
+    long_count(n)
 }
 
 // Writes a number at a place, the last digit first, and returns the place behind it.

@@ -4,7 +4,7 @@ use native.Mathlib.Omega.{arith}
 use denote.Ref.{now}
 use lib.ListN.{length, drop}
 use Rattle.store.specs.Num.{allZero}
-use Rattle.store.proofs.Fields.{zero-here, more-here, zeros-none}
+use Rattle.store.proofs.Fields.{zero-here, more-here, zeros-part, zeros-none}
 use borrow.Author.Needs.{needs}
 use Rattle.store.proofs.number.zeros.Statement.{statement}
 use Rattle.store.proofs.number.zeros.Tie as tie
@@ -14,6 +14,11 @@ Inv-loop s at i₀ i = allZero (drop i s) ≡ allZero (drop at s)
 
 abbrev μ-loop : tie.MeasureT-loop
 μ-loop s at i₀ i = length s - i
+
+returns : tie.Need-returns Inv-loop μ-loop
+returns c =
+    let at = c .before .before .before .before .loop in
+    c .all-zeros .ensures ∙ zeros-part (at .i) (now (c .before .before .before .before .before .before .args .s)) ∙ at .inv
 
 returns-2 : tie.Need-returns-2 Inv-loop μ-loop
 returns-2 c =
@@ -35,8 +40,11 @@ zeros-spec =
     Inv-loop
     μ-loop
     (λ c. refl)
+    (λ c. search needs)
+    (λ c. search needs)
+    (λ c. search needs)
     (λ c κs. search needs)
-    (λ c. c .rest-zeros .ensures ∙ c .before .before .before .loop .inv)
+    returns
     (λ c. search needs)
     returns-2
     (λ c. search needs)

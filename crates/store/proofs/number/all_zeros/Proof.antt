@@ -6,14 +6,14 @@ use lib.ListN.{length, drop}
 use Rattle.store.specs.Num.{_&_, allZero}
 use Rattle.store.proofs.Fields.{zeros-turn, zeros-end}
 use borrow.Author.Needs.{needs}
-use Rattle.store.proofs.number.rest_zeros.Statement.{statement}
-use Rattle.store.proofs.number.rest_zeros.Tie as tie
+use Rattle.store.proofs.number.all_zeros.Statement.{statement}
+use Rattle.store.proofs.number.all_zeros.Tie as tie
 
 abbrev Inv-loop : tie.InvT-loop
-Inv-loop s at any₀ i₀ any i = eqb any 0 & allZero (drop i s) ≡ allZero (drop at s)
+Inv-loop s any₀ i₀ any i = eqb any 0 & allZero (drop i s) ≡ allZero s
 
 abbrev μ-loop : tie.MeasureT-loop
-μ-loop s at any₀ i₀ any i = length s - i
+μ-loop s any₀ i₀ any i = length s - i
 
 loop-holds : tie.Need-loop-holds Inv-loop μ-loop
 unfolding _&_
@@ -27,8 +27,8 @@ loop-again c =
 returns : tie.Need-returns Inv-loop μ-loop
 returns c = sym (zeros-end (c .before .loop .any) (c .before .loop .i) (now (c .before .before .args .s)) (c .loop-test .left)) ∙ c .before .loop .inv
 
-pub rest-zeros-spec : {M : Type 1} → statement M
-rest-zeros-spec =
+pub all-zeros-spec : {M : Type 1} → statement M
+all-zeros-spec =
     tie.close
     (tie.spec
     Inv-loop

@@ -4,8 +4,8 @@ use native.Mathlib.Omega.{arith}
 use lib.ListN.{length}
 use Rattle.stream.specs.Digits.{decimal}
 use Rattle.stream.proofs.Decimals.{length-four, decimal-short}
-use Rattle.stream.proofs.digits.digit_count.Statement.{statement}
-use Rattle.stream.proofs.digits.digit_count.Tie as tie
+use Rattle.stream.proofs.digits.long_count.Statement.{statement}
+use Rattle.stream.proofs.digits.long_count.Tie as tie
 
 abbrev Inv-loop : tie.InvT-loop
 Inv-loop n rest₀ behind₀ rest behind = behind + length (decimal rest) ≡ length (decimal n)
@@ -34,8 +34,8 @@ add-result c = omega (arith, c .before .before .loop .inv, c .short-count .ensur
 returns : tie.Need-returns Inv-loop μ-loop
 returns c = omega (arith, c .before .before .loop .inv, c .short-count .ensures)
 
-pub digit-count-spec : {M : Type 1} → statement M
-digit-count-spec =
+pub long-count-spec : {M : Type 1} → statement M
+long-count-spec =
     tie.close
     (tie.spec
     Inv-loop
