@@ -40,7 +40,7 @@ pub floor-length : (at : ℕ) (l : List ℕ) → length (floorWord at l) ≡ len
 floor-length at l = either (λ x. length x ≡ length l) (negative 16 (word l at)) (putWord at 0 l) l (simp length-set) refl
 
 -- ---- the field itself
-put-at : (at v : ℕ) (l : List ℕ) → at + 1 < length l → word (putWord at v l) at ≡ v
+pub put-at : (at v : ℕ) (l : List ℕ) → at + 1 < length l → word (putWord at v l) at ≡ v
 put-at at v l h =
     let m = set l at (v / 256) in
     let high : byte (putWord at v l) at ≡ v / 256 =

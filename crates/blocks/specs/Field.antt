@@ -3,7 +3,7 @@ use Prim.Native.Nat.{ℕ, _+_, _*_, _/_, _%_, _^_}
 use mathlib.Core.List.{List}
 use mathlib.Core.Bool.{Bool, _&&_, cond}
 use lib.ListN.{getD, set}
-use lib.Dec.{leb, ltb}
+use lib.Dec.{leb, ltb, eqb}
 use lib.IntN.{ℤ, pos, subℕ}
 use lib.Signed.{leZ, ltZ}
 
@@ -18,6 +18,10 @@ join high low = high * 256 + low
 -- the 16-bit number at a place
 abbrev pub word : List ℕ → ℕ → ℕ
 word b at = join (byte b at) (byte b (at + 1))
+
+-- the 16-bit number at a place is v, byte by byte
+abbrev pub isWord : ℕ → ℕ → List ℕ → Bool
+isWord at v b = eqb (byte b at) (v / 256) && eqb (byte b (at + 1)) (v % 256)
 
 -- a field of w bits, read as a two's complement number
 unfoldable pub signed : ℕ → ℕ → ℤ

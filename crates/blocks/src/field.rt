@@ -2,7 +2,7 @@
 ghost use mathlib.Core.Path.{_≡_};
 ghost use Prim.Native.Nat.{_+_, _<_, _≤_};
 ghost use lib.ListN.{length, take};
-ghost use Rattle.blocks.specs.Field.{join, word, negative, signedWithin, putWord, capExtended, floorWord};
+ghost use Rattle.blocks.specs.Field.{join, word, isWord, negative, signedWithin, putWord, capExtended, floorWord};
 ghost use Rattle.blocks.specs.Header.{weightLimit};
 ghost use Rattle.blocks.specs.Character.{offsetLimit};
 
@@ -27,6 +27,14 @@ pub fn word(s: &[u8], at: usize) -> u16
     ensures { λ r. ⌜ r ≡ word (now (s .entry)) at ⌝ }
 {
     join(s[at], s[at + 1])
+}
+
+// Whether the 16-bit field at a place is this number.
+pub(crate) fn is_word(s: &[u8], at: usize, value: u16) -> bool
+    requires { ⌜ at + 1 < length (now s) ⌝ }
+    ensures { λ r. ⌜ r ≡ isWord at value (now (s .entry)) ⌝ }
+{
+    (s[at] == (value / 256) as u8) & (s[at + 1] == (value % 256) as u8)
 }
 
 // A stroke weight within its limit.

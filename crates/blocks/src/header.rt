@@ -2,14 +2,16 @@
 ghost use mathlib.Core.Path.{_≡_};
 ghost use Prim.Native.Nat.{_≤_};
 ghost use lib.ListN.{length};
-ghost use Rattle.blocks.specs.Header.{headerBytes, orientation, headerForm, headerFields, readHeader, fixHeader, keptHeader, isKeptHeader, fixedHeader};
+ghost use Rattle.blocks.specs.Header.{plainBytes, headerBytes, orientation, saysResolution, ownBytes, headerForm, headerFields, bothAre, headerResolution, readHeader, firstBytes, fixHeader, keptHeader, isKeptHeader, fixedHeader};
 use crate::Verdict;
 use crate::field;
 
-// A block has at most so many bytes; of a header so many are kept.
+// A block has at most so many bytes; so many are kept of every header; one of format 0 has so many itself.
 pub const BLOCK_LIMIT: usize = 32767;
 
-pub const KEPT: usize = 64;
+pub const KEPT: usize = 68;
+
+const PLAIN: usize = 64;
 
 // Where the fields stand.
 const DESCRIPTOR_SIZE_AT: usize = 0;
@@ -46,8 +48,18 @@ const PITCH_EXTENDED_AT: usize = 40;
 
 const HEIGHT_EXTENDED_AT: usize = 41;
 
-// The format that is taken, and how far the fields go.
-const BITMAP_FORMAT: u8 = 0;
+const X_RESOLUTION_AT: usize = 64;
+
+const Y_RESOLUTION_AT: usize = 66;
+
+// The formats that are taken, the second of which says its resolution, and how far the fields go.
+const PLAIN_FORMAT: u8 = 0;
+
+const RESOLUTION_FORMAT: u8 = 20;
+
+const COARSE_RESOLUTION: u16 = 300;
+
+const FINE_RESOLUTION: u16 = 600;
 
 const LAST_FONT_TYPE: u8 = 2;
 
@@ -65,22 +77,40 @@ const HEIGHT_LIMIT: u16 = 10922;
 
 // The orientation of a header.
 pub fn orientation(h: &[u8]) -> u8
-    requires { ⌜ headerBytes ≤ length (now h) ⌝ }
+    requires { ⌜ plainBytes ≤ length (now h) ⌝ }
     ensures { λ r. ⌜ r ≡ orientation (now (h .entry)) ⌝ }
 {
     h[ORIENTATION_AT]
 }
 
+// Whether a header is of the format that says its resolution.
+fn says_resolution(h: &[u8]) -> bool
+    requires { ⌜ plainBytes ≤ length (now h) ⌝ }
+    ensures { λ r. ⌜ r ≡ saysResolution (now (h .entry)) ⌝ }
+{
+    h[FORMAT_AT] == RESOLUTION_FORMAT
+}
+
+// How many bytes a header has at least, by its format.
+pub fn own_bytes(h: &[u8]) -> usize
+    requires { ⌜ plainBytes ≤ length (now h) ⌝ }
+    ensures { λ r. ⌜ (r ≡ ownBytes (now (h .entry))) × (r ≤ headerBytes) ⌝ }
+{
+    if says_resolution(h) { KEPT } else { PLAIN }
+}
+
 fn header_form(block: &[u8]) -> bool
-    requires { ⌜ headerBytes ≤ length (now block) ⌝ }
+    requires { ⌜ plainBytes ≤ length (now block) ⌝ }
     ensures { λ r. ⌜ r ≡ headerForm (now (block .entry)) ⌝ }
 {
+    let least = own_bytes(block);
     let size = field::word(block, DESCRIPTOR_SIZE_AT) as usize;
-    (block[FORMAT_AT] == BITMAP_FORMAT) & ((KEPT <= size) & (size <= block.len()))
+    ((block[FORMAT_AT] == PLAIN_FORMAT) | says_resolution(block))
+        & ((least <= size) & (size <= block.len()))
 }
 
 fn header_fields(block: &[u8]) -> bool
-    requires { ⌜ headerBytes ≤ length (now block) ⌝ }
+    requires { ⌜ plainBytes ≤ length (now block) ⌝ }
     ensures { λ r. ⌜ r ≡ headerFields (now (block .entry)) ⌝ }
 {
     (block[FONT_TYPE_AT] <= LAST_FONT_TYPE)
@@ -94,11 +124,33 @@ fn header_fields(block: &[u8]) -> bool
         & field::weight_allowed(block[STROKE_WEIGHT_AT])
 }
 
+// Whether X and Y are both this resolution.
+fn both_are(h: &[u8], resolution: u16) -> bool
+    requires { ⌜ headerBytes ≤ length (now h) ⌝ }
+    ensures { λ r. ⌜ r ≡ bothAre resolution (now (h .entry)) ⌝ }
+{
+    field::is_word(h, X_RESOLUTION_AT, resolution) & field::is_word(h, Y_RESOLUTION_AT, resolution)
+}
+
+fn header_resolution(h: &[u8]) -> bool
+    requires { ⌜ ownBytes (now h) ≤ length (now h) ⌝ }
+    ensures { λ r. ⌜ r ≡ headerResolution (now (h .entry)) ⌝ }
+{
+    if says_resolution(h) {
+        both_are(h, COARSE_RESOLUTION) | both_are(h, FINE_RESOLUTION)
+    } else {
+        true
+    }
+}
+
 // The checks of a font block, in document 01's order.
 pub fn read_header(block: &[u8]) -> Verdict
     ensures { λ r. ⌜ r ≡ readHeader (now (block .entry)) ⌝ }
 {
-    if block.len() < KEPT {
+    if block.len() < PLAIN {
+        return Verdict::Refused(3);
+    }
+    if block.len() < own_bytes(block) {
         return Verdict::Refused(3);
     }
     if BLOCK_LIMIT < block.len() {
@@ -107,17 +159,32 @@ pub fn read_header(block: &[u8]) -> Verdict
     if !header_form(block) {
         return Verdict::Refused(4);
     }
-    if !header_fields(block) {
+    if !(header_fields(block) & header_resolution(block)) {
         return Verdict::Refused(5);
     }
     Verdict::Taken
+}
+
+// Copies the bytes of an accepted block that the rules then change. A format 0 font gets its resolution.
+fn copy_first(block: &[u8], out: &mut [u8])
+    requires { ⌜ (ownBytes (now block) ≤ length (now block)) × (length (now out) ≡ headerBytes) ⌝ }
+    ensures { λ _. ⌜ now (out .exit) ≡ firstBytes (now (block .entry)) ⌝ }
+{
+    if says_resolution(block) {
+        field::copy_front(block, out);
+    } else {
+        field::copy_front(block, &mut out[..PLAIN]);
+        field::put_word(out, X_RESOLUTION_AT, COARSE_RESOLUTION);
+        field::put_word(out, Y_RESOLUTION_AT, COARSE_RESOLUTION);
+    }
 }
 
 fn fix_header(s: &mut [u8])
     requires { ⌜ headerBytes ≤ length (now s) ⌝ }
     ensures { λ _. ⌜ now (s .exit) ≡ fixHeader (now (s .entry)) ⌝ }
 {
-    field::put_word(s, DESCRIPTOR_SIZE_AT, KEPT as u16);
+    let size = own_bytes(s);
+    field::put_word(s, DESCRIPTOR_SIZE_AT, size as u16);
     s[RESERVED_AT] = 0;
     field::cap_extended(s, PITCH_AT, PITCH_EXTENDED_AT, PITCH_LIMIT);
     field::cap_extended(s, HEIGHT_AT, HEIGHT_EXTENDED_AT, HEIGHT_LIMIT);
@@ -125,10 +192,10 @@ fn fix_header(s: &mut [u8])
 
 // Writes what is kept of an accepted block into the bytes lent.
 pub fn keep_header(block: &[u8], out: &mut [u8])
-    requires { ⌜ (headerBytes ≤ length (now block)) × (length (now out) ≡ headerBytes) ⌝ }
+    requires { ⌜ (ownBytes (now block) ≤ length (now block)) × (length (now out) ≡ headerBytes) ⌝ }
     ensures { λ _. ⌜ now (out .exit) ≡ keptHeader (now (block .entry)) ⌝ }
 {
-    field::copy_front(block, out);
+    copy_first(block, out);
     fix_header(out);
 }
 
@@ -137,8 +204,9 @@ fn fixed_header(k: &[u8]) -> bool
     requires { ⌜ length (now k) ≡ headerBytes ⌝ }
     ensures { λ r. ⌜ r ≡ fixedHeader (now (k .entry)) ⌝ }
 {
-    (k[FORMAT_AT] == BITMAP_FORMAT)
-        & (field::word(k, DESCRIPTOR_SIZE_AT) == KEPT as u16)
+    let size = own_bytes(k);
+    (((k[FORMAT_AT] == PLAIN_FORMAT) & both_are(k, COARSE_RESOLUTION)) | says_resolution(k))
+        & (field::word(k, DESCRIPTOR_SIZE_AT) as usize == size)
         & (k[RESERVED_AT] == 0)
         & (field::word(k, PITCH_AT) <= PITCH_LIMIT)
         & (field::word(k, HEIGHT_AT) <= HEIGHT_LIMIT)
@@ -151,5 +219,5 @@ pub fn is_kept_header(k: &[u8]) -> bool
     if k.len() != KEPT {
         return false;
     }
-    fixed_header(k) & header_fields(k)
+    fixed_header(k) & (header_fields(k) & header_resolution(k))
 }

@@ -11,7 +11,7 @@ use Rattle.store.specs.Fonts.{Font}
 use Rattle.blocks.specs.Field.{byte, signedWithin}
 use Rattle.blocks.specs.Header.{lastSymbolSet, lastSpacing, lastStyle, weightLimit, lastOrientation}
 use Rattle.choice.specs.Fields.{headerOf, weightOf}
-use Rattle.choice.specs.Request.{askedWeight, highestR, highestH, highestTypeface, inRange}
+use Rattle.choice.specs.Request.{askedWeight, highestR, highestH, highestTypeface, isMode, inRange}
 use Rattle.choice.specs.Steps.{exact, isThicker, isThinner}
 use Rattle.choice.specs.Scores.{thickness, weightNumber, weightScore}
 use Rattle.choice.specs.declared.Request.{Request}
@@ -28,15 +28,15 @@ and-right true b e = e
 and-right false b e = absurd (not-both false e refl)
 
 -- the weight's test among all
-sixth : (a b c d e f g h : Bool) → (a && b && c && d && e && f && g && h) ≡ true → f ≡ true
-sixth a b c d e f g h t = search (and-left, and-right) depth 9
+sixth : (a b c d e f g h i : Bool) → (a && b && c && d && e && f && g && h && i) ≡ true → f ≡ true
+sixth a b c d e f g h i t = search (and-left, and-right) depth 10
 
 weight-asked : (r : Request) → inRange r ≡ true → r .weight < 2 ^ 32 → Raised 128 32 (r .weight)
 unfolding inRange askedWeight
 weight-asked r t h =
     raised-request (r .weight) h
     (sixth (leb (r .«symbol_set») lastSymbolSet) (leb (r .spacing) lastSpacing) (leb (r .pitch) highestR) (leb (r .height) highestH) (leb (r .style) lastStyle)
-    (signedWithin 32 weightLimit (r .weight)) (leb (r .typeface) highestTypeface) (leb (r .orientation) lastOrientation) t)
+    (signedWithin 32 weightLimit (r .weight)) (leb (r .typeface) highestTypeface) (leb (r .orientation) lastOrientation) (isMode (r .mode)) t)
 
 -- equal as signed numbers, by two comparisons
 both : (a b : ℕ) → (leb a b && leb b a) ≡ eqb a b

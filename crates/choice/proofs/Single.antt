@@ -10,7 +10,7 @@ use Rattle.store.specs.Fonts.{Font}
 use Rattle.choice.specs.Lists.{In, having, every, orElse, prefer, least, greatest}
 use Rattle.choice.specs.Fields.{isFixed, comparedPitch, weightOf}
 use Rattle.choice.specs.Request.{askedWeight}
-use Rattle.choice.specs.Steps.{bySet, bySpacing, byPitch, heightOff, byHeight, byStyle, nearestThicker, nearestThinner, byWeight, byTypeface, byOrientation, byNumber, steps, worked, fontsLeft}
+use Rattle.choice.specs.Steps.{bySet, bySpacing, byPitch, heightOff, byHeight, byStyle, nearestThicker, nearestThinner, byWeight, byTypeface, byResolution, byOrientation, byNumber, steps, worked, fontsLeft}
 use Rattle.choice.specs.Right.{Keyed}
 use Rattle.choice.specs.declared.Request.{Request}
 use Rattle.choice.proofs.Least.{having-out}
@@ -69,9 +69,9 @@ unfolding byPitch
 by-three r l d = by-cond (every isFixed l) _ _ (by-or _ _ (by-greatest leb comparedPitch _ (by-having _ l d)) (by-least leb comparedPitch l d)) d
 
 pub left-distinct : (r : Request) (l : List Font) → Distinct l → Distinct (fontsLeft r l)
-unfolding fontsLeft steps worked bySet bySpacing byHeight byStyle byTypeface byOrientation byNumber
+unfolding fontsLeft steps worked bySet bySpacing byHeight byStyle byTypeface byResolution byOrientation byNumber
 left-distinct r l d =
-    by-least leb (λ f. f .number) _ (by-prefer _ _ (by-prefer _ _ (by-six r _ (by-prefer _ _ (by-least leb (heightOff r) _ (by-three r _ (by-prefer _ _ (by-prefer _ _ (by-having _ l d)))))))))
+    by-least leb (λ f. f .number) _ (by-prefer _ _ (by-prefer _ _ (by-prefer _ _ (by-six r _ (by-prefer _ _ (by-least leb (heightOff r) _ (by-three r _ (by-prefer _ _ (by-prefer _ _ (by-having _ l d))))))))))
 
 pub leaves-one : (r : Request) (l : List Font) → Distinct l → (c : Font) → In c (fontsLeft r l) → fontsLeft r l ≡ c ∷ []
 leaves-one r l d c m = go (fontsLeft r l) (left-distinct r l d) (λ x mx. only-one r l (distinct-keyed l d) x c mx m) m

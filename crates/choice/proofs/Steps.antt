@@ -12,9 +12,9 @@ use lib.Signed.{leZ, ltZ}
 use Rattle.blocks.specs.Field.{byte}
 use Rattle.store.specs.Fonts.{Font}
 use Rattle.choice.specs.Lists.{In, having, every, orElse, least, greatest}
-use Rattle.choice.specs.Fields.{headerOf, isFixed, comparedPitch, weightOf}
+use Rattle.choice.specs.Fields.{headerOf, isFixed, isFine, comparedPitch, weightOf}
 use Rattle.choice.specs.Request.{askedWeight}
-use Rattle.choice.specs.Steps.{hasSet, bySet, hasSpacing, bySpacing, qualifies, byPitch, heightOff, byHeight, hasStyle, byStyle, exact, isThicker, isThinner, nearestThicker, nearestThinner, byWeight, hasTypeface, byTypeface, hasOrientation, byOrientation, byNumber, steps, worked, fontsLeft, takesPart}
+use Rattle.choice.specs.Steps.{hasSet, bySet, hasSpacing, bySpacing, qualifies, byPitch, heightOff, byHeight, hasStyle, byStyle, exact, isThicker, isThinner, nearestThicker, nearestThinner, byWeight, hasTypeface, byTypeface, byResolution, hasOrientation, byOrientation, byNumber, steps, worked, fontsLeft, takesPart}
 use Rattle.choice.specs.Scores.{miss, mostCompared, pitchBase, pitchNumber, thickness, weightBase, pitchScore, weightNumber, weightScore, majorOf, minorOf, scoreOf}
 use Rattle.choice.specs.declared.Request.{Request}
 use Rattle.choice.specs.declared.Score.{Score}
@@ -160,15 +160,16 @@ module _ (r : Request) where
       (is-bySpacing (bySet r l)))
       (is-byPitch (bySpacing r (bySet r l)) (one-spacing (bySet r l)))
 
-  is-minor : (l : List Font) → Is (λ x. In x l) (By (minorOf r)) (byOrientation r (byTypeface r (byWeight r (byStyle r (byHeight r l)))))
-  unfolding minorOf byStyle byTypeface byOrientation
+  is-minor : (l : List Font) → Is (λ x. In x l) (By (minorOf r)) (byOrientation r (byResolution (byTypeface r (byWeight r (byStyle r (byHeight r l))))))
+  unfolding minorOf byStyle byTypeface byResolution byOrientation
   is-minor l =
       then-prefer (hasOrientation r)
+      (then-prefer isFine
       (then-prefer (hasTypeface r)
       (is-join _ (weightScore r) weightBase (weight-score-bound r)
       (then-prefer (hasStyle r)
       (is-byHeight l))
-      (is-byWeight _)))
+      (is-byWeight _))))
 
 -- a comes before b or is level with it
 abbrev pub Ahead : Score → Score → Type 0

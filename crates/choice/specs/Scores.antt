@@ -10,7 +10,7 @@ use lib.Signed.{leZ}
 use Rattle.blocks.specs.Header.{strokeWeight}
 use Rattle.store.specs.Fonts.{Font}
 use Rattle.choice.specs.Request.{askedWeight}
-use Rattle.choice.specs.Fields.{headerOf, isFixed, comparedPitch}
+use Rattle.choice.specs.Fields.{headerOf, isFixed, isFine, comparedPitch}
 use Rattle.choice.specs.Steps.{hasSet, hasSpacing, qualifies, heightOff, hasStyle, exact, isThicker, isThinner, hasTypeface, hasOrientation, takesPart}
 use Rattle.choice.specs.declared.Request.{Request}
 use Rattle.choice.specs.declared.Score.{Score}
@@ -23,7 +23,7 @@ miss b = cond b 0 1
 
 -- the greatest number that can be compared for pitch or height, and a base above every number of the pitch
 abbrev pub mostCompared : ℕ
-mostCompared = 16777215
+mostCompared = 33554430
 
 abbrev pub pitchBase : ℕ
 pitchBase = 2 * (mostCompared + 1)
@@ -75,12 +75,14 @@ unfoldable pub minorOf : Request → Font → ℕ
 minorOf r f =
     digit 2
     (digit 2
+    (digit 2
     (digit weightBase
     (digit 2
     (heightOff r f)
     (miss (hasStyle r f)))
     (weightScore r f))
     (miss (hasTypeface r f)))
+    (miss (isFine f)))
     (miss (hasOrientation r f))
 
 unfoldable pub scoreOf : Request → Font → Score

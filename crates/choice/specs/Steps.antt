@@ -2,15 +2,15 @@
 use Prim.Native.Nat.{ℕ, _+_, _-_, _*_}
 use mathlib.Core.Path.{_≡_}
 use mathlib.Core.List.{List, [], _∷_}
-use mathlib.Core.Bool.{Bool, cond, _&&_, _||_, Bool·beq}
+use mathlib.Core.Bool.{Bool, not, cond, _&&_, _||_, Bool·beq}
 use lib.Dec.{leb, eqb}
 use lib.IntN.{pos}
 use lib.Signed.{leZ, ltZ}
-use Rattle.blocks.specs.Header.{symbolSet, style, typeface, orientation}
+use Rattle.blocks.specs.Header.{symbolSet, style, typeface, orientation, coarseResolution}
 use Rattle.store.specs.Fonts.{Font}
 use Rattle.choice.specs.Lists.{having, every, orElse, prefer, least, greatest}
 use Rattle.choice.specs.Request.{askedWeight}
-use Rattle.choice.specs.Fields.{headerOf, isFixed, quarterDotParts, comparedPitch, comparedHeight, weightOf}
+use Rattle.choice.specs.Fields.{headerOf, isFixed, isFine, quarterDotParts, comparedPitch, comparedHeight, weightOf}
 use Rattle.choice.specs.declared.Request.{Request}
 use Rattle.choice.specs.declared.Chosen.{Chosen}
 use Rattle.choice.specs.declared.Chosen.the-variants.{Number, NoFont}
@@ -22,9 +22,13 @@ roman8 = 277
 unfoldable pub hasSet : ℕ → Font → Bool
 hasSet n f = eqb (symbolSet (headerOf f)) n
 
--- "A font takes part exactly if it has the set asked for or Roman-8."
+-- W-206: "In mode 300 the 600 dpi fonts take no part in choosing"
+unfoldable pub inMode : Request → Font → Bool
+inMode r f = not (eqb (r .mode) coarseResolution && isFine f)
+
+-- "A font takes part exactly if it has the set asked for or Roman-8." W-206: "takes part in this mode"
 unfoldable pub takesPart : Request → Font → Bool
-takesPart r f = hasSet (r .«symbol_set») f || hasSet roman8 f
+takesPart r f = (hasSet (r .«symbol_set») f || hasSet roman8 f) && inMode r f
 
 -- 1. The set asked for; if none has it, Roman-8; if none, 11.
 --    Of the fonts that take part, those without the set asked for have Roman-8.
@@ -39,9 +43,9 @@ unfoldable pub bySpacing : Request → List Font → List Font
 bySpacing r l = prefer (hasSpacing r) l
 
 -- 3. Pitch, only if those left are fixed. For kept pitch P: if some have R x P at most the limit, those with the greatest P among them;
---    else those with the least P. W-202: "The test for pitch is R x pitch at most 30,720,000".
+--    else those with the least P. W-206: "the pitch test is R x pitch at most 61,440,000".
 abbrev pub pitchTestLimit : ℕ
-pitchTestLimit = 30720000
+pitchTestLimit = 61440000
 
 unfoldable pub qualifies : Request → Font → Bool
 qualifies r f = leb (r .pitch * comparedPitch f) pitchTestLimit
@@ -49,10 +53,10 @@ qualifies r f = leb (r .pitch * comparedPitch f) pitchTestLimit
 unfoldable pub byPitch : Request → List Font → List Font
 byPitch r l = cond (every isFixed l) (orElse (greatest leb comparedPitch (having (qualifies r) l)) (least leb comparedPitch l)) l
 
--- 4. The least distance. W-202: "the height distance is |256 x H - 6 x height| with 6,400 or less as 0".
---    A quarter-dot is 6 hundredths of a point; a quarter of a point is 25 hundredths, in 256ths of a hundredth 6,400.
+-- 4. The least distance. W-206: "the height distance is |256 x H - 3 x height| with 6,400 or less as 0".
+--    A 2400th of an inch is 3 hundredths of a point; a quarter of a point is 25 hundredths, in 256ths of a hundredth 6,400.
 abbrev pub quarterDot : ℕ
-quarterDot = 6
+quarterDot = 3
 
 abbrev pub quarterPoint : ℕ
 quarterPoint = 6400
@@ -110,6 +114,11 @@ hasTypeface r f = eqb (typeface (headerOf f)) (r .typeface)
 unfoldable pub byTypeface : Request → List Font → List Font
 byTypeface r l = prefer (hasTypeface r) l
 
+-- W-206: "in mode 600 a 600 dpi font goes before a 300 dpi one, as a new step between typeface and orientation".
+--    In mode 300 no 600 dpi font takes part, and the step leaves all of those left.
+unfoldable pub byResolution : List Font → List Font
+byResolution l = prefer isFine l
+
 -- 8. The page's orientation, if any has it. (W-203: 0 to 3.)
 unfoldable pub hasOrientation : Request → Font → Bool
 hasOrientation r f = eqb (orientation (headerOf f)) (r .orientation)
@@ -131,6 +140,7 @@ steps r =
     ∷ byStyle r
     ∷ byWeight r
     ∷ byTypeface r
+    ∷ byResolution
     ∷ byOrientation r
     ∷ byNumber
     ∷ []

@@ -7,13 +7,13 @@ ghost use mathlib.Core.Bool.{true};
 ghost use lib.Dec.{eqb, leb, ltb};
 ghost use lib.ListN.{length};
 ghost use Rattle.blocks.specs.Field.{byte, word, join as joinOf};
-ghost use Rattle.blocks.specs.Header.{headerBytes, style, typeface};
+ghost use Rattle.blocks.specs.Header.{headerBytes, style, typeface, resolution};
 ghost use Rattle.store.specs.Records.{Place, Begun};
 ghost use Rattle.store.specs.Fonts.{fontsAt, fontsOf};
 ghost use Rattle.store.specs.declared.records.Begin.the-variants.{At};
 ghost use Rattle.choice.specs.Request.{inRange};
-ghost use Rattle.choice.specs.Fields.{asBytes, comparedPitch, comparedHeight};
-ghost use Rattle.choice.specs.Steps.{pitchTestLimit, heightDistance, takesPart};
+ghost use Rattle.choice.specs.Fields.{asBytes, isFine, compared as comparedOf, comparedPitch, comparedHeight};
+ghost use Rattle.choice.specs.Steps.{pitchTestLimit, heightDistance, inMode, takesPart};
 ghost use Rattle.choice.specs.Choosing.{choosingAmong, choosing};
 ghost use Rattle.choice.specs.Scores.{miss as missOf, mostCompared, pitchBase, pitchNumber, heightBound, weightBase, weightNumber, weightScore, majorOf, minorOf, better as betterOf, noScore, weighed, pass, scoreAnswer};
 
@@ -38,18 +38,23 @@ const HIGHEST_TYPEFACE: u32 = 65535;
 
 const LAST_ORIENTATION: u32 = 3;
 
-// A font qualifies by its pitch up to this product.
-const PITCH_TEST_LIMIT: u64 = 30720000;
+// The resolutions of fonts, and the modes of requests.
+const COARSE: u32 = 300;
 
-// The parts of a quarter-dot that the extended bytes count; a quarter-dot in hundredths of a point; the distance that still counts as 0.
+const FINE: u32 = 600;
+
+// A font qualifies by its pitch up to this product.
+const PITCH_TEST_LIMIT: u64 = 61440000;
+
+// The parts of a quarter-dot that the extended bytes count; a quarter-dot of 600 dpi in hundredths of a point; the distance that still counts as 0.
 const QUARTER_DOT_PARTS: u64 = 256;
 
-const QUARTER_DOT: u64 = 6;
+const QUARTER_DOT: u64 = 3;
 
 const QUARTER_POINT: u64 = 6400;
 
 // How many bytes of a font are kept, and where the fields stand in them.
-const KEPT: usize = 64;
+const KEPT: usize = 68;
 
 const STYLE_HIGH: usize = 4;
 
@@ -75,8 +80,10 @@ const PITCH_EXTENDED: usize = 40;
 
 const HEIGHT_EXTENDED: usize = 41;
 
+const RESOLUTION: usize = 64;
+
 // The greatest number that can be compared for pitch or height, and a base above every number of the pitch.
-const MOST_COMPARED: u64 = 16777215;
+const MOST_COMPARED: u64 = 33554430;
 
 const PITCH_BASE: u64 = 2 * (MOST_COMPARED + 1);
 
@@ -97,6 +104,7 @@ pub struct Request {
     pub weight: u32,
     pub typeface: u32,
     pub orientation: u32,
+    pub mode: u32,
 }
 
 // The number of the font that is chosen, or why there is none.
@@ -152,12 +160,29 @@ fn typeface_of(f: &[u8]) -> u32
     join(kept_byte(f, TYPEFACE_HIGH), kept_byte(f, TYPEFACE_LOW))
 }
 
+// Whether a font is one of 600 dpi.
+fn is_fine(f: &[u8]) -> bool
+    requires { ⌜ length (now f) ≡ headerBytes ⌝ }
+    ensures { λ b. ⌜ ((n : ℕ) → b ≡ isFine (record { number = n; kept = now (f .entry) })) ⌝ }
+{
+    kept_word(f, RESOLUTION) == FINE
+}
+
+// The number that is compared, by a field and its extended byte: one of 300 dpi counts twice.
+fn compared(f: &[u8], at: usize, extended: usize) -> u64
+    requires { ⌜ (length (now f) ≡ headerBytes) × (at + 1 < length (now f)) × (extended < length (now f)) ⌝ }
+    ensures { λ r. ⌜ (r ≡ comparedOf (resolution (asBytes (now (f .entry)))) (word (asBytes (now (f .entry))) at) (byte (asBytes (now (f .entry))) extended)) × (r ≤ mostCompared) ⌝ }
+{
+    let n = QUARTER_DOT_PARTS * kept_word(f, at) as u64 + kept_byte(f, extended) as u64;
+    if is_fine(f) { n } else { 2 * n }
+}
+
 // The number that is compared for pitch.
 fn compared_pitch(f: &[u8]) -> u64
     requires { ⌜ length (now f) ≡ headerBytes ⌝ }
     ensures { λ p. ⌜ ((n : ℕ) → p ≡ comparedPitch (record { number = n; kept = now (f .entry) })) × (p ≤ mostCompared) ⌝ }
 {
-    QUARTER_DOT_PARTS * kept_word(f, PITCH) as u64 + kept_byte(f, PITCH_EXTENDED) as u64
+    compared(f, PITCH, PITCH_EXTENDED)
 }
 
 // The number that is compared for height.
@@ -165,7 +190,7 @@ fn compared_height(f: &[u8]) -> u64
     requires { ⌜ length (now f) ≡ headerBytes ⌝ }
     ensures { λ h. ⌜ ((n : ℕ) → h ≡ comparedHeight (record { number = n; kept = now (f .entry) })) × (h ≤ mostCompared) ⌝ }
 {
-    QUARTER_DOT_PARTS * kept_word(f, HEIGHT) as u64 + kept_byte(f, HEIGHT_EXTENDED) as u64
+    compared(f, HEIGHT, HEIGHT_EXTENDED)
 }
 
 // 0 for a match.
@@ -256,8 +281,10 @@ fn minor_of(f: &[u8], r: Request) -> u64
     let style = miss(style_of(f) == r.style);
     let weight = weight_of(f, r);
     let typeface = miss(typeface_of(f) == r.typeface);
+    let resolution = miss(is_fine(f));
     let orientation = miss(kept_byte(f, ORIENTATION) == r.orientation);
-    (((height * 2 + style) * WEIGHT_BASE + weight) * 2 + typeface) * 2 + orientation
+    let looks = ((height * 2 + style) * WEIGHT_BASE + weight) * 2 + typeface;
+    (looks * 2 + resolution) * 2 + orientation
 }
 
 // The one of the two that comes first; best, where they are level.
@@ -270,13 +297,21 @@ fn better(best: Score, s: Score) -> Score
     if first { s } else { best }
 }
 
+// Whether the mode lets a font take part.
+fn in_mode(f: &[u8], r: Request) -> bool
+    requires { ⌜ length (now f) ≡ headerBytes ⌝ }
+    ensures { λ b. ⌜ ((n : ℕ) → b ≡ inMode r (record { number = n; kept = now (f .entry) })) ⌝ }
+{
+    !((r.mode == COARSE) & is_fine(f))
+}
+
 // Whether a font takes part.
 fn takes_part(f: &[u8], r: Request) -> bool
     requires { ⌜ length (now f) ≡ headerBytes ⌝ }
     ensures { λ b. ⌜ ((n : ℕ) → b ≡ takesPart r (record { number = n; kept = now (f .entry) })) ⌝ }
 {
     let set = kept_word(f, SYMBOL_SET);
-    (set == r.symbol_set) | (set == ROMAN_8)
+    ((set == r.symbol_set) | (set == ROMAN_8)) & in_mode(f, r)
 }
 
 // The best so far after one more font, whose kept bytes f are.
@@ -329,6 +364,7 @@ fn in_range(r: Request) -> bool
     ensures { λ b. ⌜ b ≡ inRange r ⌝ }
 {
     let weight = (r.weight <= WEIGHT_LIMIT) | (LEAST_WEIGHT <= r.weight);
+    let mode = (r.mode == COARSE) | (r.mode == FINE);
     (r.symbol_set <= LAST_SYMBOL_SET)
         & (r.spacing <= LAST_SPACING)
         & (r.pitch <= HIGHEST_R)
@@ -337,6 +373,7 @@ fn in_range(r: Request) -> bool
         & weight
         & (r.typeface <= HIGHEST_TYPEFACE)
         & (r.orientation <= LAST_ORIENTATION)
+        & mode
 }
 
 // The answer, from the best of all fonts.

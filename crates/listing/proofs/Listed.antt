@@ -7,6 +7,7 @@ use mathlib.Core.Option.{Option, none, some}
 use native.Mathlib.Omega.{arith}
 use borrow.Author.Tests.{lt-ltb, le-ltb}
 use lib.ListN.{length, drop, replicate, length-drop}
+use Rattle.blocks.specs.Header.{headerBytes}
 use Rattle.store.specs.Layout.{fontRecord}
 use Rattle.store.specs.Model.{Rec, Store, font, character, split, sizeOf, total, decode}
 use Rattle.store.specs.Answer.{toldOf}
@@ -58,7 +59,7 @@ module _ (k s o₁ o₂ o₃ o₄ : List ℕ) (at e₁ e₂ e₃ e₄ : ℕ) whe
   wrote-line n chars w₁ w₂ w₃ w₄ =
       wrote-then _ _ _ _ _ _ _ _ w₁ (wrote-then _ _ _ _ _ _ _ _ w₂ (wrote-then _ _ _ _ _ _ _ _ w₃ w₄))
 
-pub wrote-font : (s kept o last : List ℕ) (n at end : ℕ) (t : Told) → toldOf t kept ≡ tellingFont n s (replicate 64 0)
+pub wrote-font : (s kept o last : List ℕ) (n at end : ℕ) (t : Told) → toldOf t kept ≡ tellingFont n s (replicate headerBytes 0)
     → Wrote o at (line n kept (t .count)) end last → Wrote o at (fontLine s n) end last
 unfolding fontLine
 wrote-font s kept o last n at end t e w = rw (← e) w

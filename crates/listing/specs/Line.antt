@@ -3,7 +3,7 @@ use Prim.Native.Nat.{ℕ}
 use mathlib.Core.List.{List, [], _∷_, _++_}
 use lib.ListN.{replicate}
 use Rattle.blocks.specs.Field.{byte, join}
-use Rattle.blocks.specs.Header.{symbolSet, spacing, pitch, height, style, strokeWeight, typeface}
+use Rattle.blocks.specs.Header.{headerBytes, symbolSet, spacing, pitch, height, style, strokeWeight, typeface}
 use Rattle.store.specs.Answer.{Telling}
 use Rattle.store.specs.Calls.{tellingFont}
 use Rattle.store.specs.Fonts.{Font}
@@ -35,9 +35,9 @@ line n k chars = column n space ++ (measures k ++ (looks k ++ column chars newli
 abbrev pub toldLine : ℕ → Telling → List ℕ
 toldLine n t = line n (t .out) (t .count)
 
--- font n of the store s, as it is told
+-- font n of the store s, as it is told; no column for the resolution (W-206)
 unfoldable pub fontLine : List ℕ → ℕ → List ℕ
-fontLine s n = toldLine n (tellingFont n s (replicate 64 0))
+fontLine s n = toldLine n (tellingFont n s (replicate headerBytes 0))
 
 -- a line per font
 unfoldable pub lines : List ℕ → List Font → List ℕ

@@ -4,6 +4,7 @@ ghost use Prim.Native.Nat.{_+_, _≤_, _<_};
 ghost use lib.ListN.{length};
 ghost use Rattle.listing.specs.Wrote.{Wrote};
 ghost use Rattle.blocks.specs.Field.{byte as byteOf};
+ghost use Rattle.blocks.specs.Header.{headerBytes};
 ghost use Rattle.listing.specs.Line.{wordFrom, measures, looks, line, fontLine};
 use crate::column::write_column;
 use crate::column::write_short;
@@ -17,23 +18,23 @@ fn wide(x: u8) -> usize
 }
 
 // A kept byte.
-fn byte(k: &[u8; 64], i: usize) -> usize
-    requires { ⌜ i < 64 ⌝ }
+fn byte(k: &[u8; 68], i: usize) -> usize
+    requires { ⌜ i < headerBytes ⌝ }
     ensures { λ r. ⌜ (r ≡ byteOf (now (k .entry)) i) × (r < 256) ⌝ }
 {
     wide(k[i])
 }
 
 // Two kept bytes, high and low.
-fn word(k: &[u8; 64], hi: usize, lo: usize) -> usize
-    requires { ⌜ (hi < 64) × (lo < 64) ⌝ }
+fn word(k: &[u8; 68], hi: usize, lo: usize) -> usize
+    requires { ⌜ (hi < headerBytes) × (lo < headerBytes) ⌝ }
     ensures { λ r. ⌜ (r ≡ wordFrom (now (k .entry)) hi lo) × (r < 65536) ⌝ }
 {
     byte(k, hi) * 256 + byte(k, lo)
 }
 
 // Symbol set, spacing, pitch and height.
-fn write_measures(out: &mut [u8], at: usize, k: &[u8; 64]) -> usize
+fn write_measures(out: &mut [u8], at: usize, k: &[u8; 68]) -> usize
     requires { ⌜ at + 24 ≤ length (now out) ⌝ }
     ensures { λ r. ⌜ Wrote (now (out .entry)) at (measures (now (k .entry))) r (now (out .exit)) ⌝ }
     ensures { λ r. ⌜ r ≤ at + 24 ⌝ }
@@ -45,7 +46,7 @@ fn write_measures(out: &mut [u8], at: usize, k: &[u8; 64]) -> usize
 }
 
 // Style, weight and typeface.
-fn write_looks(out: &mut [u8], at: usize, k: &[u8; 64]) -> usize
+fn write_looks(out: &mut [u8], at: usize, k: &[u8; 68]) -> usize
     requires { ⌜ at + 19 ≤ length (now out) ⌝ }
     ensures { λ r. ⌜ Wrote (now (out .entry)) at (looks (now (k .entry))) r (now (out .exit)) ⌝ }
     ensures { λ r. ⌜ r ≤ at + 19 ⌝ }
@@ -56,7 +57,7 @@ fn write_looks(out: &mut [u8], at: usize, k: &[u8; 64]) -> usize
 }
 
 // The line of the font with this number, these kept bytes and so many characters.
-fn write_line(out: &mut [u8], at: usize, number: u32, k: &[u8; 64], characters: u32) -> usize
+fn write_line(out: &mut [u8], at: usize, number: u32, k: &[u8; 68], characters: u32) -> usize
     requires { ⌜ at + 65 ≤ length (now out) ⌝ }
     ensures { λ r. ⌜ Wrote (now (out .entry)) at (line number (now (k .entry)) characters) r (now (out .exit)) ⌝ }
     ensures { λ r. ⌜ r ≤ at + 65 ⌝ }
@@ -73,7 +74,7 @@ pub fn write_font(out: &mut [u8], at: usize, s: &[u8], number: u32) -> usize
     ensures { λ r. ⌜ Wrote (now (out .entry)) at (fontLine (now (s .entry)) number) r (now (out .exit)) ⌝ }
     ensures { λ r. ⌜ r ≤ at + 65 ⌝ }
 {
-    let mut kept = [0u8; 64];
+    let mut kept = [0u8; 68];
     let told = fonts::tell_font(s, &mut kept, number);
     write_line(out, at, number, &kept, told.count)
 }

@@ -3,7 +3,7 @@ use mathlib.Core.Path.{_≡_, refl}
 use Rattle.marlinfold.specs.Calls.{Call, make-fresh, download-font, download-character, remove-font, remove-character, choose-font, tell-font, tell-character, draw-row, draw-picture, write-font, read-stream, choose-sheet, turn-picture}
 use Rattle.marlinfold.specs.Demands.{listed}
 use Rattle.marlinfold.specs.Occurrences.{kind, sending, at, some, occurrences, beforeIf, numbersOf, AllOccur, ListedOccur}
-use Rattle.marlinfold.specs.Trials.{A, requestWith, asks}
+use Rattle.marlinfold.specs.Trials.{A, requestIn, requestWith, asks}
 use Rattle.marlinfold.proofs.Computing.{computing}
 
 each : AllOccur occurrences
@@ -11,7 +11,7 @@ unfolding computing occurrences at sending some
 each = (refl, (refl, (refl, (refl, (refl, (refl, (refl, (refl, (refl, (refl, (refl, (refl, (refl, (refl, (refl, (refl, (refl, (refl, (refl, (refl, (refl, (refl, (refl, (refl, (refl, (refl, (refl, (refl, (refl, (refl, (refl, (refl, (refl, (refl, (refl, (refl, (refl, (refl, (refl, (refl, (refl, (refl, (refl, (refl, (refl, (refl, (refl, (refl, (refl, (refl, (refl, (refl, (refl, (refl, (refl, tt)))))))))))))))))))))))))))))))))))))))))))))))))))))))
 
 numbers : (c : Call) → numbersOf (kind c) occurrences ≡ listed c
-unfolding occurrences beforeIf numbersOf kind at sending some A requestWith asks listed
+unfolding occurrences beforeIf numbersOf kind at sending some A requestIn requestWith asks listed
 numbers make-fresh = refl
 numbers (download-font n b) = refl
 numbers (download-character n c b) = refl

@@ -30,14 +30,14 @@ use Rattle.marlinfold.specs.Book.{bookAfter}
 unfoldable pub listed : Call → List ℕ
 -- "for 'make fresh': length not 12..65,536"
 listed make-fresh = 1 ∷ []
--- "Length 64..32767, else 3", "else 4. Then, else 5", "It is refused with 10 exactly if the records would then not fit."
+-- "Length 64..32767, else 3", "else 4. Then, else 5" (W-206: format 20 by the same numbers), "It is refused with 10 exactly if the records would then not fit."
 listed (download-font n b) = 1 ∷ 2 ∷ 3 ∷ 4 ∷ 5 ∷ 10 ∷ []
 -- "else 3; font present, else 6; byte 0 is 4, else 4"; a first block 3, 4, 5 and 9, a continuation 7; "Then, for both: 8 .. 9"
 listed (download-character n c b) = 1 ∷ 2 ∷ 3 ∷ 6 ∷ 4 ∷ 5 ∷ 9 ∷ 7 ∷ 8 ∷ []
 -- "Removing checks 1, 2, 6, then 7 for a character."
 listed (remove-font n) = 1 ∷ 2 ∷ 6 ∷ []
 listed (remove-character n c) = 1 ∷ 2 ∷ 6 ∷ 7 ∷ []
--- "Choosing checks 1, 2, 11"
+-- "Choosing checks 1, 2, 11" (W-206: "2 for another mode")
 listed (choose-font r) = 1 ∷ 2 ∷ 11 ∷ []
 -- "checks as removing does, then 12"
 listed (tell-font n out) = 1 ∷ 2 ∷ 6 ∷ 12 ∷ []

@@ -61,8 +61,8 @@ occurrences =
     ∷ at oneFont [] (download-font 5 []) 3
     ∷ at oneFont [] (download-font 5 (replicate 64 1)) 4
     ∷ at oneFont [] (download-font 5 (0 ∷ 64 ∷ 0 ∷ 3 ∷ replicate 60 0)) 5
-    -- W-205: "the 84-byte case (now 90 and 89)": in 89 bytes there is no room for a font, in 90 there is, and telling it asks for an output
-    ∷ at 89 [] A 10
+    -- W-206: "the 90-byte case becomes 94 and 93": in 93 bytes there is no room for a font, in 94 there is, and telling it asks for an output
+    ∷ at 93 [] A 10
     ∷ at 0 [] (download-character 5 65 []) 1
     ∷ at oneFont [] (download-character 5 256 []) 2
     ∷ at oneFont [] (download-character 5 65 []) 3
@@ -85,7 +85,7 @@ occurrences =
     ∷ at 0 [] (tell-font 5 []) 1
     ∷ at leastStore [] (tell-font 32768 []) 2
     ∷ at leastStore [] (tell-font 5 []) 6
-    ∷ at 90 (A ∷ []) (tell-font 5 []) 12
+    ∷ at 94 (A ∷ []) (tell-font 5 []) 12
     ∷ at 0 [] (tell-character 5 65 []) 1
     ∷ at leastStore [] (tell-character 5 256 []) 2
     ∷ at leastStore [] (tell-character 5 65 []) 6

@@ -12,11 +12,16 @@ use Rattle.choice.specs.declared.Request.{Request}
 use Rattle.marlinfold.specs.Calls.{Call, make-fresh, download-font, choose-font, Answer, answer, ran}
 
 -- ── the fonts
--- a font block by orientation, spacing, set, pitch, height, weight byte, typeface and the extended bytes of pitch and height (W-202); style 0
-unfoldable pub extended : ℕ → ℕ → ℕ → ℕ → ℕ → ℕ → ℕ → ℕ → ℕ → List ℕ
-extended page spacing set p h w face x y =
-    0 ∷ 64 ∷ 0 ∷ 0 ∷ 0 ∷ 0 ∷ 0 ∷ 15 ∷ 0 ∷ 20 ∷ 0 ∷ 20 ∷ page ∷ spacing ∷ set / 256 ∷ set % 256 ∷ p / 256 ∷ p % 256 ∷ h / 256 ∷ h % 256
+-- the first 64 bytes of a font block by descriptor size, format (W-206), orientation, spacing, set, pitch, height, weight byte, typeface and the
+-- extended bytes of pitch and height (W-202); style 0
+unfoldable pub formed : ℕ → ℕ → ℕ → ℕ → ℕ → ℕ → ℕ → ℕ → ℕ → ℕ → ℕ → List ℕ
+formed size format page spacing set p h w face x y =
+    0 ∷ size ∷ format ∷ 0 ∷ 0 ∷ 0 ∷ 0 ∷ 15 ∷ 0 ∷ 20 ∷ 0 ∷ 20 ∷ page ∷ spacing ∷ set / 256 ∷ set % 256 ∷ p / 256 ∷ p % 256 ∷ h / 256 ∷ h % 256
     ∷ 0 ∷ 0 ∷ 0 ∷ 0 ∷ w ∷ face % 256 ∷ face / 256 ∷ (replicate 13 0 ++ (x ∷ y ∷ replicate 22 0))
+
+-- a font block of format 0
+unfoldable pub extended : ℕ → ℕ → ℕ → ℕ → ℕ → ℕ → ℕ → ℕ → ℕ → List ℕ
+extended page spacing set p h w face x y = formed 64 0 page spacing set p h w face x y
 
 unfoldable pub header : ℕ → ℕ → ℕ → ℕ → ℕ → ℕ → ℕ → List ℕ
 header page spacing set p h w face = extended page spacing set p h w face 0 0
@@ -47,12 +52,31 @@ like n p h = download-font n (header 0 0 277 p h 0 3)
 unfoldable pub finer : ℕ → ℕ → ℕ → Call
 finer n p x = download-font n (extended 0 0 277 p 200 0 3 x 0)
 
+-- W-206: a fixed font of format 20 under number n, by X and Y resolution, orientation, set, pitch, height, weight byte and typeface
+unfoldable pub resolved : ℕ → ℕ → ℕ → ℕ → ℕ → ℕ → ℕ → ℕ → ℕ → Call
+resolved n X Y page set p h w face =
+    download-font n (formed 68 20 page 0 set p h w face 0 0 ++ (X / 256 ∷ X % 256 ∷ Y / 256 ∷ Y % 256 ∷ []))
+
+-- A's like of 600 dpi under number n, with a pitch and height in its own quarter-dots: 240 and 400 are A's
+unfoldable pub fine : ℕ → ℕ → ℕ → Call
+fine n p h = resolved n 600 600 0 277 p h 0 3
+
+-- 2, 300 dpi, pitch 70, weight 3
+unfoldable pub coarse70 : Call
+coarse70 = download-font 2 (header 0 0 277 70 200 3 3)
+
 unfoldable pub all : List Call
 all = A ∷ B ∷ C ∷ D ∷ []
 
--- "Base request: 277, fixed, R 1000, H 1200, style 0, weight 0, face 3, portrait": with another set, R, weight (32 bits) and page
+-- "Base request: 277, fixed, R 1000, H 1200, style 0, weight 0, face 3, portrait": with another mode (W-206), set, R, weight (32 bits) and page
+unfoldable pub requestIn : ℕ → ℕ → ℕ → ℕ → ℕ → Request
+requestIn mode set R w page = requestOf set 0 R 1200 0 w 3 page mode
+
 unfoldable pub requestWith : ℕ → ℕ → ℕ → ℕ → Request
-requestWith set R w page = requestOf set 0 R 1200 0 w 3 page
+requestWith set R w page = requestIn 300 set R w page
+
+unfoldable pub asksIn : ℕ → ℕ → ℕ → ℕ → ℕ → Call
+asksIn mode set R w page = choose-font (requestIn mode set R w page)
 
 unfoldable pub asks : ℕ → ℕ → ℕ → ℕ → Call
 asks set R w page = choose-font (requestWith set R w page)
@@ -64,19 +88,22 @@ pub data Trial : Type 0 where
   -- what the rules of rows make of class 2 data, w dots wide and h rows high: how it is judged, and its picture
   draws : (w h : ℕ) (d : List ℕ) (judged : Judged) (rows : List ℕ) → Trial
 
--- the answer that names a font, and the answer 11
+-- the answer that names a font, and the answers 11 and 2
 unfoldable pub namesFont : ℕ → Answer
 namesFont n = record { refusal = 0; numbers = n ∷ []; out = [] }
 
 unfoldable pub noneToChoose : Answer
 noneToChoose = record { refusal = 11; numbers = 0 ∷ []; out = [] }
 
+unfoldable pub notInRange : Answer
+notInRange = record { refusal = 2; numbers = 0 ∷ []; out = [] }
+
 -- a buffer of so many bytes, made fresh, after these calls
 unfoldable pub storeAfter : ℕ → List Call → List ℕ
 storeAfter size cs = ran (make-fresh ∷ cs) (replicate size 255)
 
 abbrev pub Holds : Trial → Type 0
-Holds (chooses cs c a) = answer c (storeAfter 400 cs) ≡ a
+Holds (chooses cs c a) = answer c (storeAfter 500 cs) ≡ a
 Holds (draws w h d j rows) = (judge 2 w h d ≡ j) × (picture 2 w d h ≡ rows)
 
 unfoldable pub table : List Trial
@@ -111,6 +138,28 @@ table =
     -- W-203: a page turned upside down takes a reverse portrait font, if there is one; else the lowest number
     ∷ chooses (E ∷ all) (asks 277 1000 0 2) (namesFont 12)
     ∷ chooses (E ∷ all) (asks 277 1000 0 3) (namesFont 5)
+    -- W-206: in mode 300 a 600 dpi font takes no part; in mode 600 it goes before a 300 dpi one, whichever has the lower number;
+    ∷ chooses (fine 3 240 400 ∷ A ∷ []) (asksIn 300 277 1000 0 0) (namesFont 5)
+    ∷ chooses (fine 3 240 400 ∷ A ∷ []) (asksIn 600 277 1000 0 0) (namesFont 3)
+    ∷ chooses (A ∷ fine 7 240 400 ∷ []) (asksIn 600 277 1000 0 0) (namesFont 7)
+    ∷ chooses (fine 3 240 400 ∷ []) (asksIn 300 277 1000 0 0) noneToChoose
+    -- after the typeface, before the orientation;
+    ∷ chooses (A ∷ resolved 7 600 600 0 277 240 400 0 4 ∷ []) (asksIn 600 277 1000 0 0) (namesFont 5)
+    ∷ chooses (A ∷ resolved 7 600 600 1 277 240 400 0 3 ∷ []) (asksIn 600 277 1000 0 0) (namesFont 7)
+    -- a 600 dpi font of the set asked for beside a 300 dpi Roman-8 font, in both modes;
+    ∷ chooses (A ∷ resolved 7 600 600 0 341 240 400 0 3 ∷ []) (asksIn 300 341 1000 0 0) (namesFont 5)
+    ∷ chooses (A ∷ resolved 7 600 600 0 341 240 400 0 3 ∷ []) (asksIn 600 341 1000 0 0) (namesFont 7)
+    -- pitch 140 at 600 dpi is level with 70 at 300 dpi: both are left, and the weight decides between them; 141 is greater;
+    ∷ chooses (coarse70 ∷ fine 7 140 400 ∷ []) (asksIn 600 277 1700 3 0) (namesFont 2)
+    ∷ chooses (coarse70 ∷ fine 7 140 400 ∷ []) (asksIn 600 277 1700 0 0) (namesFont 7)
+    ∷ chooses (coarse70 ∷ fine 7 141 400 ∷ []) (asksIn 600 277 1700 3 0) (namesFont 7)
+    -- P9 at 600 dpi: height 408 is level with 200 at 300 dpi for H 1200, 409 isn't;
+    ∷ chooses (A ∷ fine 7 240 408 ∷ []) (asksIn 600 277 1000 0 0) (namesFont 7)
+    ∷ chooses (A ∷ fine 7 240 409 ∷ []) (asksIn 600 277 1000 0 0) (namesFont 5)
+    -- a format 20 font of 300 dpi is one as any other; one of X 300 and Y 600 isn't taken; another mode is 2
+    ∷ chooses (resolved 3 300 300 0 277 120 200 0 3 ∷ A ∷ []) (asksIn 300 277 1000 0 0) (namesFont 3)
+    ∷ chooses (resolved 3 300 600 0 277 120 200 0 3 ∷ A ∷ []) (asksIn 300 277 1000 0 0) (namesFont 5)
+    ∷ chooses all (asksIn 400 277 1000 0 0) notInRange
     -- P10 width 10, height 3, data 1 2 3 5 0 0 10: rows 56 0, 56 0, 255 192.
     ∷ draws 10 3 (1 ∷ 2 ∷ 3 ∷ 5 ∷ 0 ∷ 0 ∷ 10 ∷ []) (Complete 7) (56 ∷ 0 ∷ 56 ∷ 0 ∷ 255 ∷ 192 ∷ [])
     -- P11 width 300, height 1, data 0 255 0 45: a white row, complete.

@@ -82,8 +82,9 @@ pub extern "C" fn mf_choose(
     weight: u32,
     typeface: u32,
     orientation: u32,
+    mode: u32,
 ) -> FontChosen
-    ensures { λ r. ⌜ answered (r .refusal) (r .font ∷ []) (now (store .entry)) [] ≡ outcome (choose-font (requestOf «symbol_set» spacing pitch height style weight typeface orientation)) (now (store .entry)) ⌝ }
+    ensures { λ r. ⌜ answered (r .refusal) (r .font ∷ []) (now (store .entry)) [] ≡ outcome (choose-font (requestOf «symbol_set» spacing pitch height style weight typeface orientation mode)) (now (store .entry)) ⌝ }
 {
     let r = Request {
         symbol_set: symbol_set,
@@ -94,6 +95,7 @@ pub extern "C" fn mf_choose(
         weight: weight,
         typeface: typeface,
         orientation: orientation,
+        mode: mode,
     };
     font_chosen(choice::choose(store, r))
 }

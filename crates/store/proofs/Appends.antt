@@ -9,7 +9,7 @@ use lib.ListN.{length, length-append}
 use lib.Seq.{take-all}
 use lib.Dec.{eqb}
 use borrow.Author.Tests.{le-leb, eq-eqb}
-use Rattle.blocks.specs.Header.{orientation, isKeptHeader, keptHeader, blockLimit}
+use Rattle.blocks.specs.Header.{orientation, isKeptHeader, keptHeader, ownHeader, blockLimit}
 use Rattle.blocks.specs.Character.{class, width, height, characterLength, kindOf, descriptorBytes}
 use Rattle.pictures.specs.Size.{dataLimit}
 use Rattle.pictures.specs.Picture.{judge, keptData, held}
@@ -90,7 +90,7 @@ pub record Laid (n k : ℕ) (g : List ℕ) (st : Store) : Type 0 where
   pub there : find (keyOf n 0) (st .recs) ≡ some (font n g)
   pub low : Low k (st .recs)
 
--- the header into a fresh store
+-- the header's own bytes into a fresh store
 pub fresh-valid : (size : ℕ) → markRecord ≤ size → size ≤ mostStore → Valid (fresh size)
 fresh-valid size room small = record { order = unfold sorted in refl; marked = unfold markOk _&_ in refl; small = small; room = unfold total in omega arith }
 
@@ -101,27 +101,27 @@ module _ (n : ℕ) (h : List ℕ) (size : ℕ) (low : n ≤ lastFont) (ok : isKe
   fresh-is : Valid (fresh size)
   fresh-is = fresh-valid size (omega arith) small
 
-  put-is : putFont n (keptHeader h) (fresh size) ≡ first-store n h size
+  put-is : putFont n (keptHeader (ownHeader h)) (fresh size) ≡ first-store n h size
   unfolding closedFor keep _&_
   put-is = ap (λ (x : List ℕ). putFont n x (fresh size)) (is-kept-header h ok .1)
 
-  header-fits : used (putFont n (keptHeader h) (fresh size)) ≤ size
+  header-fits : used (putFont n (keptHeader (ownHeader h)) (fresh size)) ≤ size
   unfolding total sizeOf keep
   header-fits = omega arith
 
-  header-sent : downloadingFont n h (encode (fresh size)) ≡ done (first-store n h size)
+  header-sent : downloadingFont n (ownHeader h) (encode (fresh size)) ≡ done (first-store n h size)
   unfolding downloadingFont onStore
-  header-sent = rw (decode-encode (fresh size) fresh-is, le-leb n lastFont low, is-kept-header h ok .0, le-leb (used (putFont n (keptHeader h) (fresh size))) size header-fits, put-is)
+  header-sent = rw (decode-encode (fresh size) fresh-is, le-leb n lastFont low, is-kept-header h ok .0, le-leb (used (putFont n (keptHeader (ownHeader h)) (fresh size))) size header-fits, put-is)
 
   header-laid : Laid n (keyOf n 0 + 1) h (first-store n h size)
   unfolding number place
   header-laid = record {
-    valid = subst Valid put-is (put-valid (fresh size) fresh-is n h low (is-kept-header h ok .0) header-fits);
+    valid = subst Valid put-is (put-valid (fresh size) fresh-is n (ownHeader h) low (is-kept-header h ok .0) header-fits);
     there = find-here (keyOf n 0) (font n h) [] (unfold number place in refl);
     low = (unfold number place in omega arith, tt);
   }
 
-  pub font-laid : (downloadingFont n h (encode (fresh size)) ≡ done (first-store n h size)) × Laid n (keyOf n 0 + 1) h (first-store n h size)
+  pub font-laid : (downloadingFont n (ownHeader h) (encode (fresh size)) ≡ done (first-store n h size)) × Laid n (keyOf n 0 + 1) h (first-store n h size)
   font-laid = (header-sent, header-laid)
 
 -- ── a character behind them

@@ -76,7 +76,7 @@ removeCharacter n c st = record { size = st .size; mark = closedAt n c (st .mark
 unfoldable pub removingCharacter : ℕ → ℕ → List ℕ → After
 removingCharacter n c s = onCharacter (refuse s) n c s (λ st r. done (removeCharacter n c st))
 
--- ── telling: "copies the 64 or 16 kept bytes to an output, answers the number of characters or of data bytes, and checks as removing does, then 12"
+-- ── telling: "copies the 64 (W-206: 68) or 16 kept bytes to an output, answers the number of characters or of data bytes, and checks as removing does, then 12"
 
 -- the characters of font n
 unfoldable pub charactersOf : ℕ → List Rec → List Rec

@@ -32,13 +32,13 @@ markFontAt = 8
 abbrev pub markCodeAt : ℕ
 markCodeAt = 10
 
--- Kind 2, 78 bytes: font number, W-205: "the number of its characters (2 bytes) and the sum of their kept data bytes (4 bytes) after the font
--- number, making it 78 bytes", 64 kept bytes
+-- Kind 2, 82 bytes: font number, W-205: "the number of its characters (2 bytes) and the sum of their kept data bytes (4 bytes) after the font
+-- number", 68 kept bytes, W-206: "The font record grows at its end by those four bytes for every font"
 abbrev pub fontKind : ℕ
 fontKind = 2
 
 abbrev pub fontRecord : ℕ
-fontRecord = 78
+fontRecord = 82
 
 abbrev pub fontCharactersAt : ℕ
 fontCharactersAt = 8

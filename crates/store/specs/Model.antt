@@ -47,7 +47,7 @@ tallyOf (character m c h d ∷ rs) n = oneMore (eqb m n) (length d) (tallyOf rs 
 
 -- ── bytes: "low byte first: length of the whole record (4 bytes), kind (2), body"
 
--- Kind 2: font number, the two numbers of W-205, 64 kept bytes: what stands before the kept bytes, and a font and its numbers read at the front
+-- Kind 2: font number, the two numbers of W-205, kept bytes: what stands before the kept bytes, and a font and its numbers read at the front
 -- of s
 unfoldable pub tallyBytes : Tally → List ℕ
 tallyBytes t = le 2 (t .characters) ++ le 4 (t .bytes)

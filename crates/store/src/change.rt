@@ -5,7 +5,7 @@ ghost use mathlib.Core.List.{_++_};
 ghost use lib.ListN.{length, take, drop, replicate};
 ghost use lib.Seq.{paste};
 ghost use mathlib.Core.Bool.{cond};
-ghost use Rattle.blocks.specs.Header.{keptHeader, headerBytes};
+ghost use Rattle.blocks.specs.Header.{keptHeader, ownBytes};
 ghost use Rattle.blocks.specs.Character.{keptFirst, continuationBytes, descriptorBytes};
 ghost use Rattle.pictures.specs.Size.{dataLimit};
 ghost use Rattle.store.specs.Layout.{characterKeptAt, characterRecord, fontCharactersAt, fontKeptAt, fontRecord, leastStore, markRecord};
@@ -244,7 +244,7 @@ pub(crate) fn unmark_character(s: &mut [u8], font: usize, code: usize)
 
 // Writes a font's record: its head, with no characters, and what is kept of an accepted block.
 pub(crate) fn write_font(s: &mut [u8], at: usize, n: usize, block: &[u8])
-    requires { ⌜ (at + fontRecord ≤ length (now s)) × (n < wordEnd) × (headerBytes ≤ length (now block)) ⌝ }
+    requires { ⌜ (at + fontRecord ≤ length (now s)) × (n < wordEnd) × (ownBytes (now block) ≤ length (now block)) ⌝ }
     ensures { λ _. ⌜ now (s .exit) ≡ withBytes (now (s .entry)) at (fontHead n noCharacters ++ keptHeader (now (block .entry))) ⌝ }
 {
     put32(s, at, FONT_RECORD);

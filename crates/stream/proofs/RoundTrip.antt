@@ -7,8 +7,9 @@ use mathlib.Core.Bool.{Bool, true, false, cond}
 use native.Mathlib.Omega.{arith}
 use borrow.Author.Tests.{leb-false}
 use lib.Dec.{leb, eqb}
-use Rattle.blocks.specs.Header.{orientation, isKeptHeader}
+use Rattle.blocks.specs.Header.{orientation, isKeptHeader, ownHeader}
 use Rattle.blocks.specs.Character.{isKeptFirst}
+use Rattle.blocks.proofs.HeaderBytes.{own-length, own-within}
 use Rattle.blocks.proofs.KeptHeader.{is-kept-length as header-length}
 use Rattle.store.specs.Layout.{fontRecord, keyOf, markRecord}
 use Rattle.store.specs.Model.{Rec, font, character, Store, Under, number, place, key, under, alone, sorted, heldOf, heldUnder, isKept, allowed, encode, decode, total, sizeOf}
@@ -106,10 +107,10 @@ module _ (n : ℕ) (g : List ℕ) (st : Store) (v : Valid st) (low : n ≤ 32767
   font-read =
       let z = font-laid n g (st .size) low ok (omega (arith, fits)) (v .small) in
       let s1 = first-store n g (st .size) in
-      let y = run-read n g low (w .rest) (keyOf n 0 + 1) (w .chars) s1 (z .1) (omega (arith, fits)) (setFont n ++ fontBlock g) 0 2 in (
-        ap (λ (l : List ℕ). reads [] l (target 0 0) (allDone 0 (encode (fresh (st .size))))) (append-assoc (setFont n) (fontBlock g) (writtenRun (w .rest)))
-            ∙ on-number [] (fontBlock g ++ writtenRun (w .rest)) 0 0 0 (encode (fresh (st .size))) n low
-            ∙ on-font (setFont n) (writtenRun (w .rest)) n 0 1 (encode (fresh (st .size))) g s1 (omega (arith, header-length g ok)) (z .0)
+      let y = run-read n g low (w .rest) (keyOf n 0 + 1) (w .chars) s1 (z .1) (omega (arith, fits)) (setFont n ++ fontBlock (ownHeader g)) 0 2 in (
+        ap (λ (l : List ℕ). reads [] l (target 0 0) (allDone 0 (encode (fresh (st .size))))) (append-assoc (setFont n) (fontBlock (ownHeader g)) (writtenRun (w .rest)))
+            ∙ on-number [] (fontBlock (ownHeader g) ++ writtenRun (w .rest)) 0 0 0 (encode (fresh (st .size))) n low
+            ∙ on-font (setFont n) (writtenRun (w .rest)) n 0 1 (encode (fresh (st .size))) (ownHeader g) s1 (omega (arith, own-length g (omega (arith, header-length g ok)), own-within g .1)) (z .0)
             ∙ y .0,
         y .1,
       )

@@ -8,8 +8,9 @@ use lib.ListN.{length, take, drop, set, length-take, length-drop, length-append,
 use lib.Seq.{take-all, take-add, take-append-add, drop-append-add, drop-drop}
 use lib.Dec.{leb}
 use borrow.Author.Tests.{le-leb, lt-leb, leb-true, leb-false}
-use Rattle.blocks.specs.Header.{blockLimit, headerBytes}
+use Rattle.blocks.specs.Header.{blockLimit, headerBytes, ownBytes, ownHeader}
 use Rattle.blocks.specs.Character.{descriptorBytes}
+use Rattle.blocks.proofs.HeaderBytes.{own-length}
 use Rattle.store.specs.Model.{Rec, font, sizeOf}
 use Rattle.store.specs.Records.{recordsOf, recordsAt, MetAt, fontFrom, FontMet, characterFrom, CharacterMet, Meeting, Between}
 use Rattle.store.specs.declared.records.Met.{Met}
@@ -131,7 +132,12 @@ continuation-put s b out last at from end h p q r t =
     joined-put s (characterBlock (4 ∷ 1 ∷ b)) (characterBlockHead (length b + 2)) (4 ∷ 1 ∷ b) out last at from end (continuation-is b) h p q (omega arith) (t ∙ two-bytes out b from (omega arith))
 
 -- ── a record
-pub font-parts : (n : ℕ) (h : List ℕ) → writtenRecord (font n h) ≡ setFont n ++ fontBlock h
+-- the part of a kept header that the code lends
+pub own-part : (h : List ℕ) (n : ℕ) → n ≡ ownBytes h → take n h ≡ ownHeader h
+unfolding ownHeader
+own-part h n e = rw e
+
+pub font-parts : (n : ℕ) (h : List ℕ) → writtenRecord (font n h) ≡ setFont n ++ fontBlock (ownHeader h)
 unfolding writtenRecord
 font-parts n h = refl
 
@@ -139,14 +145,16 @@ pub character-parts : (c : ℕ) (b : List ℕ) → writtenCharacter c b ≡ setC
 unfolding writtenCharacter
 character-parts c b = refl
 
-pub font-parts-room : (n to k : ℕ) (h : List ℕ) → to + length (writtenRecord (font n h)) ≤ k → (to + length (setFont n) ≤ k) × (to + length (setFont n) + length (fontBlock h) ≤ k)
-font-parts-room n to k h = joined-room (writtenRecord (font n h)) (setFont n) (fontBlock h) to k (font-parts n h)
+pub font-parts-room : (n to k : ℕ) (h : List ℕ) → to + length (writtenRecord (font n h)) ≤ k → (to + length (setFont n) ≤ k) × (to + length (setFont n) + length (fontBlock (ownHeader h)) ≤ k)
+font-parts-room n to k h = joined-room (writtenRecord (font n h)) (setFont n) (fontBlock (ownHeader h)) to k (font-parts n h)
 
 pub character-parts-room : (c to k : ℕ) (b : List ℕ) → to + length (writtenCharacter c b) ≤ k → (to + length (setCode c) ≤ k) × (to + length (setCode c) + length (blocks b) ≤ k)
 character-parts-room c to k b = joined-room (writtenCharacter c b) (setCode c) (blocks b) to k (character-parts c b)
 
-pub font-length : (n x y : ℕ) (h : List ℕ) → length h ≡ headerBytes → x ≡ 4 + length (decimal n) → y ≡ 4 + length (decimal headerBytes) → x + (y + headerBytes) ≡ length (writtenRecord (font n h))
-font-length n x y h e p q = omega (arith, ap length (font-parts n h), length-append (setFont n) (fontBlock h), length-set-font n, length-font-block h, same-digits (length h) headerBytes e)
+pub font-length : (n x y k : ℕ) (h : List ℕ) → length h ≡ headerBytes → k ≡ ownBytes h → x ≡ 4 + length (decimal n) → y ≡ 4 + length (decimal k) → x + (y + k) ≡ length (writtenRecord (font n h))
+font-length n x y k h e o p q =
+    let l : length (ownHeader h) ≡ k = own-length h (omega arith) ∙ sym o in
+    omega (arith, ap length (font-parts n h), length-append (setFont n) (fontBlock (ownHeader h)), length-set-font n, length-font-block (ownHeader h), same-digits (length (ownHeader h)) k l)
 
 pub font-fits : (n x : ℕ) (h : List ℕ) → x ≤ headerBytes + 18 → x ≤ 2 * sizeOf (font n h)
 unfolding sizeOf
@@ -167,18 +175,23 @@ module _ (s : List ℕ) (at : ℕ) (v : Met) (h : Meeting s at v) where
   met-end e = rw e at h
 
 module _ (s : List ℕ) (at n kept next : ℕ) (m : FontMet s at n kept next) where
-  pub font-measured : (x : ℕ) → ((h : List ℕ) → length h ≡ headerBytes → x ≡ length (writtenRecord (font n h))) → x ≤ headerBytes + 18
-      → (r : Rec) × MetAt s at r next × (x ≡ length (writtenRecord r)) × (x ≤ 2 * sizeOf r)
-  font-measured x f l =
-      let k : length (take headerBytes (drop kept s)) ≡ headerBytes = simp (length-take, length-drop) (omega (arith, m .room)) in
-      (fontFrom s n kept, m .met, f (take headerBytes (drop kept s)) k, font-fits n x (take headerBytes (drop kept s)) l)
-
   -- as the slice that the code lends
+  abbrev bytesOfFont : List ℕ
+  bytesOfFont = take (kept + headerBytes - kept) (drop kept s)
+
   abbrev fontLent : Rec
-  fontLent = font n (take (kept + headerBytes - kept) (drop kept s))
+  fontLent = font n bytesOfFont
+
+  pub lent-length : length bytesOfFont ≡ headerBytes
+  lent-length = simp (length-take, length-drop) (omega (arith, m .room))
 
   font-lent : fontLent ≡ fontFrom s n kept
   font-lent = let e : kept + headerBytes - kept ≡ headerBytes = omega arith in rw e
+
+  pub font-measured : (x : ℕ) → x ≡ length (writtenRecord fontLent) → x ≤ headerBytes + 18
+      → (r : Rec) × MetAt s at r next × (x ≡ length (writtenRecord r)) × (x ≤ 2 * sizeOf r)
+  font-measured x e l =
+      (fontFrom s n kept, m .met, e ∙ ap (λ (r : Rec). length (writtenRecord r)) font-lent, font-fits n x (take headerBytes (drop kept s)) l)
 
   pub font-room : (to k : ℕ) → ((r : Rec) (next : ℕ) → MetAt s at r next → to + length (writtenRecord r) ≤ k) → to + length (writtenRecord fontLent) ≤ k
   font-room to k f = rw font-lent (f (fontFrom s n kept) next (m .met))

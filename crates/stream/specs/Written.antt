@@ -3,6 +3,7 @@ use Prim.Native.Nat.{ℕ, _+_}
 use mathlib.Core.List.{List, [], _∷_, _++_}
 use lib.Dec.{leb}
 use lib.ListN.{length, take, drop}
+use Rattle.blocks.specs.Header.{ownHeader}
 use Rattle.store.specs.Model.{Rec, font, character}
 use Rattle.store.specs.Records.{recordsOf}
 use Rattle.store.specs.Answer.{checked, onFont}
@@ -19,9 +20,10 @@ unfoldable pub continuation : List ℕ → List ℕ
 continuation [] = []
 continuation (b ∷ d) = characterBlock (4 ∷ 1 ∷ b ∷ d)
 
--- "D, header (64 bytes), then per rising code E, a first block .., one continuation .."
+-- "D, header (64 bytes), then per rising code E, a first block .., one continuation .." W-206: "The write-out gives back the format received",
+-- 68 header bytes for format 20
 unfoldable pub writtenRecord : Rec → List ℕ
-writtenRecord (font n h) = setFont n ++ fontBlock h
+writtenRecord (font n h) = setFont n ++ fontBlock (ownHeader h)
 writtenRecord (character n c h d) = setCode c ++ (characterBlock (h ++ take firstData d) ++ continuation (drop firstData d))
 
 unfoldable pub writtenRun : List Rec → List ℕ

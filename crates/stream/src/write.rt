@@ -15,6 +15,7 @@ ghost use Rattle.stream.specs.Run.{blocks, writtenCharacter};
 use crate::digits::digit_count;
 use crate::writing;
 use blocks::character::CONTINUATION;
+use blocks::header;
 use blocks::header::BLOCK_LIMIT;
 use blocks::header::KEPT;
 use store::records;
@@ -74,12 +75,13 @@ fn blocks_length(n: usize) -> usize
     command_length(BLOCK_LIMIT) + BLOCK_LIMIT + (command_length(rest) + rest)
 }
 
-// The length of a font's own commands.
-fn font_length(number: usize) -> usize
-    requires { ⌜ number ≤ lastFont ⌝ }
-    ensures { λ r. ⌜ ((h : List ℕ) → length h ≡ headerBytes → r ≡ length (writtenRecord (font number h))) × (r ≤ headerBytes + 18) ⌝ }
+// The length of a font's own commands, whose kept bytes are h.
+fn font_length(number: usize, h: &[u8]) -> usize
+    requires { ⌜ (number ≤ lastFont) × (length (now h) ≡ headerBytes) ⌝ }
+    ensures { λ r. ⌜ (r ≡ length (writtenRecord (font number (now (h .entry))))) × (r ≤ headerBytes + 18) ⌝ }
 {
-    command_length(number) + (command_length(KEPT) + KEPT)
+    let n = header::own_bytes(h);
+    command_length(number) + (command_length(n) + n)
 }
 
 // The length of a character's commands, with n bytes kept, its data among them.
@@ -96,14 +98,13 @@ fn measure_record(s: &[u8], at: usize) -> Measured
     ensures { λ m. ⌜ ((r : Rec) × MetAt (now (s .entry)) at r (m .next) × (m .length ≡ length (writtenRecord r)) × (m .length ≤ 2 * sizeOf r)) ⌝ }
 {
     match records::record_at(s, at) {
-        Met::Font {
-            number,
-            kept: _,
-            next,
-        } => Measured {
-            length: font_length(number as usize),
-            next: next,
-        },
+        Met::Font { number, kept, next } => {
+            let end = kept + KEPT;
+            Measured {
+                length: font_length(number as usize, &s[kept..end]),
+                next: next,
+            }
+        }
         Met::Character {
             number: _,
             code,
@@ -161,11 +162,12 @@ fn write_blocks(out: &mut [u8], to: usize, b: &[u8]) -> usize
 
 // A font's own record, whose kept bytes are h.
 fn write_font_record(out: &mut [u8], to: usize, number: usize, h: &[u8]) -> usize
-    requires { ⌜ to + length (writtenRecord (font number (now h))) ≤ length (now out) ⌝ }
+    requires { ⌜ (length (now h) ≡ headerBytes) × (to + length (writtenRecord (font number (now h))) ≤ length (now out)) ⌝ }
     ensures { λ r. ⌜ (r ≡ to + length (writtenRecord (font number (now (h .entry))))) × (now (out .exit) ≡ withBytes (now (out .entry)) to (writtenRecord (font number (now (h .entry))))) ⌝ }
 {
+    let n = header::own_bytes(h);
     let next = writing::write_set_font(out, to, number);
-    writing::write_font_block(out, next, h)
+    writing::write_font_block(out, next, &h[..n])
 }
 
 // A character's record, whose kept bytes with its data are b.

@@ -35,9 +35,20 @@ pub fn tell_character(what: &[u8], s: &[u8], out: &mut [u8], number: u32, code: 
 }
 
 // For set 277, fixed, R 1000, H 1200, style 0, typeface 3, portrait: the font's number is printed.
-pub fn choose(what: &[u8], s: &[u8], weight: u32) {
-    let chosen = marlinfold::mf_choose(s, 277, 0, 1000, 1200, 0, weight, 3, 0);
+pub fn choose_in(mode: u32, what: &[u8], s: &[u8], weight: u32) {
+    let chosen = marlinfold::mf_choose(s, 277, 0, 1000, 1200, 0, weight, 3, 0, mode);
     print::two(what, chosen.refusal, chosen.font);
+}
+
+// In mode 300.
+pub fn choose(what: &[u8], s: &[u8], weight: u32) {
+    choose_in(300, what, s, weight);
+}
+
+// The length is printed.
+pub fn write_font(what: &[u8], s: &[u8], out: &mut [u8], number: u32) {
+    let written = marlinfold::mf_write_font(s, out, number);
+    print::two(what, written.refusal, written.length);
 }
 
 pub fn draw_row(what: &[u8], s: &[u8], out: &mut [u8], row: u32) {

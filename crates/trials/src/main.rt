@@ -3,6 +3,7 @@ mod calls;
 mod compressed;
 mod print;
 mod refusals;
+mod resolution;
 mod room;
 mod samples;
 mod sent;
@@ -16,4 +17,5 @@ fn main() {
     compressed::run();
     sent::run();
     refusals::run();
+    resolution::run();
 }

@@ -1,4 +1,4 @@
-// W-205: "the 84-byte case (now 90 and 89)": a store of 90 bytes takes one font, 89 none (10).
+// W-206: "the 90-byte case becomes 94 and 93": a store of 94 bytes takes one font, 93 none (10).
 use crate::calls;
 use crate::print;
 use crate::samples;
@@ -11,10 +11,10 @@ fn two_fonts(s: &mut [u8]) {
 }
 
 pub fn run() {
-    let mut enough = [0u8; 90];
-    print::text(b"a store of 90 bytes\n");
+    let mut enough = [0u8; 94];
+    print::text(b"a store of 94 bytes\n");
     two_fonts(&mut enough);
-    let mut short = [0u8; 89];
-    print::text(b"a store of 89 bytes\n");
+    let mut short = [0u8; 93];
+    print::text(b"a store of 93 bytes\n");
     two_fonts(&mut short);
 }

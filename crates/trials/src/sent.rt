@@ -10,7 +10,7 @@ fn read_cut(s: &mut [u8], stream: &[u8]) {
 }
 
 fn tell(s: &[u8]) {
-    let mut kept = [0u8; 64];
+    let mut kept = [0u8; 68];
     calls::tell_font(b"  font 2 told", s, &mut kept, 2);
     calls::tell_font(b"  font 5 told", s, &mut kept, 5);
 }

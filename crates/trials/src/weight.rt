@@ -10,13 +10,13 @@ fn download(what: &[u8], s: &mut [u8], weight: u8, font: u32) {
 
 // The weight of font 3 as it is told.
 fn tell(s: &[u8]) {
-    let mut kept = [0u8; 64];
+    let mut kept = [0u8; 68];
     calls::tell_font(b"  font 3 told", s, &mut kept, 3);
     print::signed(b"  its weight", kept[24]);
 }
 
 pub fn run() {
-    let mut store = [0u8; 256];
+    let mut store = [0u8; 288];
     let s: &mut [u8] = &mut store;
     calls::make_fresh(b"make fresh", s);
     download(b"  font 1, weight byte 250", s, 250, 1);

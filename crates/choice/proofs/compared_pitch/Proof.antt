@@ -1,4 +1,3 @@
-use native.Mathlib.Omega.{arith}
 use borrow.Author.Needs.{needs}
 use Rattle.choice.specs.Fields.{comparedPitch}
 use Rattle.choice.proofs.compared_pitch.Statement.{statement}
@@ -6,9 +5,7 @@ use Rattle.choice.proofs.compared_pitch.Tie as tie
 
 returns : tie.Need-returns
 unfolding comparedPitch
-returns c = (λ n. rw (c .before .kept-word .ensures .0, c .kept-byte .ensures .0), omega arith)
+returns c = (λ n. c .compared .ensures .0, c .compared .ensures .1)
 
 pub compared-pitch-spec : {M : Type 1} → statement M
-compared-pitch-spec =
-    tie.close
-    (tie.spec (λ c κs. search needs) (λ c. search needs) (λ c. search needs) (λ c κs. search needs) (λ c. search needs) (λ c. search needs) returns)
+compared-pitch-spec = tie.close (tie.spec (λ c κs. search needs) returns)

@@ -9,7 +9,7 @@ use Rattle.choice.proofs.in_range.Tie as tie
 returns : tie.Need-returns
 unfolding inRange
 returns c =
-    let w = c .before .before .before .before .before .before .before .before .before .args .r .weight in
+    let w = c .before .before .before .before .before .before .before .before .before .before .before .args .r .weight in
     let h : w < 2 ^ 32 = omega arith in
     rw (signed-within 32 weightLimit w (omega arith) h)
 

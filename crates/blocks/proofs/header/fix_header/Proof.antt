@@ -5,6 +5,9 @@ use borrow.Author.Needs.{needs}
 use Rattle.blocks.proofs.header.fix_header.Statement.{statement}
 use Rattle.blocks.proofs.header.fix_header.Tie as tie
 
+cast-put-word : tie.Need-cast-put-word
+cast-put-word c = omega (arith, c .before .own-bytes .ensures .1)
+
 cap-extended-requires : tie.Need-cap-extended-requires
 cap-extended-requires c κs = simp length-set (omega (arith, c .before .before .before .put-word .kept .0))
 
@@ -24,7 +27,8 @@ pub fix-header-spec : {M : Type 1} → statement M
 fix-header-spec =
     tie.close
     (tie.spec
-    (λ c. search needs)
+    (λ c κs. search needs)
+    cast-put-word
     (λ c κs. search needs)
     (λ c. search needs)
     cap-extended-requires

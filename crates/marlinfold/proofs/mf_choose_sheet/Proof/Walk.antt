@@ -105,14 +105,14 @@ Beg = begin.the-row
 
 -- how many bytes a request and an answer take
 abbrev requestBytes : ℕ
-requestBytes = 32
+requestBytes = 36
 
 abbrev answerBytes : ℕ
 answerBytes = 8
 
 -- what stands past the requests' end, which no index reaches
 abbrev pub none : Request
-none = record { «symbol_set» = 0; spacing = 0; pitch = 0; height = 0; style = 0; weight = 0; typeface = 0; orientation = 0 }
+none = record { «symbol_set» = 0; spacing = 0; pitch = 0; height = 0; style = 0; weight = 0; typeface = 0; orientation = 0; mode = 0 }
 
 module _ (κs : Lfts 3) (qs : Shares 3) where
   -- ── the contexts that are named: between the lines, only begin, from and i (locals 4, 5, 6) may hold something beside the parameters

@@ -1,6 +1,6 @@
 use denote.Ref.{now}
 use Rattle.store.specs.Records.{FontMet, CharacterMet}
-use Rattle.stream.proofs.Writes.{met-font, met-character, met-end, font-measured, character-measured}
+use Rattle.stream.proofs.Writes.{met-font, met-character, met-end, lent-length, font-measured, character-measured}
 use borrow.Author.Needs.{needs}
 use native.Mathlib.Omega.{arith}
 use Rattle.stream.proofs.write.measure_record.Statement.{statement}
@@ -21,8 +21,17 @@ sub-character-length c = omega (arith, at-character c .join, at-character c .las
 character-length-requires : tie.Need-character-length-requires
 character-length-requires c κs = (at-character c .code, omega (arith, at-character c .met .within, c .before .before .before .before .before .pre .2))
 
+add-end : tie.Need-add-end
+add-end c = omega (arith, at-font c .room)
+
+part-font-length-end : tie.Need-part-font-length-end
+part-font-length-end c = omega (arith, at-font c .room)
+
+font-length-requires : tie.Need-font-length-requires
+font-length-requires c κs = (at-font (c .before) .low, lent-length _ _ _ _ _ (at-font (c .before)))
+
 returns : tie.Need-returns
-returns c = font-measured _ _ _ _ _ (at-font (c .before)) _ (c .font-length .ensures .0) (c .font-length .ensures .1)
+returns c = font-measured _ _ _ _ _ (at-font (c .before .before)) _ (c .font-length .ensures .0) (c .font-length .ensures .1)
 
 returns-2 : tie.Need-returns-2
 returns-2 c = character-measured _ _ _ _ _ _ _ (at-character (c .before)) _ (c .character-length .ensures .0) (c .character-length .ensures .1)
@@ -36,8 +45,12 @@ measure-record-spec =
     (tie.spec
     (λ c κs. search needs)
     (λ c. search needs)
+    add-end
     (λ c. search needs)
-    (λ c κs. at-font c .low)
+    (λ c. search needs)
+    (λ c. search needs)
+    part-font-length-end
+    font-length-requires
     (λ c. search needs)
     (λ c. search needs)
     sub-character-length

@@ -1,6 +1,6 @@
 use denote.Ref.{now}
 use Rattle.store.specs.Records.{FontMet, CharacterMet}
-use Rattle.stream.proofs.Writes.{met-font, met-character, met-end, font-room, font-wrote, character-room, character-wrote}
+use Rattle.stream.proofs.Writes.{met-font, met-character, met-end, lent-length, font-room, font-wrote, character-room, character-wrote}
 use borrow.Author.Needs.{needs}
 use native.Mathlib.Omega.{arith}
 use Rattle.stream.proofs.write.write_record.Statement.{statement}
@@ -24,7 +24,7 @@ part-write-font-record-end c = omega (arith, at-font (c .before) .room)
 write-font-record-requires : tie.Need-write-font-record-requires
 write-font-record-requires c κs =
     let k = c .before .before in
-    font-room _ _ _ _ _ (at-font k) _ _ (k .before .before .before .before .before .before .pre .2)
+    (lent-length _ _ _ _ _ (at-font k), font-room _ _ _ _ _ (at-font k) _ _ (k .before .before .before .before .before .before .pre .2))
 
 sub-write-character-record : tie.Need-sub-write-character-record
 sub-write-character-record c = omega (arith, at-character (c .before) .join, at-character (c .before) .last)
