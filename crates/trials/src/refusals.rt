@@ -5,7 +5,7 @@ use crate::samples;
 fn numbers(s: &mut [u8]) {
     let mut short = [0u8; 11];
     calls::make_fresh(b"make fresh, 11 bytes", &mut short);
-    calls::make_fresh(b"make fresh, 120 bytes", s);
+    calls::make_fresh(b"make fresh, 126 bytes", s);
     let h = samples::header(0);
     calls::font(b"  font 32768", s, &h, 32768);
     calls::choose(b"  choose, no font", s, 0);
@@ -51,7 +51,7 @@ fn no_room(s: &mut [u8]) {
 }
 
 pub fn run() {
-    let mut store = [0u8; 120];
+    let mut store = [0u8; 126];
     let s: &mut [u8] = &mut store;
     numbers(s);
     headers(s);
