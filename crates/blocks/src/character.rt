@@ -3,7 +3,7 @@ ghost use mathlib.Core.Path.{_≡_};
 ghost use Prim.Native.Nat.{_≤_};
 ghost use lib.ListN.{length};
 ghost use Rattle.pictures.specs.Size.{within, sideLimit};
-ghost use Rattle.blocks.specs.Character.{descriptorBytes, continuationBytes, class, width, height, characterLength, kindOf, takenClass, heldClass, firstForm, firstFields, firstSize, readFirst, fixFirst, keptFirst, isKeptFirst, fixedFirst};
+ghost use Rattle.blocks.specs.Character.{descriptorBytes, continuationBytes, class, leftOffset, width, height, deltaX, characterLength, kindOf, takenClass, heldClass, firstForm, firstFields, firstSize, readFirst, fixFirst, keptFirst, isKeptFirst, fixedFirst};
 use crate::Verdict;
 use crate::field;
 use crate::header;
@@ -59,6 +59,14 @@ pub fn class(h: &[u8]) -> u8
     h[CLASS_AT]
 }
 
+// Its left offset, a signed number by its bits.
+pub fn left_offset(h: &[u8]) -> u16
+    requires { ⌜ descriptorBytes ≤ length (now h) ⌝ }
+    ensures { λ r. ⌜ r ≡ leftOffset (now (h .entry)) ⌝ }
+{
+    field::word(h, LEFT_OFFSET_AT)
+}
+
 // The width of its picture, in dots.
 pub fn width(h: &[u8]) -> u16
     requires { ⌜ descriptorBytes ≤ length (now h) ⌝ }
@@ -73,6 +81,14 @@ pub fn height(h: &[u8]) -> u16
     ensures { λ r. ⌜ r ≡ height (now (h .entry)) ⌝ }
 {
     field::word(h, HEIGHT_AT)
+}
+
+// Its delta X, a signed number by its bits.
+pub fn delta_x(h: &[u8]) -> u16
+    requires { ⌜ descriptorBytes ≤ length (now h) ⌝ }
+    ensures { λ r. ⌜ r ≡ deltaX (now (h .entry)) ⌝ }
+{
+    field::word(h, DELTA_X_AT)
 }
 
 // A character block has 2 up to 32,767 bytes.

@@ -52,7 +52,7 @@ pub(crate) fn offset_allowed(n: u16) -> bool
 }
 
 // A 16-bit field that is, as a signed number, below 0.
-pub(crate) fn is_negative(n: u16) -> bool
+pub fn is_negative(n: u16) -> bool
     ensures { λ r. ⌜ r ≡ negative 16 n ⌝ }
 {
     32768 <= n

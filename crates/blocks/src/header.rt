@@ -2,7 +2,7 @@
 ghost use mathlib.Core.Path.{_≡_};
 ghost use Prim.Native.Nat.{_≤_};
 ghost use lib.ListN.{length};
-ghost use Rattle.blocks.specs.Header.{plainBytes, headerBytes, orientation, saysResolution, ownBytes, headerForm, headerFields, bothAre, headerResolution, readHeader, firstBytes, fixHeader, keptHeader, isKeptHeader, fixedHeader};
+ghost use Rattle.blocks.specs.Header.{plainBytes, headerBytes, fontType, cellWidth, cellHeight, orientation, spacing, pitch, saysResolution, ownBytes, headerForm, headerFields, bothAre, headerResolution, readHeader, firstBytes, fixHeader, keptHeader, isKeptHeader, fixedHeader};
 use crate::Verdict;
 use crate::field;
 
@@ -75,12 +75,52 @@ const PITCH_LIMIT: u16 = 16800;
 
 const HEIGHT_LIMIT: u16 = 10922;
 
+// The type of a header's font.
+pub fn font_type(h: &[u8]) -> u8
+    requires { ⌜ headerBytes ≤ length (now h) ⌝ }
+    ensures { λ r. ⌜ r ≡ fontType (now (h .entry)) ⌝ }
+{
+    h[FONT_TYPE_AT]
+}
+
+// The width of its cell, in dots.
+pub fn cell_width(h: &[u8]) -> u16
+    requires { ⌜ headerBytes ≤ length (now h) ⌝ }
+    ensures { λ r. ⌜ r ≡ cellWidth (now (h .entry)) ⌝ }
+{
+    field::word(h, CELL_WIDTH_AT)
+}
+
+// The height of its cell, in dots.
+pub fn cell_height(h: &[u8]) -> u16
+    requires { ⌜ headerBytes ≤ length (now h) ⌝ }
+    ensures { λ r. ⌜ r ≡ cellHeight (now (h .entry)) ⌝ }
+{
+    field::word(h, CELL_HEIGHT_AT)
+}
+
 // The orientation of a header.
 pub fn orientation(h: &[u8]) -> u8
     requires { ⌜ plainBytes ≤ length (now h) ⌝ }
     ensures { λ r. ⌜ r ≡ orientation (now (h .entry)) ⌝ }
 {
     h[ORIENTATION_AT]
+}
+
+// Its spacing.
+pub fn spacing(h: &[u8]) -> u8
+    requires { ⌜ headerBytes ≤ length (now h) ⌝ }
+    ensures { λ r. ⌜ r ≡ spacing (now (h .entry)) ⌝ }
+{
+    h[SPACING_AT]
+}
+
+// Its pitch field.
+pub fn pitch(h: &[u8]) -> u16
+    requires { ⌜ headerBytes ≤ length (now h) ⌝ }
+    ensures { λ r. ⌜ r ≡ pitch (now (h .entry)) ⌝ }
+{
+    field::word(h, PITCH_AT)
 }
 
 // Whether a header is of the format that says its resolution.

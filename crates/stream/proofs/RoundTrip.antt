@@ -75,12 +75,12 @@ total-of (r ∷ rs) n = go (eqb (number r) n) (total-of rs n)
     go false h = unfold total in omega arith
 
 -- the font itself, then its characters
-record Kept (n : ℕ) (g : List ℕ) (rs : List Rec) : Type 0 where
-  rest : List Rec
-  are : recordsOf n rs ≡ font n g ∷ rest
-  chars : Chars n g (keyOf n 0 + 1) rest
+pub record Kept (n : ℕ) (g : List ℕ) (rs : List Rec) : Type 0 where
+  pub rest : List Rec
+  pub are : recordsOf n rs ≡ font n g ∷ rest
+  pub chars : Chars n g (keyOf n 0 + 1) rest
 
-kept-of : (n : ℕ) (g : List ℕ) (rs : List Rec) → sorted 0 alone rs ≡ true → find (keyOf n 0) rs ≡ some (font n g) → Kept n g rs
+pub kept-of : (n : ℕ) (g : List ℕ) (rs : List Rec) → sorted 0 alone rs ≡ true → find (keyOf n 0) rs ≡ some (font n g) → Kept n g rs
 unfolding number place under
 kept-of n g rs o f =
     let x = found (keyOf n 0) 0 alone (font n g) rs o f in

@@ -15,7 +15,6 @@ use Rattle.store.specs.Model.{Rec, font, sizeOf}
 use Rattle.store.specs.Records.{recordsOf, recordsAt, MetAt, fontFrom, FontMet, characterFrom, CharacterMet, Meeting, Between}
 use Rattle.store.specs.declared.records.Met.{Met}
 use Rattle.store.specs.declared.records.Met.the-variants.{Font, Character, End}
-use Rattle.store.specs.Answer.{checked}
 use Rattle.store.specs.Calls.{onto}
 use Rattle.store.specs.declared.walk.Places.{Places}
 use Rattle.store.proofs.Seeks.{KeptFont, font-call}
@@ -23,7 +22,7 @@ use Rattle.store.proofs.FontRecords.{between-none, between-next, font-records}
 use Rattle.stream.specs.Digits.{decimal}
 use Rattle.store.specs.Change.{withBytes}
 use Rattle.stream.specs.Writing.{spelling, setFont, setCode, fontBlockHead, fontBlock, characterBlockHead, characterBlock}
-use Rattle.stream.specs.Written.{firstData, continuation, writtenRecord, writtenRun, written, WriteOut, unwritten, writingFont}
+use Rattle.stream.specs.Written.{firstData, continuation, writtenRecord, writtenRun, written, WriteOut, unwritten, writingBytes, writingFont}
 use Rattle.stream.specs.Run.{blocks, writtenCharacter}
 use Rattle.stream.proofs.Putting.{length-put, put-none, put-byte, put-joined}
 use Rattle.stream.proofs.Spellings.{length-spelling, block-put}
@@ -291,29 +290,20 @@ pub put-front : (b out : List ℕ) → withBytes out 0 b ≡ onto b out
 unfolding withBytes
 put-front b out = let e : 0 + length b ≡ length b = omega arith in rw e
 
--- ── the call, for a font that is there
+-- ── the call, for records that are found
 same-answer : {k m : ℕ} {a b : List ℕ} → k ≡ m → a ≡ b → _≡_ {A = WriteOut} (record { refusal = 0; count = k; out = a }) (record { refusal = 0; count = m; out = b })
 same-answer p q = rw (p, q)
 
-module _ (n : ℕ) (s out : List ℕ) (w : Places) (x : KeptFont n 0 s w) where
-  wrote : writingFont n s out
-      ≡ checked (unwritten out) (leb (length (written n (x .ready .store .recs))) (length out)) 12
-      (record { refusal = 0; count = length (written n (x .ready .store .recs)); out = onto (written n (x .ready .store .recs)) out })
-  unfolding writingFont
-  wrote = font-call n s w (unwritten out) _ x
+module _ (s out : List ℕ) (lo hi k : ℕ) (m : (rs : List Rec) → Between s lo hi rs → k ≡ length (writtenRun rs)) (rs : List Rec) (b : Between s lo hi rs) where
+  pub too-short : length out < k → unwritten out 12 ≡ writingBytes (writtenRun rs) out
+  too-short l = rw (lt-leb (length (writtenRun rs)) (length out) (omega (arith, m rs b)))
 
-  module _ (k : ℕ) (m : (rs : List Rec) → Between s (w .lo) (w .hi) rs → k ≡ length (writtenRun rs)) where
-    written-length : k ≡ length (written n (x .ready .store .recs))
-    unfolding written
-    written-length = m (recordsOf n (x .ready .store .recs)) (font-records n s w x)
+  pub wrote-all : k ≤ length out → (last : List ℕ) → ((rs : List Rec) → Between s lo hi rs → last ≡ withBytes out 0 (writtenRun rs))
+      → record { refusal = 0; count = k; out = last } ≡ writingBytes (writtenRun rs) out
+  wrote-all l last f =
+      rw (le-leb (length (writtenRun rs)) (length out) (omega (arith, m rs b))) (same-answer (m rs b) (f rs b ∙ put-front (writtenRun rs) out))
 
-    pub too-short : length out < k → writingFont n s out ≡ unwritten out 12
-    too-short l = wrote ∙ rw (lt-leb (length (written n (x .ready .store .recs))) (length out) (omega (arith, written-length)))
-
-    pub wrote-all : k ≤ length out → (last : List ℕ) → ((rs : List Rec) → Between s (w .lo) (w .hi) rs → last ≡ withBytes out 0 (writtenRun rs))
-        → writingFont n s out ≡ record { refusal = 0; count = k; out = last }
-    unfolding written
-    wrote-all l last f =
-        let b = written n (x .ready .store .recs) in
-        let e : last ≡ onto (written n (x .ready .store .recs)) out = f (recordsOf n (x .ready .store .recs)) (font-records n s w x) ∙ put-front (written n (x .ready .store .recs)) out in
-        wrote ∙ rw (le-leb (length (written n (x .ready .store .recs))) (length out) (omega (arith, written-length))) (same-answer (sym written-length) (sym e))
+-- those of a font that is there
+pub font-written : (n : ℕ) (s out : List ℕ) (w : Places) (x : KeptFont n 0 s w) (a : WriteOut) → ((rs : List Rec) → Between s (w .lo) (w .hi) rs → a ≡ writingBytes (writtenRun rs) out) → a ≡ writingFont n s out
+unfolding writingFont written
+font-written n s out w x a f = f (recordsOf n (x .ready .store .recs)) (font-records n s w x) ∙ sym (font-call n s w (unwritten out) _ x)

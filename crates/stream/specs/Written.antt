@@ -48,10 +48,10 @@ writtenOf r out = record { refusal = r .refusal; count = r .length; out = out }
 abbrev pub unwritten : List ℕ → ℕ → WriteOut
 unwritten out k = record { refusal = k; count = 0; out = out }
 
+-- bytes put to an output that has room for them, else 12; the answer is their length
+abbrev pub writingBytes : List ℕ → List ℕ → WriteOut
+writingBytes b out = checked (unwritten out) (leb (length b) (length out)) 12 (record { refusal = 0; count = length b; out = onto b out })
+
 -- "Write-out checks 1, 2, 6, 12 and answers its length."
 unfoldable pub writingFont : ℕ → List ℕ → List ℕ → WriteOut
-writingFont n s out =
-    onFont (unwritten out) n s
-    (λ st r.
-    checked (unwritten out) (leb (length (written n (st .recs))) (length out)) 12
-    (record { refusal = 0; count = length (written n (st .recs)); out = onto (written n (st .recs)) out }))
+writingFont n s out = onFont (unwritten out) n s (λ st r. writingBytes (written n (st .recs)) out)

@@ -10,7 +10,7 @@ ghost use Rattle.store.specs.Records.{recordsAt, Place, MetAt, Between};
 ghost use Rattle.stream.specs.Digits.{decimal};
 ghost use Rattle.store.specs.Change.{withBytes};
 ghost use Rattle.stream.specs.Writing.{characterBlock};
-ghost use Rattle.stream.specs.Written.{writtenRecord, writtenRun, writtenOf, writingFont};
+ghost use Rattle.stream.specs.Written.{writtenRecord, writtenRun, writtenOf, writingBytes, writingFont};
 ghost use Rattle.stream.specs.Run.{blocks, writtenCharacter};
 use crate::digits::digit_count;
 use crate::writing;
@@ -43,7 +43,7 @@ struct Reached {
 }
 
 // A refusal answers 0 for every other number.
-fn unwritten(refusal: u32) -> Written
+pub fn unwritten(refusal: u32) -> Written
     ensures { λ r. ⌜ (r .refusal ≡ refusal) × (r .length ≡ 0) ⌝ }
 {
     Written {
@@ -218,22 +218,28 @@ fn write_records(s: &[u8], lo: usize, hi: usize, out: &mut [u8])
     }
 }
 
+// Writes the records from one place up to another, if the output has room for them. Checks 12.
+pub fn write_found(s: &[u8], out: &mut [u8], lo: usize, hi: usize) -> Written
+    requires { ⌜ ((rs : List Rec) × Between (now s) lo hi rs) ⌝ }
+    ensures { λ r. ⌜ ((rs : List Rec) → Between (now (s .entry)) lo hi rs → writtenOf r (now (out .exit)) ≡ writingBytes (writtenRun rs) (now (out .entry))) ⌝ }
+{
+    let n = written_length(s, lo, hi);
+    if out.len() < n {
+        return unwritten(12);
+    }
+    write_records(s, lo, hi, out);
+    Written {
+        refusal: 0,
+        length: n as u32,
+    }
+}
+
 // Writes a font with its characters. Checks 1, 2, 6, 12.
 pub fn write_font(s: &[u8], out: &mut [u8], font: u32) -> Written
     ensures { λ r. ⌜ writtenOf r (now (out .exit)) ≡ writingFont font (now (s .entry)) (now (out .entry)) ⌝ }
 {
     match seek::seek_font(s, font) {
         Sought::Refused(k) => unwritten(k),
-        Sought::Here(p) => {
-            let n = written_length(s, p.lo, p.hi);
-            if out.len() < n {
-                return unwritten(12);
-            }
-            write_records(s, p.lo, p.hi, out);
-            Written {
-                refusal: 0,
-                length: n as u32,
-            }
-        }
+        Sought::Here(p) => write_found(s, out, p.lo, p.hi),
     }
 }

@@ -1,0 +1,96 @@
+-- A font meets the profile exactly when all its rules hold. Assumes nothing.
+use Prim.Native.Nat.{ℕ, _+_, _≤_}
+use mathlib.Core.Path.{_≡_, refl, _∙_}
+use mathlib.Core.List.{List, [], _∷_}
+use mathlib.Core.Bool.{Bool, true, false, not, _||_}
+use mathlib.Core.Option.{Option, none, some}
+use native.Mathlib.Omega.{arith}
+use borrow.Author.Tests.{eqb-true, eq-eqb, le-leb, leb-true}
+use lib.Dec.{leb}
+use Rattle.blocks.specs.Header.{fontType, spacing}
+use Rattle.blocks.specs.Field.{within}
+use Rattle.blocks.specs.declared.picture.Held.{Held}
+use Rattle.blocks.specs.declared.picture.Held.the-variants.{Whole, Unfinished, Foreign}
+use Rattle.store.specs.Layout.{lastCode, keyOf}
+use Rattle.store.specs.Model.{Rec, heldOf}
+use Rattle.store.specs.Order.{find}
+use Rattle.store.specs.Calls.{keptOf, dataOf}
+use Rattle.profile.specs.Profile.{ofTypeZero, fixedSpaced, firstRequired, lastRequired, isWhole, complete, hasCharacter, leftInside, rightInside, heightInside, advancesByPitch, ofEach, characterRules, firstBroken, brokenIn, noneBroken, Simple, Meets, MeetsExactly}
+use Rattle.profile.proofs.Search.{rule-holds, none-broken}
+
+whole-is : (v : Held) → isWhole v ≡ true → v ≡ Whole
+whole-is Whole e = refl
+whole-is Unfinished e = let z : _≡_ {A = ℕ} 0 1 = cc in absurd (omega arith)
+whole-is Foreign e = let z : _≡_ {A = ℕ} 0 1 = cc in absurd (omega arith)
+
+complete-is : (o : Option Rec) → complete o ≡ true → (r : Rec) × (o ≡ some r) × (heldOf (keptOf r) (dataOf r) ≡ Whole)
+complete-is none e = let z : _≡_ {A = ℕ} 0 1 = cc in absurd (omega arith)
+complete-is (some r) e = (r, refl, whole-is (heldOf (keptOf r) (dataOf r)) e)
+
+module _ (n : ℕ) (h : List ℕ) (rs : List Rec) where
+  abbrev at : ℕ → Option Rec
+  at c = find (keyOf n (c + 1)) rs
+
+  required-is : (c : ℕ) → firstRequired ≤ c → c ≤ lastRequired → hasCharacter h c (at c) ≡ true → complete (at c) ≡ true
+  required-is c a b e = rw (le-leb firstRequired c a, le-leb c lastRequired b) at e
+
+  kept-is : (t : List ℕ → List ℕ → Bool) (c : ℕ) (r : Rec) → at c ≡ some r → ofEach t h c (at c) ≡ true → t h (keptOf r) ≡ true
+  kept-is t c r e q = rw e at q
+
+  meets-all : brokenIn n h rs .rule ≡ 0 → Meets n h rs
+  unfolding brokenIn
+  meets-all e =
+      let a = none-broken h at ofTypeZero (fixedSpaced ∷ hasCharacter ∷ characterRules) 1 (omega arith) e in
+      let b = none-broken h at fixedSpaced (hasCharacter ∷ characterRules) 2 (omega arith) (a .1) in
+      let c = none-broken h at hasCharacter characterRules 3 (omega arith) (b .1) in
+      let d = none-broken h at (ofEach leftInside) (ofEach rightInside ∷ ofEach heightInside ∷ ofEach advancesByPitch ∷ []) 4 (omega arith) (c .1) in
+      let f = none-broken h at (ofEach rightInside) (ofEach heightInside ∷ ofEach advancesByPitch ∷ []) 5 (omega arith) (d .1) in
+      let g = none-broken h at (ofEach heightInside) (ofEach advancesByPitch ∷ []) 6 (omega arith) (f .1) in
+      let i = none-broken h at (ofEach advancesByPitch) [] 7 (omega arith) (g .1) in
+      record {
+        plain = eqb-true (fontType h) 0 (a .0 0 (omega arith));
+        fixed = eqb-true (spacing h) 0 (b .0 0 (omega arith));
+        present = λ k l m. complete-is (at k) (required-is k l m (c .0 k (omega arith)));
+        simple = λ k r l q. record {
+          left = kept-is leftInside k r q (d .0 k l);
+          right = kept-is rightInside k r q (f .0 k l);
+          tall = kept-is heightInside k r q (g .0 k l);
+          advance = kept-is advancesByPitch k r q (i .0 k l);
+        };
+      }
+
+  module _ (m : Meets n h rs) where
+    has : (c : ℕ) → hasCharacter h c (at c) ≡ true
+    has c = go (leb firstRequired c) refl (leb c lastRequired) refl
+      where
+        or-true : (t : Bool) → (t || true) ≡ true
+        or-true true = refl
+        or-true false = refl
+
+        go : (a : Bool) → leb firstRequired c ≡ a → (b : Bool) → leb c lastRequired ≡ b → hasCharacter h c (at c) ≡ true
+        go false p b q = rw p
+        go true p false q = rw (p, q)
+        go true p true q =
+            let x = m .present c (leb-true firstRequired c p) (leb-true c lastRequired q) in
+            rw (x .1, x .2) (or-true (not (within firstRequired lastRequired c)))
+
+    each : (t : List ℕ → List ℕ → Bool) → ((k : List ℕ) → Simple h k → t h k ≡ true) → (c : ℕ) → c ≤ lastCode → ofEach t h c (at c) ≡ true
+    each t f c l = go (at c) refl
+      where
+        go : (o : Option Rec) → at c ≡ o → ofEach t h c o ≡ true
+        go none e = refl
+        go (some r) e = f (keptOf r) (m .simple c r l e)
+
+    none-is : brokenIn n h rs ≡ noneBroken
+    unfolding brokenIn firstBroken
+    none-is =
+        rule-holds h at ofTypeZero (fixedSpaced ∷ hasCharacter ∷ characterRules) 1 (λ c l. eq-eqb (fontType h) 0 (m .plain))
+        ∙ rule-holds h at fixedSpaced (hasCharacter ∷ characterRules) 2 (λ c l. eq-eqb (spacing h) 0 (m .fixed))
+        ∙ rule-holds h at hasCharacter characterRules 3 (λ c l. has c)
+        ∙ rule-holds h at (ofEach leftInside) (ofEach rightInside ∷ ofEach heightInside ∷ ofEach advancesByPitch ∷ []) 4 (each leftInside (λ k s. s .left))
+        ∙ rule-holds h at (ofEach rightInside) (ofEach heightInside ∷ ofEach advancesByPitch ∷ []) 5 (each rightInside (λ k s. s .right))
+        ∙ rule-holds h at (ofEach heightInside) (ofEach advancesByPitch ∷ []) 6 (each heightInside (λ k s. s .tall))
+        ∙ rule-holds h at (ofEach advancesByPitch) [] 7 (each advancesByPitch (λ k s. s .advance))
+
+pub meets-exactly : MeetsExactly
+meets-exactly n h rs = ((λ e. meets-all n h rs (eqb-true (brokenIn n h rs .rule) 0 e)), none-is n h rs)
