@@ -19,10 +19,10 @@ use Rattle.store.proofs.Codec.{Sorted, sorted-inv}
 use Rattle.store.proofs.Lookup.{find-here, find-other, find-behind}
 use Rattle.store.proofs.FontRecords.{of-in, of-out}
 use Rattle.stream.proofs.RoundTrip.{kept-of}
-use Rattle.profile.specs.Profile.{firstRequired, lastRequired, isWhole, complete, leftInside, rightInside, heightInside, advancesByPitch, ofEach, characterRules, rules, hasCharacter, noneBroken, firstBroken, brokenIn}
+use Rattle.profile.specs.Profile.{ruleAt, firstRequired, lastRequired, isWhole, complete, leftInside, rightInside, heightInside, advancesByPitch, ofEach, characterRules, rules, hasCharacter, noneBroken, firstBroken, brokenIn}
 use Rattle.profile.specs.Pass.{brokenBy, nextWanted, behindCharacter, behindRecord, passedOver, nothingFound, foundBroken, brokenWith, brokenAmong}
 use Rattle.profile.specs.declared.pass.Findings.{Findings}
-use Rattle.profile.proofs.Search.{ruleAt, rule-holds, rule-breaks, rules-hold, rules-break}
+use Rattle.profile.proofs.Search.{rule-holds, rule-breaks, rules-hold, rules-break}
 
 -- ── the rules of one character
 abbrev Test : ℕ → List ℕ → ℕ → Option Rec → Bool

@@ -1,6 +1,6 @@
 -- A font meets the profile exactly when all its rules hold. Assumes nothing.
-use Prim.Native.Nat.{ℕ, _+_, _≤_}
-use mathlib.Core.Path.{_≡_, refl, _∙_}
+use Prim.Native.Nat.{ℕ, _+_, _≤_, _<_}
+use mathlib.Core.Path.{_≡_, refl, sym, ap, _∙_}
 use mathlib.Core.List.{List, [], _∷_}
 use mathlib.Core.Bool.{Bool, true, false, not, _||_}
 use mathlib.Core.Option.{Option, none, some}
@@ -11,12 +11,16 @@ use Rattle.blocks.specs.Header.{fontType, spacing}
 use Rattle.blocks.specs.Field.{within}
 use Rattle.blocks.specs.declared.picture.Held.{Held}
 use Rattle.blocks.specs.declared.picture.Held.the-variants.{Whole, Unfinished, Foreign}
-use Rattle.store.specs.Layout.{lastCode, keyOf}
-use Rattle.store.specs.Model.{Rec, heldOf}
+use Rattle.store.specs.Layout.{lastFont, lastCode, keyOf}
+use Rattle.store.specs.Model.{Rec, Store, heldOf, decode}
+use Rattle.store.specs.Answer.{onStore, checked, finding, onFont}
 use Rattle.store.specs.Order.{find}
 use Rattle.store.specs.Calls.{keptOf, dataOf}
-use Rattle.profile.specs.Profile.{ofTypeZero, fixedSpaced, firstRequired, lastRequired, isWhole, complete, hasCharacter, leftInside, rightInside, heightInside, advancesByPitch, ofEach, characterRules, firstBroken, brokenIn, noneBroken, Simple, Meets, MeetsExactly}
-use Rattle.profile.proofs.Search.{rule-holds, none-broken}
+use Rattle.stream.specs.Written.{WriteOut, unwritten, writingFont}
+use Rattle.profile.specs.declared.pass.RuleBroken.{RuleBroken}
+use Rattle.profile.specs.declared.check.ProfileChecked.{ProfileChecked}
+use Rattle.profile.specs.Profile.{unchecked, checkedAs, checkingProfile, meets, writingProfiled, ofTypeZero, fixedSpaced, firstRequired, lastRequired, isWhole, complete, hasCharacter, leftInside, rightInside, heightInside, advancesByPitch, ofEach, characterRules, firstBroken, rules, brokenIn, noneBroken, Simple, Meets, MeetsExactly, FirstAndLowest}
+use Rattle.profile.proofs.Search.{rule-holds, none-broken, breaks-first}
 
 whole-is : (v : Held) → isWhole v ≡ true → v ≡ Whole
 whole-is Whole e = refl
@@ -94,3 +98,40 @@ module _ (n : ℕ) (h : List ℕ) (rs : List Rec) where
 
 pub meets-exactly : MeetsExactly
 meets-exactly n h rs = ((λ e. meets-all n h rs (eqb-true (brokenIn n h rs .rule) 0 e)), none-is n h rs)
+
+pub first-and-lowest : FirstAndLowest
+unfolding brokenIn
+first-and-lowest n h rs e = breaks-first h (λ c. find (keyOf n (c + 1)) rs) rules 1 (λ x. let i : meets (firstBroken rules 1 h (λ c. find (keyOf n (c + 1)) rs)) ≡ true = ap meets x in let z : true ≡ false = sym i ∙ e in let y : _≡_ {A = ℕ} 0 1 = cc in omega arith)
+
+-- ── the second call, where it is done, writes out a font that meets the profile. One law for each check: w is its answer, f that of the write-out
+-- and c that of the first call.
+abbrev pub Profiled : WriteOut → WriteOut → ProfileChecked → Type 0
+Profiled w f c = w .refusal ≡ 0 → (w ≡ f) × (c ≡ checkedAs noneBroken)
+
+module _ (out : List ℕ) where
+  by-store : (o : Option Store) (a b : Store → WriteOut) (c : Store → ProfileChecked) → ((st : Store) → Profiled (a st) (b st) (c st)) → Profiled (onStore (unwritten out) o a) (onStore (unwritten out) o b) (onStore unchecked o c)
+  unfolding onStore
+  by-store none a b c g = λ z. absurd (omega (arith, z))
+  by-store (some st) a b c g = g st
+
+  by-check : (t : Bool) (k : ℕ) (a b : WriteOut) (c : ProfileChecked) → 0 < k → Profiled a b c → Profiled (checked (unwritten out) t k a) (checked (unwritten out) t k b) (checked unchecked t k c)
+  by-check true k a b c l g = g
+  by-check false k a b c l g = λ z. absurd (omega (arith, z, l))
+
+  by-find : (o : Option Rec) (k : ℕ) (a b : Rec → WriteOut) (c : Rec → ProfileChecked) → 0 < k → ((r : Rec) → Profiled (a r) (b r) (c r)) → Profiled (finding (unwritten out) o k a) (finding (unwritten out) o k b) (finding unchecked o k c)
+  unfolding finding
+  by-find none k a b c l g = λ z. absurd (omega (arith, z, l))
+  by-find (some r) k a b c l g = g r
+
+  by-meets : (x : RuleBroken) (a : WriteOut) → (meets x ≡ true → x ≡ noneBroken) → Profiled (checked (unwritten out) (meets x) 14 a) a (checkedAs x)
+  by-meets x a f = go (meets x) refl
+    where
+      go : (t : Bool) → meets x ≡ t → Profiled (checked (unwritten out) t 14 a) a (checkedAs x)
+      go true e = λ z. (refl, ap checkedAs (f e))
+      go false e = λ z. absurd (omega (arith, z))
+
+pub profiled : (n : ℕ) (s out : List ℕ) → Profiled (writingProfiled n s out) (writingFont n s out) (checkingProfile n s)
+unfolding writingProfiled writingFont checkingProfile onFont
+profiled n s out =
+    by-store out (decode s) _ _ _ (λ st. by-check out (leb n lastFont) 2 _ _ _ (omega arith) (by-find out (find (keyOf n 0) (st .recs)) 6 _ _ _ (omega arith)
+    (λ r. by-meets out (brokenIn n (keptOf r) (st .recs)) _ (λ e. meets-exactly n (keptOf r) (st .recs) .1 (meets-exactly n (keptOf r) (st .recs) .0 e)))))

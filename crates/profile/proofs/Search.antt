@@ -9,7 +9,8 @@ use borrow.Author.Tests.{eqb-true, eqb-false}
 use lib.Dec.{eqb}
 use Rattle.store.specs.Layout.{lastCode}
 use Rattle.store.specs.Model.{Rec}
-use Rattle.profile.specs.Profile.{Rule, lowestBreaking, noneBroken, brokenOr, firstBroken}
+use Rattle.profile.specs.declared.pass.RuleBroken.{RuleBroken}
+use Rattle.profile.specs.Profile.{Rule, ruleAt, lowestBreaking, noneBroken, brokenOr, firstBroken, BreaksFirst}
 
 -- ── one rule over the codes
 -- a test that holds at each of n codes from c on
@@ -40,12 +41,41 @@ is-lowest (suc n) c e t a b x f = go (eqb c e) refl (λ l. is-lowest n (c + 1) e
     go true q ih = let i = eqb-true c e q in rw (i, x)
     go false q ih = let z = eqb-false c e q in rw (f c (omega arith) (omega arith)) (ih (omega arith))
 
+-- and the other way
+record Lowest (n c e : ℕ) (t : ℕ → Bool) : Type 0 where
+  from : c ≤ e
+  within : e < c + n
+  fails : t e ≡ false
+  before : (d : ℕ) → c ≤ d → d < e → t d ≡ true
+
+lowest-is : (n c e : ℕ) (t : ℕ → Bool) → lowestBreaking t c n ≡ some e → Lowest n c e t
+unfolding lowestBreaking
+lowest-is zero c e t q = let z : _≡_ {A = ℕ} 0 1 = cc in absurd (omega arith)
+lowest-is (suc n) c e t q = go (t c) refl q (lowest-is n (c + 1) e t)
+  where
+    here : t c ≡ true → Lowest n (c + 1) e t → (d : ℕ) → c ≤ d → d < e → (x : Bool) → eqb c d ≡ x → t d ≡ true
+    here p l d a b true x = subst (λ (i : ℕ). t i ≡ true) (eqb-true c d x) p
+    here p l d a b false x = let z = eqb-false c d x in l .before d (omega arith) b
+
+    go : (x : Bool) → t c ≡ x → cond x (lowestBreaking t (c + 1) n) (some c) ≡ some e → (lowestBreaking t (c + 1) n ≡ some e → Lowest n (c + 1) e t) → Lowest (suc n) c e t
+    go true p q ih =
+        let l = ih q in
+        record { from = omega (arith, l .from); within = omega (arith, l .within); fails = l .fails; before = λ d a b. here p l d a b (eqb c d) refl }
+    go false p q ih = let i : c ≡ e = cc in record { from = omega arith; within = omega arith; fails = subst (λ (k : ℕ). t k ≡ false) i p; before = λ d a b. absurd (omega arith) }
+
+-- tests that agree at each of n codes from c on
+same-lowest : (n c : ℕ) (t u : ℕ → Bool) → ((d : ℕ) → c ≤ d → d < c + n → t d ≡ u d) → lowestBreaking t c n ≡ lowestBreaking u c n
+unfolding lowestBreaking
+same-lowest zero c t u f = refl
+same-lowest (suc n) c t u f = rw (f c (omega arith) (omega arith), same-lowest n (c + 1) t u (λ d a b. f d (omega arith) (omega arith)))
+
 -- ── a list of rules
--- a rule by its place in the list
-abbrev pub ruleAt : List Rule → ℕ → Rule
-ruleAt [] j h c o = true
-ruleAt (t ∷ ts) zero h c o = t h c o
-ruleAt (t ∷ ts) (suc j) h c o = ruleAt ts j h c o
+-- no rule looks beyond code 255
+pub same-broken : (ts : List Rule) (i : ℕ) (h : List ℕ) (at to : ℕ → Option Rec) → ((c : ℕ) → c ≤ lastCode → at c ≡ to c) → firstBroken ts i h at ≡ firstBroken ts i h to
+unfolding firstBroken
+same-broken [] i h at to f = refl
+same-broken (t ∷ ts) i h at to f =
+    rw (same-lowest (lastCode + 1) 0 (λ c. t h c (at c)) (λ c. t h c (to c)) (λ d a b. ap (t h d) (f d (omega arith))), same-broken ts (i + 1) h at to f)
 
 module _ (h : List ℕ) (at : ℕ → Option Rec) where
   -- a rule at code c
@@ -73,7 +103,28 @@ module _ (h : List ℕ) (at : ℕ → Option Rec) where
       let y : i + 1 + j ≡ i + suc j = omega arith in
       rule-holds t ts i (λ c m. f 0 c (omega arith) m) ∙ rules-break ts j (i + 1) e l (λ k c m. f (suc k) c (omega arith)) x g ∙ ap (λ (k : ℕ). record { rule = k; code = e }) y
 
-  -- and the other way: where no rule is broken, each holds at each code
+  -- and the other way: where a rule is broken
+  pub breaks-first : (ts : List Rule) (i : ℕ) → (firstBroken ts i h at ≡ noneBroken → ⊥) → BreaksFirst ts i h at (firstBroken ts i h at)
+  unfolding firstBroken
+  breaks-first [] i f = absurd (f refl)
+  breaks-first (t ∷ ts) i f = go (lowestBreaking (λ c. t h c (at c)) 0 (lastCode + 1)) refl f (breaks-first ts (i + 1))
+    where
+      held : ((c : ℕ) → c ≤ lastCode → Holds t c) → (b : RuleBroken) (x : BreaksFirst ts (i + 1) h at b) (j c : ℕ) → j < suc (x .place) → c ≤ lastCode → Holds (ruleAt (t ∷ ts) j) c
+      held g b x zero c l m = g c m
+      held g b x (suc j) c l m = x .first j c (omega arith) m
+
+      go : (o : Option ℕ) → lowestBreaking (λ c. t h c (at c)) 0 (lastCode + 1) ≡ o → (brokenOr i o (firstBroken ts (i + 1) h at) ≡ noneBroken → ⊥)
+          → ((firstBroken ts (i + 1) h at ≡ noneBroken → ⊥) → BreaksFirst ts (i + 1) h at (firstBroken ts (i + 1) h at))
+          → BreaksFirst (t ∷ ts) i h at (brokenOr i o (firstBroken ts (i + 1) h at))
+      go none q f ih =
+          let x = ih f in
+          let g : (c : ℕ) → c ≤ lastCode → Holds t c = λ c m. all-hold (lastCode + 1) 0 (λ c. t h c (at c)) q c (omega arith) (omega arith) in
+          record { place = suc (x .place); number = omega (arith, x .number); code = x .code; broken = x .broken; lowest = x .lowest; first = held g (firstBroken ts (i + 1) h at) x }
+      go (some e) q f ih =
+          let l = lowest-is (lastCode + 1) 0 e (λ c. t h c (at c)) q in
+          record { place = 0; number = omega arith; code = omega (arith, l .within); broken = l .fails; lowest = λ c m. l .before c (omega arith) m; first = λ j c m k. absurd (omega arith) }
+
+  -- where no rule is broken, each holds at each code
   pub none-broken : (t : Rule) (ts : List Rule) (i : ℕ) → 0 < i → firstBroken (t ∷ ts) i h at .rule ≡ 0 → ((c : ℕ) → c ≤ lastCode → Holds t c) × (firstBroken ts (i + 1) h at .rule ≡ 0)
   unfolding firstBroken
   none-broken t ts i l e = go (lowestBreaking (λ c. t h c (at c)) 0 (lastCode + 1)) refl e

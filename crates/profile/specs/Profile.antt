@@ -1,5 +1,5 @@
 -- Document 02, W-207, "A profile for spine labels": its seven rules in their order, the first that a font breaks, and the two calls.
-use Prim.Native.Nat.{ℕ, zero, suc, _+_, _≤_}
+use Prim.Native.Nat.{ℕ, zero, suc, _+_, _≤_, _<_}
 use mathlib.Core.Path.{_≡_}
 use mathlib.Core.List.{List, [], _∷_}
 use mathlib.Core.Bool.{Bool, true, false, not, _||_, cond}
@@ -130,7 +130,7 @@ writingProfiled n s out =
     onFont (unwritten out) n s
     (λ st r. checked (unwritten out) (meets (brokenIn n (keptOf r) (st .recs))) 14 (writingBytes (written n (st .recs)) out))
 
--- ── a law of them: a font meets the profile "exactly when all that holds"
+-- ── laws of them. A font meets the profile "exactly when all that holds"
 pub record Simple (h k : List ℕ) : Type 0 where
   pub left : leftInside h k ≡ true
   pub right : rightInside h k ≡ true
@@ -145,3 +145,21 @@ pub record Meets (n : ℕ) (h : List ℕ) (rs : List Rec) : Type 0 where
 
 abbrev pub MeetsExactly : Type 0
 MeetsExactly = (n : ℕ) (h : List ℕ) (rs : List Rec) → (meets (brokenIn n h rs) ≡ true → Meets n h rs) × (Meets n h rs → brokenIn n h rs ≡ noneBroken)
+
+-- "or else the first broken rule .. and the lowest code that breaks it": rules by their place, counted from 0
+abbrev pub ruleAt : List Rule → ℕ → Rule
+ruleAt [] j h c o = true
+ruleAt (t ∷ ts) zero h c o = t h c o
+ruleAt (t ∷ ts) (suc j) h c o = ruleAt ts j h c o
+
+-- of rules numbered from i on
+pub record BreaksFirst (ts : List Rule) (i : ℕ) (h : List ℕ) (at : ℕ → Option Rec) (b : RuleBroken) : Type 0 where
+  pub place : ℕ
+  pub number : b .rule ≡ i + place
+  pub code : b .code ≤ lastCode
+  pub broken : ruleAt ts place h (b .code) (at (b .code)) ≡ false
+  pub lowest : (c : ℕ) → c < b .code → ruleAt ts place h c (at c) ≡ true
+  pub first : (j c : ℕ) → j < place → c ≤ lastCode → ruleAt ts j h c (at c) ≡ true
+
+abbrev pub FirstAndLowest : Type 0
+FirstAndLowest = (n : ℕ) (h : List ℕ) (rs : List Rec) → meets (brokenIn n h rs) ≡ false → BreaksFirst rules 1 h (λ c. find (keyOf n (c + 1)) rs) (brokenIn n h rs)
