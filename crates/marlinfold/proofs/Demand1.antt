@@ -36,7 +36,9 @@ use Rattle.stream.specs.declared.reading.Ending.{Ending}
 use Rattle.stream.specs.declared.reading.Ending.the-variants.{AtEnd, BrokenAt}
 use Rattle.turning.specs.Turn.{turnable, turnedSize, turned, unturned, turningPicture}
 use Rattle.stream.specs.Written.{WriteOut, unwritten, written, writingFont}
-use Rattle.marlinfold.specs.Calls.{Call, make-fresh, download-font, download-character, remove-font, remove-character, choose-font, tell-font, tell-character, draw-row, draw-picture, write-font, read-stream, choose-sheet, turn-picture, outputOf, Outcome, ofChange, ofChoice, ofTelling, ofDrawing, ofWriting, ofReading, ofTurning, ofSheet, outcome}
+use Rattle.profile.specs.Profile.{brokenIn, unchecked, meets, checkingProfile, writingProfiled}
+use Rattle.profile.specs.declared.check.ProfileChecked.{ProfileChecked}
+use Rattle.marlinfold.specs.Calls.{Call, make-fresh, download-font, download-character, remove-font, remove-character, choose-font, tell-font, tell-character, draw-row, draw-picture, write-font, read-stream, choose-sheet, turn-picture, check-profile, write-profiled, outputOf, Outcome, ofChange, ofChoice, ofTelling, ofDrawing, ofWriting, ofReading, ofTurning, ofSheet, ofCheck, outcome}
 use Rattle.marlinfold.specs.Demands.{listed, isIn, others, unchanged, carriedOut, Refusal, as-listed, no-room, broken, Demand1}
 
 -- the claim of an outcome
@@ -168,6 +170,19 @@ writes-font n out s =
     let w : Way (write-font n out) s WriteOut = record { of = ofWriting s; refuse = unwritten out; same = λ k. refl } in
     by-font w n _ (refl, refl, refl) (λ st r. by-check w (leb (length (written n (st .recs))) (length out)) 12 _ refl (inl refl))
 
+checks-profile : (n : ℕ) (s : List ℕ) → Claim (check-profile n) s
+unfolding listed outputOf others checkingProfile
+checks-profile n s =
+    let w : Way (check-profile n) s ProfileChecked = record { of = ofCheck s; refuse = unchecked; same = λ k. refl } in
+    by-font w n _ (refl, refl, refl) (λ st r. inl refl)
+
+writes-profiled : (n : ℕ) (out s : List ℕ) → Claim (write-profiled n out) s
+unfolding listed outputOf others writingProfiled
+writes-profiled n out s =
+    let w : Way (write-profiled n out) s WriteOut = record { of = ofWriting s; refuse = unwritten out; same = λ k. refl } in
+    by-font w n _ (refl, refl, refl) (λ st r.
+    by-check w (meets (brokenIn n (keptOf r) (st .recs))) 14 _ refl (by-check w (leb (length (written n (st .recs))) (length out)) 12 _ refl (inl refl)))
+
 chooses-sheet : (rs : List Request) (out : List SheetAnswer) (s : List ℕ) → Claim (choose-sheet rs out) s
 unfolding listed outputOf others choosingSheet
 chooses-sheet rs out s =
@@ -254,3 +269,5 @@ demand1 (write-font n out) s = writes-font n out s
 demand1 (read-stream b) s = reads b s
 demand1 (choose-sheet rs out) s = chooses-sheet rs out s
 demand1 (turn-picture t w h pic out) s = turns-picture t w h pic out s
+demand1 (check-profile n) s = checks-profile n s
+demand1 (write-profiled n out) s = writes-profiled n out s

@@ -7,7 +7,7 @@ use mathlib.Core.Option.{Option, none, some}
 use native.Mathlib.Omega.{arith}
 use borrow.Author.Tests.{le-leb, leb-true, eqb-true, eqb-false}
 use lib.Dec.{leb, eqb}
-use lib.ListN.{length, take, drop}
+use lib.ListN.{length, take, drop, getD}
 use lib.Seq.{take-append-seam}
 use Rattle.store.specs.Layout.{keyOf}
 use Rattle.store.specs.Num.{_&_}
@@ -15,7 +15,7 @@ use Rattle.store.specs.Model.{Rec, Store, Under, number, place, key, under, alo
 use Rattle.store.specs.Order.{keep, find}
 use Rattle.store.specs.Answer.{onStore, checked, finding, onFont, onCharacter, After, refuse, Telling, untold}
 use Rattle.store.specs.Records.{recordsOf}
-use Rattle.store.specs.Calls.{fresh, onto, makingFresh, charactersOf, tellingFont, tellingCharacter}
+use Rattle.store.specs.Calls.{fresh, keptOf, onto, makingFresh, charactersOf, tellingFont, tellingCharacter}
 use Rattle.store.specs.Drawing.{drawingRow, drawingPicture}
 use Rattle.store.proofs.Numbers.{both}
 use Rattle.store.proofs.RecordBytes.{guard-is}
@@ -28,8 +28,12 @@ use Rattle.stream.specs.Written.{WriteOut, unwritten, written, writingFont}
 use Rattle.stream.specs.RoundTrip.{onlyFont, restored}
 use Rattle.store.proofs.FontRecords.{of-in, of-out}
 use Rattle.stream.proofs.RoundTrip.{round-trip}
-use Rattle.marlinfold.specs.Calls.{make-fresh, Answer, leaves}
-use Rattle.marlinfold.specs.Demands.{streamOf, Again, RoundTrip}
+use Rattle.profile.specs.Profile.{rules, brokenIn, unchecked, checkingProfile, writingProfiled}
+use Rattle.profile.specs.declared.check.ProfileChecked.{ProfileChecked}
+use Rattle.profile.proofs.Search.{same-broken}
+use Rattle.profile.proofs.Profile.{profiled}
+use Rattle.marlinfold.specs.Calls.{make-fresh, write-font, read-stream, check-profile, write-profiled, Outcome, answered, ofWriting, ofCheck, outcome, Answer, leaves}
+use Rattle.marlinfold.specs.Demands.{streamBy, streamOf, Again, RoundTrip, ProfiledComesBack}
 
 -- ── the font's records alone answer as all do
 find-of : (rs : List Rec) (n p k : ℕ) (u : Under) → sorted k u rs ≡ true → p ≤ 256 → find (keyOf n p) (recordsOf n rs) ≡ find (keyOf n p) rs
@@ -69,6 +73,10 @@ characters-of (r ∷ rs) n = go (characters-of rs n) (eqb (number r) n) refl
     go : charactersOf n (recordsOf n rs) ≡ charactersOf n rs → (t : Bool) → eqb (number r) n ≡ t → charactersOf n (recordsOf n (r ∷ rs)) ≡ charactersOf n (r ∷ rs)
     go i true q = ap (charactersOf n) (of-in n r rs (eqb-true (number r) n q)) ∙ characters-in n r (recordsOf n rs) rs i
     go i false q = ap (charactersOf n) (of-out n r rs (eqb-false (number r) n q)) ∙ i ∙ sym (characters-out n r rs q)
+
+broken-of : (rs : List Rec) (n : ℕ) (h : List ℕ) → sorted 0 alone rs ≡ true → brokenIn n h (recordsOf n rs) ≡ brokenIn n h rs
+unfolding brokenIn
+broken-of rs n h o = same-broken rules 1 h (λ c. find (keyOf n (c + 1)) (recordsOf n rs)) (λ c. find (keyOf n (c + 1)) rs) (λ c l. find-of rs n (c + 1) 0 alone o (omega arith))
 
 and-false : (t : Bool) → (t && false) ≡ false
 and-false true = refl
@@ -159,8 +167,11 @@ drawnAs a = record { refusal = a .answer; numbers = []; out = a .bytes }
 abbrev writtenAs : WriteOut → Answer
 writtenAs a = record { refusal = a .refusal; numbers = a .count ∷ []; out = a .out }
 
+abbrev checkAs : ProfileChecked → Answer
+checkAs a = record { refusal = a .refusal; numbers = a .rule ∷ a .code ∷ []; out = [] }
+
 again : (n : ℕ) (s u : List ℕ) (st : Store) → decode s ≡ some st → decode u ≡ some (onlyFont n st) → Again n s u
-unfolding tellingFont tellingCharacter drawingRow drawingPicture writingFont written
+unfolding tellingFont tellingCharacter drawingRow drawingPicture writingFont written checkingProfile writingProfiled
 again n s u st e e′ =
     let o = valid-decode s st e .order in
     record {
@@ -172,6 +183,8 @@ again n s u st e e′ =
       row-drawn = λ c row out. ap drawnAs (on-character (refuse out) n s u st e e′ o c _);
       picture-drawn = λ c out. ap drawnAs (on-character (refuse out) n s u st e e′ o c _);
       font-written = λ out. ap writtenAs (on-font (unwritten out) n s u st e e′ o _ (λ r. rw (of-twice (st .recs) n)));
+      profile-checked = ap checkAs (on-font unchecked n s u st e e′ o _ (λ r. rw (broken-of (st .recs) n (keptOf r) o)));
+      profiled-written = λ out. ap writtenAs (on-font (unwritten out) n s u st e e′ o _ (λ r. rw (of-twice (st .recs) n, broken-of (st .recs) n (keptOf r) o)));
     }
 
 pub demand2 : RoundTrip
@@ -187,3 +200,14 @@ demand2 n out s t z l =
       ap (λ (x : Reading). x .answer .refused) all,
       again n s (reading (streamOf n out s) (leaves make-fresh t) .bytes) st (w .from) (ap (λ (x : Reading). decode (x .bytes)) all ∙ r .1),
     )
+
+-- ── W-207: what the second call writes meets the profile when it is read
+pub profiled-comes-back : ProfiledComesBack
+profiled-comes-back n out s t z l =
+    let p = profiled n s out z in
+    let same : outcome (write-profiled n out) s ≡ outcome (write-font n out) s = ap (ofWriting s) (p .0) in
+    let met : outcome (check-profile n) s ≡ answered 0 (0 ∷ 0 ∷ []) s [] = ap (ofCheck s) (p .1) in
+    let d = demand2 n out s t (sym (ap (λ (o : Outcome). o .refusal) same) ∙ z) l in
+    let stream : streamBy (write-profiled n out) s ≡ streamOf n out s = ap (λ (o : Outcome). take (getD (o .numbers) 0 0) (o .out)) same in
+    let o = outcome (read-stream (streamOf n out s)) (leaves make-fresh t) in
+    rw stream (met, same, d .0, d .1, d .2, ap (λ (a : Answer). answered (a .refusal) (a .numbers) (o .store) (a .out)) (d .2 .profile-checked ∙ ap checkAs (p .1)))

@@ -33,7 +33,7 @@ use Rattle.choice.proofs.Right.{claim}
 use Rattle.stream.specs.Reading.{Download, font-block, character-block, making}
 use Rattle.stream.specs.Downloads.{spelledDownloads, madeAll}
 use Rattle.stream.proofs.Readings.{downloads-made}
-use Rattle.marlinfold.specs.Calls.{Call, make-fresh, download-font, download-character, remove-font, remove-character, choose-font, tell-font, tell-character, draw-row, draw-picture, write-font, read-stream, choose-sheet, turn-picture, ofChoice, outcome, leaves, ran}
+use Rattle.marlinfold.specs.Calls.{Call, make-fresh, download-font, download-character, remove-font, remove-character, choose-font, tell-font, tell-character, draw-row, draw-picture, write-font, read-stream, choose-sheet, turn-picture, check-profile, write-profiled, ofChoice, outcome, leaves, ran}
 use Rattle.marlinfold.specs.Book.{noted, bookOf, callOf, callsOf, spelledCalls, single, singly, answersTo, bookAfter, StreamSingly}
 use Rattle.marlinfold.specs.Demands.{Removes, by-removal, by-no-room, Answers, Chooses, Demand3, HeldCounts}
 
@@ -75,6 +75,8 @@ single-ran (write-font n out) s = refl
 single-ran (read-stream b) s = sym (stream-singly b s)
 single-ran (choose-sheet rs out) s = refl
 single-ran (turn-picture t w h pic out) s = refl
+single-ran (check-profile n) s = refl
+single-ran (write-profiled n out) s = refl
 
 singly-ran : (cs : List Call) (s : List ℕ) → ran (singly cs) s ≡ ran cs s
 unfolding ran singly
@@ -130,6 +132,8 @@ call-kept (write-font n out) s book k = k
 call-kept (read-stream b) s book k = downloads-kept (spelledDownloads b) s book k
 call-kept (choose-sheet rs out) s book k = k
 call-kept (turn-picture t w h pic out) s book k = k
+call-kept (check-profile n) s book k = k
+call-kept (write-profiled n out) s book k = k
 
 calls-kept : (cs : List Call) (s : List ℕ) (book : List Font) → Kept s book → Kept (ran (singly cs) s) (bookOf (singly cs) (answersTo (singly cs) s) book)
 unfolding ran singly answersTo bookOf

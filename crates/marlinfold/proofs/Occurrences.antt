@@ -1,17 +1,17 @@
 -- Each number that is listed for a call occurs, by computing. Assumes nothing.
 use mathlib.Core.Path.{_≡_, refl}
-use Rattle.marlinfold.specs.Calls.{Call, make-fresh, download-font, download-character, remove-font, remove-character, choose-font, tell-font, tell-character, draw-row, draw-picture, write-font, read-stream, choose-sheet, turn-picture}
+use Rattle.marlinfold.specs.Calls.{Call, make-fresh, download-font, download-character, remove-font, remove-character, choose-font, tell-font, tell-character, draw-row, draw-picture, write-font, read-stream, choose-sheet, turn-picture, check-profile, write-profiled}
 use Rattle.marlinfold.specs.Demands.{listed}
-use Rattle.marlinfold.specs.Occurrences.{kind, sending, at, some, occurrences, beforeIf, numbersOf, AllOccur, ListedOccur}
+use Rattle.marlinfold.specs.Occurrences.{kind, sending, at, some, plainCharacters, occurrences, beforeIf, numbersOf, AllOccur, ListedOccur}
 use Rattle.marlinfold.specs.Trials.{A, requestIn, requestWith, asks}
 use Rattle.marlinfold.proofs.Computing.{computing}
 
 each : AllOccur occurrences
-unfolding computing occurrences at sending some
-each = (refl, (refl, (refl, (refl, (refl, (refl, (refl, (refl, (refl, (refl, (refl, (refl, (refl, (refl, (refl, (refl, (refl, (refl, (refl, (refl, (refl, (refl, (refl, (refl, (refl, (refl, (refl, (refl, (refl, (refl, (refl, (refl, (refl, (refl, (refl, (refl, (refl, (refl, (refl, (refl, (refl, (refl, (refl, (refl, (refl, (refl, (refl, (refl, (refl, (refl, (refl, (refl, (refl, (refl, (refl, tt)))))))))))))))))))))))))))))))))))))))))))))))))))))))
+unfolding computing occurrences at sending some plainCharacters
+each = (refl, (refl, (refl, (refl, (refl, (refl, (refl, (refl, (refl, (refl, (refl, (refl, (refl, (refl, (refl, (refl, (refl, (refl, (refl, (refl, (refl, (refl, (refl, (refl, (refl, (refl, (refl, (refl, (refl, (refl, (refl, (refl, (refl, (refl, (refl, (refl, (refl, (refl, (refl, (refl, (refl, (refl, (refl, (refl, (refl, (refl, (refl, (refl, (refl, (refl, (refl, (refl, (refl, (refl, (refl, (refl, (refl, (refl, (refl, (refl, (refl, (refl, (refl, tt)))))))))))))))))))))))))))))))))))))))))))))))))))))))))))))))
 
 numbers : (c : Call) → numbersOf (kind c) occurrences ≡ listed c
-unfolding occurrences beforeIf numbersOf kind at sending some A requestIn requestWith asks listed
+unfolding occurrences beforeIf numbersOf kind at sending some plainCharacters A requestIn requestWith asks listed
 numbers make-fresh = refl
 numbers (download-font n b) = refl
 numbers (download-character n c b) = refl
@@ -26,6 +26,8 @@ numbers (write-font n out) = refl
 numbers (read-stream b) = refl
 numbers (choose-sheet rs out) = refl
 numbers (turn-picture t w h pic out) = refl
+numbers (check-profile n) = refl
+numbers (write-profiled n out) = refl
 
 pub listed-occur : ListedOccur
 listed-occur = (each, numbers)

@@ -8,7 +8,7 @@ use Rattle.blocks.specs.Header.{keptHeader}
 use Rattle.store.specs.Fonts.{Font, fontsAfter}
 use Rattle.stream.specs.Reading.{Download, font-block, character-block}
 use Rattle.stream.specs.Downloads.{spelledDownloads}
-use Rattle.marlinfold.specs.Calls.{Call, make-fresh, download-font, download-character, remove-font, remove-character, choose-font, tell-font, tell-character, draw-row, draw-picture, write-font, read-stream, choose-sheet, turn-picture, outcome, leaves, ran}
+use Rattle.marlinfold.specs.Calls.{Call, make-fresh, download-font, download-character, remove-font, remove-character, choose-font, tell-font, tell-character, draw-row, draw-picture, write-font, read-stream, choose-sheet, turn-picture, check-profile, write-profiled, outcome, leaves, ran}
 
 -- the book after one more call that was answered k
 unfoldable pub noted : Call → ℕ → List Font → List Font
@@ -30,6 +30,8 @@ noted (write-font n out) k book = book
 noted (read-stream b) k book = book
 noted (choose-sheet rs out) k book = book
 noted (turn-picture t w h pic out) k book = book
+noted (check-profile n) k book = book
+noted (write-profiled n out) k book = book
 
 -- the book that calls with these answers make of a book
 unfoldable pub bookOf : List Call → List ℕ → List Font → List Font
@@ -65,6 +67,8 @@ single (write-font n out) = write-font n out ∷ []
 single (read-stream b) = spelledCalls b
 single (choose-sheet rs out) = choose-sheet rs out ∷ []
 single (turn-picture t w h pic out) = turn-picture t w h pic out ∷ []
+single (check-profile n) = check-profile n ∷ []
+single (write-profiled n out) = write-profiled n out ∷ []
 
 unfoldable pub singly : List Call → List Call
 singly [] = []

@@ -14,6 +14,8 @@ use Rattle.sheet.specs.declared.SheetAnswer.{SheetAnswer}
 use Rattle.turning.specs.Turn.{Turning, turningPicture}
 use Rattle.stream.specs.Reading.{Reading, reading}
 use Rattle.stream.specs.Written.{WriteOut, writingFont}
+use Rattle.profile.specs.Profile.{checkingProfile, writingProfiled}
+use Rattle.profile.specs.declared.check.ProfileChecked.{ProfileChecked}
 
 -- ── the calls, each with its numbers and its buffers other than the store; any numbers, any bytes
 pub data Call : Type 0 where
@@ -33,6 +35,9 @@ pub data Call : Type 0 where
   choose-sheet : (rs : List Request) (out : List SheetAnswer) → Call
   -- W-203; it is lent no store
   turn-picture : (t w h : ℕ) (pic out : List ℕ) → Call
+  -- W-207
+  check-profile : (n : ℕ) → Call
+  write-profiled : (n : ℕ) (out : List ℕ) → Call
 
 -- a sheet's answers as an output: the two numbers of each, one after the other
 unfoldable pub answerNumbers : List SheetAnswer → List ℕ
@@ -55,6 +60,8 @@ outputOf (write-font n out) = out
 outputOf (read-stream b) = []
 outputOf (choose-sheet rs out) = answerNumbers out
 outputOf (turn-picture t w h pic out) = out
+outputOf (check-profile n) = []
+outputOf (write-profiled n out) = out
 
 -- ── what a call answers and leaves
 pub record Outcome : Type 0 where
@@ -102,6 +109,10 @@ ofSheet s a = answered (a .refusal) [] s (answerNumbers (a .answers))
 abbrev pub ofTurning : List ℕ → Turning → Outcome
 ofTurning s a = answered (a .answer) [] s (a .bytes)
 
+-- checking a font against the profile (W-207): the first broken rule, and the lowest code that breaks it
+abbrev pub ofCheck : List ℕ → ProfileChecked → Outcome
+ofCheck s a = answered (a .refusal) (a .rule ∷ a .code ∷ []) s []
+
 -- a call on the buffer s
 abbrev pub outcome : Call → List ℕ → Outcome
 outcome make-fresh s = ofChange (makingFresh s)
@@ -118,6 +129,8 @@ outcome (write-font n out) s = ofWriting s (writingFont n s out)
 outcome (read-stream b) s = ofReading (reading b s)
 outcome (choose-sheet rs out) s = ofSheet s (choosingSheet s rs out)
 outcome (turn-picture t w h pic out) s = ofTurning s (turningPicture t w h pic out)
+outcome (check-profile n) s = ofCheck s (checkingProfile n s)
+outcome (write-profiled n out) s = ofWriting s (writingProfiled n s out)
 
 -- what a call leaves of the store
 abbrev pub leaves : Call → List ℕ → List ℕ

@@ -21,7 +21,7 @@ use Rattle.sheet.specs.declared.SheetAnswer.{SheetAnswer}
 use Rattle.stream.specs.Reading.{Progress, Ended, firstTarget, noneCounted, readFrom}
 use Rattle.stream.specs.declared.reading.Ending.the-variants.{BrokenAt}
 use Rattle.stream.specs.RoundTrip.{onlyFont}
-use Rattle.marlinfold.specs.Calls.{Call, make-fresh, download-font, download-character, remove-font, remove-character, choose-font, tell-font, tell-character, draw-row, draw-picture, write-font, read-stream, choose-sheet, turn-picture, outputOf, Outcome, answered, ofChoice, outcome, answer, leaves, ran}
+use Rattle.marlinfold.specs.Calls.{Call, make-fresh, download-font, download-character, remove-font, remove-character, choose-font, tell-font, tell-character, draw-row, draw-picture, write-font, read-stream, choose-sheet, turn-picture, check-profile, write-profiled, outputOf, Outcome, answered, ofChoice, outcome, answer, leaves, ran}
 use Rattle.marlinfold.specs.Book.{bookAfter}
 
 -- ── demand 1: a call is done, or it refuses as the table says
@@ -53,6 +53,9 @@ listed (read-stream b) = 1 ∷ []
 listed (choose-sheet rs out) = 1 ∷ 2 ∷ 12 ∷ []
 -- W-203: "2 for a turn not 1 to 3, a width or height not 1 to 16,384, or a picture with too few bytes; then 12 for a short output"
 listed (turn-picture t w h pic out) = 2 ∷ 12 ∷ []
+-- W-207: "Refusals: 1, 2, 6 as before, then for the second call alone 14 'outside the profile' (new in document 01's table, all unchanged), then 12."
+listed (check-profile n) = 1 ∷ 2 ∷ 6 ∷ []
+listed (write-profiled n out) = 1 ∷ 2 ∷ 6 ∷ 14 ∷ 12 ∷ []
 
 abbrev pub isIn : ℕ → List ℕ → Bool
 isIn k [] = false
@@ -74,6 +77,8 @@ others (write-font n out) = 1
 others (read-stream b) = 3
 others (choose-sheet rs out) = 0
 others (turn-picture t w h pic out) = 0
+others (check-profile n) = 2
+others (write-profiled n out) = 1
 
 -- "unchanged", and "A refusal answers 0 for every other number"
 abbrev pub unchanged : Call → ℕ → List ℕ → Outcome
@@ -105,9 +110,12 @@ Demand1 = (c : Call) (s : List ℕ) → (outcome c s .refusal ≡ 0) ⊎ Refusal
 
 -- ── demand 2, its second half: a font written out and read into a fresh store of the same length is there again with all its characters.
 -- (Its first half is the exported contracts.)
--- the bytes that writing font n of s gives, in an output that it fits: as many as the number that it answers
+-- the bytes that a call on s that writes a font gives, in an output that it fits: as many as the number that it answers
+abbrev pub streamBy : Call → List ℕ → List ℕ
+streamBy c s = take (getD (outcome c s .numbers) 0 0) (outcome c s .out)
+
 abbrev pub streamOf : ℕ → List ℕ → List ℕ → List ℕ
-streamOf n out s = take (getD (outcome (write-font n out) s .numbers) 0 0) (outcome (write-font n out) s .out)
+streamOf n out s = streamBy (write-font n out) s
 
 -- what holds of font n of a store s, and of the bytes u after reading
 pub record Again (n : ℕ) (s u : List ℕ) : Type 0 where
@@ -121,6 +129,9 @@ pub record Again (n : ℕ) (s u : List ℕ) : Type 0 where
   pub row-drawn : (c row : ℕ) (out : List ℕ) → answer (draw-row n c row out) u ≡ answer (draw-row n c row out) s
   pub picture-drawn : (c : ℕ) (out : List ℕ) → answer (draw-picture n c out) u ≡ answer (draw-picture n c out) s
   pub font-written : (out : List ℕ) → answer (write-font n out) u ≡ answer (write-font n out) s
+  -- W-207: and so do the calls on the profile
+  pub profile-checked : answer (check-profile n) u ≡ answer (check-profile n) s
+  pub profiled-written : (out : List ℕ) → answer (write-profiled n out) u ≡ answer (write-profiled n out) s
 
 -- for every buffer s and output, where writing is done, and every buffer t of the same length: reading refuses no command and stops nowhere
 abbrev pub RoundTrip : Type 0
@@ -128,6 +139,17 @@ RoundTrip =
     (n : ℕ) (out s t : List ℕ) → outcome (write-font n out) s .refusal ≡ 0 → length t ≡ length s
     → let o : Outcome = outcome (read-stream (streamOf n out s)) (leaves make-fresh t) in
     (o .refusal ≡ 0) × (getD (o .numbers) 1 0 ≡ 0) × Again n s (o .store)
+
+-- W-207: "A second call writes out the font only if it meets the profile." What it writes is what the write-out gives of a font that meets the
+-- profile, and read as above it gives a font that meets the profile.
+abbrev pub ProfiledComesBack : Type 0
+ProfiledComesBack =
+    (n : ℕ) (out s t : List ℕ) → outcome (write-profiled n out) s .refusal ≡ 0 → length t ≡ length s
+    → let o : Outcome = outcome (read-stream (streamBy (write-profiled n out) s)) (leaves make-fresh t) in
+    (outcome (check-profile n) s ≡ answered 0 (0 ∷ 0 ∷ []) s [])
+    × (outcome (write-profiled n out) s ≡ outcome (write-font n out) s)
+    × (o .refusal ≡ 0) × (getD (o .numbers) 1 0 ≡ 0) × Again n s (o .store)
+    × (outcome (check-profile n) (o .store) ≡ answered 0 (0 ∷ 0 ∷ []) (o .store) [])
 
 -- ── demand 3: the choice is right with respect to the book
 -- "one more call that removes": a font removal answered 0, or a character block answered 10

@@ -1,12 +1,12 @@
 -- Demand 1: each number that is listed for a call occurs, so that none is listed in vain. One table, computed.
-use Prim.Native.Nat.{ℕ, _+_, _-_, _/_, _%_}
+use Prim.Native.Nat.{ℕ, zero, suc, _+_, _-_, _/_, _%_}
 use mathlib.Core.Path.{_≡_}
 use mathlib.Core.List.{List, [], _∷_}
 use mathlib.Core.Bool.{Bool, true, false}
 use lib.Dec.{eqb}
 use lib.ListN.{replicate}
 use Rattle.store.specs.Layout.{leastStore, markRecord, fontRecord, characterRecord}
-use Rattle.marlinfold.specs.Calls.{Call, make-fresh, download-font, download-character, remove-font, remove-character, choose-font, tell-font, tell-character, draw-row, draw-picture, write-font, read-stream, choose-sheet, turn-picture, outcome}
+use Rattle.marlinfold.specs.Calls.{Call, make-fresh, download-font, download-character, remove-font, remove-character, choose-font, tell-font, tell-character, draw-row, draw-picture, write-font, read-stream, choose-sheet, turn-picture, check-profile, write-profiled, outcome}
 use Rattle.marlinfold.specs.Demands.{listed}
 use Rattle.marlinfold.specs.Trials.{A, requestWith, asks, storeAfter}
 
@@ -26,6 +26,8 @@ kind (write-font n out) = 11
 kind (read-stream b) = 12
 kind (choose-sheet rs out) = 13
 kind (turn-picture t w h pic out) = 14
+kind (check-profile n) = 15
+kind (write-profiled n out) = 16
 
 -- a first block of class 2 for font 5, w dots wide and h rows high
 unfoldable pub sending : ℕ → ℕ → List ℕ → Call
@@ -52,6 +54,11 @@ oneFont = markRecord + fontRecord
 
 abbrev pub oneCharacter : ℕ
 oneCharacter = oneFont + characterRecord + 2
+
+-- W-207: one row of 8 dots for each of k codes of A from c on, delta X as A's pitch
+unfoldable pub plainCharacters : ℕ → ℕ → List Call
+plainCharacters c zero = []
+plainCharacters c (suc k) = download-character 5 c (4 ∷ 0 ∷ 14 ∷ 1 ∷ 0 ∷ 0 ∷ 0 ∷ 0 ∷ 0 ∷ 0 ∷ 0 ∷ 8 ∷ 0 ∷ 1 ∷ 0 ∷ 120 ∷ 255 ∷ []) ∷ plainCharacters (c + 1) k
 
 unfoldable pub occurrences : List Occurrence
 occurrences =
@@ -111,6 +118,14 @@ occurrences =
     ∷ at leastStore [] (choose-sheet (requestWith 277 1000 0 0 ∷ []) []) 12
     ∷ at 0 [] (turn-picture 4 1 1 (128 ∷ []) (0 ∷ [])) 2
     ∷ at 0 [] (turn-picture 1 1 1 (128 ∷ []) []) 12
+    ∷ at 0 [] (check-profile 5) 1
+    ∷ at leastStore [] (check-profile 32768) 2
+    ∷ at leastStore [] (check-profile 5) 6
+    ∷ at 0 [] (write-profiled 5 []) 1
+    ∷ at leastStore [] (write-profiled 32768 []) 2
+    ∷ at leastStore [] (write-profiled 5 []) 6
+    ∷ at oneFont (A ∷ []) (write-profiled 5 []) 14
+    ∷ at 2700 (A ∷ plainCharacters 32 96) (write-profiled 5 []) 12
     ∷ []
 
 abbrev pub AllOccur : List Occurrence → Type 0

@@ -4,9 +4,11 @@ ghost use Prim.Native.Nat.{ℕ};
 ghost use mathlib.Core.List.{List, _∷_, []};
 ghost use Rattle.choice.specs.Request.{requestOf};
 ghost use Rattle.choice.specs.Choosing.{refusalOf, fontOf};
-ghost use Rattle.marlinfold.specs.Calls.{make-fresh, download-font, download-character, remove-font, remove-character, choose-font, tell-font, tell-character, draw-row, draw-picture, write-font, read-stream, choose-sheet, turn-picture, answerNumbers, answered, outcome};
+ghost use Rattle.marlinfold.specs.Calls.{make-fresh, download-font, download-character, remove-font, remove-character, choose-font, tell-font, tell-character, draw-row, draw-picture, write-font, read-stream, choose-sheet, turn-picture, check-profile, write-profiled, answerNumbers, answered, outcome};
 use choice::Chosen;
 use choice::Request;
+use profile::check;
+use profile::check::ProfileChecked;
 use sheet::SheetAnswer;
 use store::characters;
 use store::download;
@@ -177,4 +179,19 @@ pub extern "C" fn mf_turn_picture(
     ensures { λ r. ⌜ ((s : List ℕ) → answered r [] s (now (out .exit)) ≡ outcome (turn-picture turn width height (now (picture .entry)) (now (out .entry))) s) ⌝ }
 {
     turn::turn_picture(picture, out, width, height, turn)
+}
+
+// W-207
+#[no_mangle]
+pub extern "C" fn mf_check_profile(store: &[u8], font: u32) -> ProfileChecked
+    ensures { λ r. ⌜ answered (r .refusal) (r .rule ∷ r .code ∷ []) (now (store .entry)) [] ≡ outcome (check-profile font) (now (store .entry)) ⌝ }
+{
+    check::check_profile(store, font)
+}
+
+#[no_mangle]
+pub extern "C" fn mf_write_profiled(store: &[u8], out: &mut [u8], font: u32) -> Written
+    ensures { λ r. ⌜ answered (r .refusal) (r .length ∷ []) (now (store .entry)) (now (out .exit)) ≡ outcome (write-profiled font (now (out .entry))) (now (store .entry)) ⌝ }
+{
+    check::write_profiled(store, out, font)
 }
