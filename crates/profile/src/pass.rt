@@ -21,10 +21,7 @@ const FIRST_REQUIRED: u32 = 32;
 
 const LAST_REQUIRED: u32 = 127;
 
-// The last rule, and what stands for none of the rules 4 to 7.
 const LAST_RULE: u32 = 7;
-
-const NO_RULE: u32 = 8;
 
 // The first broken rule and the lowest code that breaks it; 0 and 0, if none is broken.
 pub struct RuleBroken {
@@ -120,7 +117,7 @@ fn pass_records(s: &[u8], h: &[u8], lo: usize, hi: usize) -> Findings
 {
     let mut p = Findings {
         wanted: FIRST_REQUIRED,
-        rule: NO_RULE,
+        rule: rules::NO_RULE,
         code: 0,
     };
     let mut at = lo;

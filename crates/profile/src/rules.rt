@@ -13,6 +13,9 @@ use blocks::header;
 use blocks::picture;
 use blocks::picture::Held;
 
+// What stands for none of the rules 4 to 7.
+pub(crate) const NO_RULE: u32 = 8;
+
 // A 16-bit field that is negative as a signed number stands for itself less this.
 const WORD_END: u32 = 65536;
 
@@ -51,7 +54,7 @@ fn advances_by_pitch(h: &[u8], k: &[u8]) -> bool
     character::delta_x(k) == header::pitch(h)
 }
 
-// The first of the rules 4 to 7 that a character breaks; 8, if it breaks none.
+// The first of the rules 4 to 7 that a character breaks.
 pub(crate) fn broken_by(h: &[u8], k: &[u8]) -> u32
     requires { ⌜ (headerBytes ≤ length (now h)) × (descriptorBytes ≤ length (now k)) ⌝ }
     ensures { λ r. ⌜ r ≡ brokenBy (now (h .entry)) (now (k .entry)) ⌝ }
@@ -68,7 +71,7 @@ pub(crate) fn broken_by(h: &[u8], k: &[u8]) -> u32
     if !advances_by_pitch(h, k) {
         return 7;
     }
-    8
+    NO_RULE
 }
 
 // A character with the kept bytes k and the data d has all its rows.
