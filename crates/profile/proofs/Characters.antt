@@ -13,8 +13,8 @@ use Rattle.blocks.specs.Field.{signed, negative}
 use Rattle.blocks.specs.Header.{cellWidth}
 use Rattle.blocks.specs.Character.{descriptorBytes, class, leftOffset, width, height}
 use Rattle.blocks.proofs.Signed.{leb-iff, negative-by}
-use Rattle.blocks.specs.Picture.{held}
-use Rattle.blocks.specs.declared.picture.Held.{Held}
+use Rattle.pictures.specs.Picture.{held}
+use Rattle.pictures.specs.declared.picture.Held.{Held}
 use Rattle.store.specs.Model.{Rec, heldOf}
 use Rattle.store.specs.Records.{MetAt, Between, fontFrom, FontMet, characterFrom, CharacterMet}
 use Rattle.store.proofs.FontRecords.{between-none, between-next}

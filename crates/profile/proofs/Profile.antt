@@ -9,8 +9,8 @@ use borrow.Author.Tests.{eqb-true, eq-eqb, le-leb, leb-true}
 use lib.Dec.{leb}
 use Rattle.blocks.specs.Header.{fontType, spacing}
 use Rattle.blocks.specs.Field.{within}
-use Rattle.blocks.specs.declared.picture.Held.{Held}
-use Rattle.blocks.specs.declared.picture.Held.the-variants.{Whole, Unfinished, Foreign}
+use Rattle.pictures.specs.declared.picture.Held.{Held}
+use Rattle.pictures.specs.declared.picture.Held.the-variants.{Whole, Unfinished, Foreign}
 use Rattle.store.specs.Layout.{lastFont, lastCode, keyOf}
 use Rattle.store.specs.Model.{Rec, Store, heldOf, decode}
 use Rattle.store.specs.Answer.{onStore, checked, finding, onFont}

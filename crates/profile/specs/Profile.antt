@@ -10,8 +10,8 @@ use lib.Signed.{leZ}
 use Rattle.blocks.specs.Field.{signed, negative, within}
 use Rattle.blocks.specs.Header.{fontType, spacing, cellWidth, cellHeight, pitch}
 use Rattle.blocks.specs.Character.{leftOffset, width, height, deltaX}
-use Rattle.blocks.specs.declared.picture.Held.{Held}
-use Rattle.blocks.specs.declared.picture.Held.the-variants.{Whole, Unfinished, Foreign}
+use Rattle.pictures.specs.declared.picture.Held.{Held}
+use Rattle.pictures.specs.declared.picture.Held.the-variants.{Whole, Unfinished, Foreign}
 use Rattle.store.specs.Layout.{lastCode, keyOf}
 use Rattle.store.specs.Model.{Rec, heldOf}
 use Rattle.store.specs.Order.{find}

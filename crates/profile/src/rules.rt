@@ -10,8 +10,8 @@ ghost use Rattle.profile.specs.Pass.{brokenBy};
 use blocks::character;
 use blocks::field;
 use blocks::header;
-use blocks::picture;
-use blocks::picture::Held;
+use pictures::picture;
+use pictures::picture::Held;
 
 // What stands for none of the rules 4 to 7.
 pub(crate) const NO_RULE: u32 = 8;
