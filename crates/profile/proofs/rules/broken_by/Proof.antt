@@ -1,5 +1,5 @@
 use borrow.Author.Needs.{needs}
-use Rattle.blocks.proofs.Checks.{failed, passed}
+use Rattle.pictures.proofs.Tests.{failed, passed}
 use Rattle.profile.specs.Pass.{brokenBy}
 use Rattle.profile.proofs.rules.broken_by.Statement.{statement}
 use Rattle.profile.proofs.rules.broken_by.Tie as tie
