@@ -1,5 +1,6 @@
 # make             proves and builds the library, the listing program and the examples,
-#                  lists two sample fonts and draws a label in each, to target/
+#                  lists two sample fonts and draws a label in each, and one of 600
+#                  dots to the inch, to target/
 # make check       all tests
 # make install     under $(DESTDIR)$(PREFIX): header, archive, pkg-config file, listing program
 # make uninstall   what make install put there
@@ -14,6 +15,7 @@ listing = target/bin/listing
 examples = $(addprefix target/examples/,label sheet specimen short)
 crates = crates.txt $(shell find crates -type f)
 label = target/examples/label --proportional --height 10
+label600 = target/examples/label --mode 600 --height 10
 there = $(DESTDIR)$(PREFIX)
 
 # Nothing if the program is there, else one line, and make stops.
@@ -23,6 +25,7 @@ all: $(listing) $(examples)
 	cat samples/cmr10.pcl samples/cmbx10.pcl | $(listing)
 	$(label) "$(TEXT)" samples/*.pcl >target/label.pbm
 	$(label) --weight 3 "$(TEXT)" samples/*.pcl >target/label-bold.pbm
+	$(label600) "$(TEXT)" samples/*.pcl >target/label-600.pbm
 
 tools:
 	@:$(call needs,rt,the Rattle toolchain)$(call needs,$(CC),a C compiler (set CC))

@@ -3,8 +3,8 @@
  *     label [OPTIONS] TEXT FONTFILE... > label.pbm
  *
  * reads soft font streams, asks the library for the font that fits best, and
- * writes the label as a PBM picture of 300 dots to the inch. It says on standard
- * error which font was chosen, and ends with the library's refusal where it
+ * writes the label as a PBM picture of as many dots to the inch as the font has. It
+ * says on standard error which font was chosen, and ends with the library's refusal where it
  * cannot. TEXT's bytes are the character codes. The options are those of
  * request.h, and
  *
@@ -95,7 +95,8 @@ static uint32_t choose(const mf_request *asked, uint8_t *font)
 {
     mf_chosen chosen =
         mf_choose(store, sizeof store, asked->symbol_set, asked->spacing, asked->pitch,
-                  asked->height, asked->style, asked->weight, asked->typeface, asked->orientation);
+                  asked->height, asked->style, asked->weight, asked->typeface, asked->orientation,
+                  asked->mode);
 
     if (chosen.refusal)
         refuse("choosing", chosen.refusal);

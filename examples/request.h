@@ -9,7 +9,8 @@
  *     --weight N       stroke weight, -7..7                     (0)
  *     --face N         typeface, 0..65535                       (3)
  *     --landscape      the page's orientation; also --reverse-portrait and
- *                      --reverse-landscape */
+ *                      --reverse-landscape
+ *     --mode N         the printer's dots to the inch, 300 or 600 (300) */
 #ifndef REQUEST_H
 #define REQUEST_H
 
@@ -17,9 +18,10 @@
 
 #define REQUEST_OPTIONS \
     "[--set SET] [--pitch CPI] [--proportional] [--height POINTS] [--style N] [--weight N] " \
-    "[--face N] [--landscape | --reverse-portrait | --reverse-landscape]"
+    "[--face N] [--landscape | --reverse-portrait | --reverse-landscape] [--mode 300 | 600]"
 
-static const mf_request default_request = {MF_ROMAN_8, MF_FIXED, 1000, 1200, 0, 0, 3, MF_PORTRAIT};
+static const mf_request default_request = {
+    MF_ROMAN_8, MF_FIXED, 1000, 1200, 0, 0, 3, MF_PORTRAIT, MF_MODE_300};
 
 /* A number with up to two decimals, in hundredths; any size that fits, since the
  * library says what is out of range. */
@@ -67,6 +69,8 @@ static int set_number(mf_request *asked, const char *option, const char *value)
         asked->weight = (int32_t)whole(value);
     else if (strcmp(option, "--face") == 0)
         asked->typeface = (uint32_t)whole(value);
+    else if (strcmp(option, "--mode") == 0)
+        asked->mode = (uint32_t)whole(value);
     else
         return 0;
     return 1;
@@ -99,12 +103,12 @@ static void print_font(FILE *to, uint32_t number, uint8_t *font)
         refuse("font", told.refusal);
     fprintf(to,
             "font %u: set %u, %s, pitch %u, height %u, style %u, weight %d, face %u, %s, "
-            "%u characters\n",
+            "%u dpi, %u characters\n",
             (unsigned)number, (unsigned)mf_field(font, 14),
             font[13] == MF_FIXED ? "fixed" : "proportional", (unsigned)mf_field(font, 16),
             (unsigned)mf_field(font, 18), font[4] * 256u + font[23],
             font[24] < 128 ? font[24] : font[24] - 256, font[26] * 256u + font[25],
-            orientation[font[12]], (unsigned)told.count);
+            orientation[font[12]], (unsigned)mf_field(font, 64), (unsigned)told.count);
 }
 
 #endif

@@ -19,7 +19,7 @@ int main(void)
         printf("%s, at byte %u\n", mf_refusal_name(read.refusal), (unsigned)read.place);
     /* 10 characters to the inch, 10 points, style 0, weight 3 (bold), typeface 0 */
     chosen = mf_choose(store, sizeof store, MF_ROMAN_8, MF_PROPORTIONAL, 1000, 1000, 0, 3, 0,
-                       MF_PORTRAIT);
+                       MF_PORTRAIT, MF_MODE_300);
     told = mf_tell_character(store, sizeof store, kept, sizeof kept, chosen.font, 'A');
     if (chosen.refusal || told.refusal) {
         puts(mf_refusal_name(chosen.refusal ? chosen.refusal : told.refusal));

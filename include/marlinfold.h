@@ -14,7 +14,7 @@
  *     mf_make_fresh(store, sizeof store);
  *     mf_stream_read read = mf_read_stream(store, sizeof store, file, file_len);
  *     mf_chosen chosen = mf_choose(store, sizeof store, 277, MF_FIXED, 1000,
- *                                  1200, 0, 0, 3, MF_PORTRAIT);
+ *                                  1200, 0, 0, 3, MF_PORTRAIT, MF_MODE_300);
  *     if (chosen.refusal == MF_DONE)
  *         mf_draw_picture(store, sizeof store, out, sizeof out, chosen.font, 'A');
  *
@@ -85,11 +85,13 @@ enum mf_orientation {
     MF_REVERSE_PORTRAIT = 2,
     MF_REVERSE_LANDSCAPE = 3
 };
+/* The resolution that a page is printed in, in dots to the inch. */
+enum mf_mode { MF_MODE_300 = 300, MF_MODE_600 = 600 };
 
 /* Sizes in bytes. */
 #define MF_STORE_MIN 12
 #define MF_STORE_MAX 65536
-#define MF_FONT_BYTES 64       /* what mf_tell_font copies */
+#define MF_FONT_BYTES 68       /* what mf_tell_font copies */
 #define MF_CHARACTER_BYTES 16  /* what mf_tell_character copies */
 #define MF_BLOCK_MAX 32767     /* the longest block */
 #define MF_PICTURE_MAX 32768   /* the largest drawn picture: any output so long takes any */
@@ -97,9 +99,9 @@ enum mf_orientation {
 #define MF_SIDE_MAX 16384      /* the greatest width and height, in dots */
 
 /* Room that a store needs: 12 bytes, then for each font and each character
- * these, with the character's kept data beside them. A store of 90 bytes takes
- * one font without characters, one of 89 none. */
-#define MF_FONT_ROOM 78
+ * these, with the character's kept data beside them. A store of 94 bytes takes
+ * one font without characters, one of 93 none. */
+#define MF_FONT_ROOM 82
 #define MF_CHARACTER_ROOM 26
 
 /* An output so long takes any font written out of a store of this length. */
@@ -168,18 +170,23 @@ typedef struct {
  * Refuses: 1 for a length that is not 12..65536. */
 uint32_t mf_make_fresh(uint8_t *store, size_t store_len);
 
-/* Downloads a font block (a PCL 5 format 0 bitmap font header) under a font
+/* Downloads a font block (a PCL 5 bitmap font header of format 0 or 20) under a font
  * number. The font is kept without characters; a font that had this number is
  * removed first with all its characters.
- * Kept are the block's first 64 bytes with descriptor size 64, byte 5 zero, and
+ * A format 0 header has 64 bytes and is of 300 dots to the inch. A format 20 header has
+ * 68, the last four of them its X and Y resolution (64, 66): both 300 or both 600.
+ * Kept are these 64 or 68 bytes, with descriptor size 64 or 68, byte 5 zero, and
  * pitch (16) and height (18) cut to 16800 and 10922. Their extended bytes (40 for
  * the pitch, 41 for the height) are kept as sent, save that the one of a field that
- * was cut is made 0.
+ * was cut is made 0. A font of format 0 is kept with resolutions 300 and 300 behind its
+ * 64 bytes.
  * Refuses: 1, 2, 3 for a length not 64..32767, 4 for a format (byte 2) other than
- * 0 or a descriptor size (0) not 64..block_len; 5 for a type (3) not 0..2, a style
+ * 0 and 20, 3 for a length below 68 in format 20, 4 for a descriptor size (0) not
+ * 64..block_len, in format 20 not 68..block_len; 5 for a type (3) not 0..2, a style
  * word (byte 4 high, 23 low) above 1023, a cell width (8) or height (10) of 0, a
  * baseline (6) not below the cell height, an orientation (12) not 0..3, a spacing
- * (13) not 0 or 1, a symbol set (14) above 2047, a stroke weight (24, signed) not -7..7;
+ * (13) not 0 or 1, a symbol set (14) above 2047, a stroke weight (24, signed) not -7..7,
+ * resolutions other than 300 and 300 or 600 and 600;
  * 10, which here leaves the store as it was. */
 uint32_t mf_download_font(uint8_t *store, size_t store_len,
                           const uint8_t *block, size_t block_len,
@@ -222,12 +229,17 @@ uint32_t mf_remove_character(uint8_t *store, size_t store_len,
  *   6. the weight; else, for 0 or more, the next thicker, failing that the nearest
  *      thinner; for less than 0, the next thinner, failing that the nearest thicker
  *   7. the typeface, if any has it
- *   8. the orientation, if any has it
- *   9. the lowest number
+ *   8. in MF_MODE_600 the fonts of 600 dots to the inch, if any is left
+ *   9. the orientation, if any has it
+ *  10. the lowest number
+ * In MF_MODE_300 the fonts of 600 dots to the inch take no part: for every step it is
+ * as if they were not there.
  * A font's pitch field is the width of a character and its height field a height,
- * both in quarter-dots, of which 1200 make an inch. Compared are 256 x field 16 +
- * byte 40 of its kept bytes and 256 x field 18 + byte 41: the greater the first, the
- * fewer characters to the inch. Field 70 with byte 150 is 17 of them.
+ * both in quarter-dots of its own, of which 1200 make an inch in a font of 300 dots to
+ * the inch and 2400 in one of 600. Compared are 256 x field 16 + byte 40 of its kept
+ * bytes and 256 x field 18 + byte 41, twice these for a font of 300 dots: the greater
+ * the first, the fewer characters to the inch. Field 70 with byte 150 is 17 of them at
+ * 300 dots to the inch, and so is 141 with byte 44 at 600.
  *   symbol_set   0..2047
  *   spacing      MF_FIXED or MF_PROPORTIONAL
  *   pitch        hundredths of a character per inch, 0..57600
@@ -236,11 +248,12 @@ uint32_t mf_remove_character(uint8_t *store, size_t store_len,
  *   weight       -7..7
  *   typeface     0..65535
  *   orientation  of the page: MF_PORTRAIT .. MF_REVERSE_LANDSCAPE, 0..3
- * Refuses: 1, 2, 11 if no font has the set asked for or Roman-8. */
+ *   mode         of the printer: MF_MODE_300 or MF_MODE_600, 300 or 600
+ * Refuses: 1, 2, 11 if no font that takes part has the set asked for or Roman-8. */
 mf_chosen mf_choose(const uint8_t *store, size_t store_len,
                     uint32_t symbol_set, uint32_t spacing, uint32_t pitch,
                     uint32_t height, uint32_t style, int32_t weight,
-                    uint32_t typeface, uint32_t orientation);
+                    uint32_t typeface, uint32_t orientation, uint32_t mode);
 
 /* One request of a sheet: the numbers of mf_choose, in its order. */
 typedef struct {
@@ -252,6 +265,7 @@ typedef struct {
     int32_t weight;       /* -7..7 */
     uint32_t typeface;    /* 0..65535 */
     uint32_t orientation; /* of the page: MF_PORTRAIT .. MF_REVERSE_LANDSCAPE */
+    uint32_t mode;        /* MF_MODE_300 or MF_MODE_600 */
 } mf_request;
 
 /* What one request of a sheet gets. */
@@ -276,7 +290,8 @@ MF_CHECK_LAYOUT(offsetof(mf_request, style) == 16);
 MF_CHECK_LAYOUT(offsetof(mf_request, weight) == 20);
 MF_CHECK_LAYOUT(offsetof(mf_request, typeface) == 24);
 MF_CHECK_LAYOUT(offsetof(mf_request, orientation) == 28);
-MF_CHECK_LAYOUT(sizeof(mf_request) == 32);
+MF_CHECK_LAYOUT(offsetof(mf_request, mode) == 32);
+MF_CHECK_LAYOUT(sizeof(mf_request) == 36);
 MF_CHECK_LAYOUT(offsetof(mf_answer, font) == 0);
 MF_CHECK_LAYOUT(offsetof(mf_answer, refusal) == 4);
 MF_CHECK_LAYOUT(sizeof(mf_answer) == 8);
@@ -293,8 +308,8 @@ MF_CHECK_LAYOUT(sizeof(mf_answer) == 8);
  * writes nothing.
  *
  *     mf_request requests[2] = {
- *         {MF_ROMAN_8, MF_FIXED, 1000, 1200, 0, 0, 3, MF_PORTRAIT},
- *         {MF_ROMAN_8, MF_PROPORTIONAL, 0, 800, 0, 3, 4, MF_PORTRAIT}};
+ *         {MF_ROMAN_8, MF_FIXED, 1000, 1200, 0, 0, 3, MF_PORTRAIT, MF_MODE_300},
+ *         {MF_ROMAN_8, MF_PROPORTIONAL, 0, 800, 0, 3, 4, MF_PORTRAIT, MF_MODE_600}};
  *     mf_answer answers[2];
  *     if (mf_choose_sheet(store, sizeof store, requests, 2, answers, 2) == MF_DONE
  *         && answers[0].refusal == MF_DONE)
@@ -307,8 +322,8 @@ uint32_t mf_choose_sheet(const uint8_t *store, size_t store_len,
                          const mf_request *requests, size_t request_count,
                          mf_answer *answers, size_t answer_count);
 
-/* Copies a font's 64 kept bytes to out and answers how many characters it has, a
- * number that the store holds beside the font.
+/* Copies a font's 68 kept bytes to out, 64 of the header and both resolutions (64, 66),
+ * and answers how many characters it has, a number that the store holds beside the font.
  * Refuses: 1, 2, 6, 12 if out_len is below MF_FONT_BYTES. */
 mf_told mf_tell_font(const uint8_t *store, size_t store_len,
                      uint8_t *out, size_t out_len, uint32_t font);
@@ -355,9 +370,9 @@ uint32_t mf_turn_picture(const uint8_t *picture, size_t picture_len,
                          uint8_t *out, size_t out_len,
                          uint32_t width, uint32_t height, uint32_t turn);
 
-/* Writes a font with its characters as a command stream and answers its length.
- * Read into a fresh store of the same length, it gives the same font again; which
- * character was open isn't carried.
+/* Writes a font with its characters as a command stream and answers its length. Its
+ * header has the format that it was downloaded in. Read into a fresh store of the same
+ * length, the stream gives the same font again; which character was open isn't carried.
  * Refuses: 1, 2, 6, 12 if out_len is too short (MF_WRITTEN_MAX never is). */
 mf_written mf_write_font(const uint8_t *store, size_t store_len,
                          uint8_t *out, size_t out_len, uint32_t font);

@@ -9,17 +9,19 @@ document 01's form, which is all that Marlinfold reads:
 
     ESC *c#D   ESC )s#W and a font block   ESC *c#E   ESC (s#W and a character block
 
-Everything else is left out. Pictures are copied byte for byte. In the font
-blocks, format 20 becomes format 0: the same 64 bytes without the resolution
-behind them. The options put fields right that the producer leaves at one value
-for all fonts; a field whose option is not given stays as it was.
+Everything else is left out. Pictures are copied byte for byte. Font blocks are
+kept in their format, 0 or 20, without what stands behind their 64 or 68 bytes;
+with --format-0, format 20 becomes format 0: the same 64 bytes without the
+resolution behind them, for a font whose dots are not of that resolution. The
+other options put fields right that the producer leaves at one value for all
+fonts; a field whose option is not given stays as it was.
 """
 import argparse
 import sys
 
 ESC = 0x1B
 FORMAT_0, FORMAT_20 = 0, 20
-DESCRIPTOR = 64
+DESCRIPTOR = {FORMAT_0: 64, FORMAT_20: 68}
 FONT_MAX, CODE_MAX, BLOCK_MAX = 32767, 255, 32767
 
 
@@ -75,17 +77,18 @@ def commands(stream):
 
 
 def font_block(block, options):
-    """The block in format 0, with the options' fields."""
-    if len(block) < DESCRIPTOR or block[2] not in (FORMAT_0, FORMAT_20):
+    """The block in its format or in format 0, with the options' fields."""
+    if len(block) < 3 or len(block) < DESCRIPTOR.get(block[2], len(block) + 1):
         raise Broken("a font block that is not of format 0 or 20")
-    made = bytearray(block[:DESCRIPTOR])
+    form = FORMAT_0 if options.format_0 else block[2]
+    made = bytearray(block[: DESCRIPTOR[form]])
 
     def put(at, size, value):
         if value is not None:
             made[at : at + size] = value.to_bytes(size, "big", signed=value < 0)
 
-    put(0, 2, DESCRIPTOR)
-    put(2, 1, FORMAT_0)
+    put(0, 2, DESCRIPTOR[form])
+    put(2, 1, form)
     put(13, 1, options.spacing)
     put(14, 2, options.set)
     put(16, 2, options.pitch)
@@ -148,14 +151,16 @@ def main():
     for option, low, high, meaning in (
         ("--spacing", 0, 1, "0 fixed, 1 proportional"),
         ("--set", 0, 2047, "symbol set, as its number (8U is 277)"),
-        ("--pitch", 0, 65535, "in quarter-dots, 1200 to the inch"),
-        ("--height", 0, 65535, "in quarter-dots, 1200 to the inch"),
+        ("--pitch", 0, 65535, "in quarter-dots, 1200 to the inch, 2400 at 600 dpi"),
+        ("--height", 0, 65535, "in quarter-dots, 1200 to the inch, 2400 at 600 dpi"),
         ("--weight", -7, 7, "stroke weight, 0 medium, 3 bold"),
         ("--face", 0, 65535, "typeface"),
     ):
         form.add_argument(option, type=within(low, high), metavar="N", help=meaning)
     form.add_argument("--font", type=within(0, FONT_MAX), default=0, metavar="N",
                       help="added to every font number")
+    form.add_argument("--format-0", action="store_true",
+                      help="headers of format 20 in format 0, without their resolution")
     options = form.parse_args()
     try:
         made = rewrite(sys.stdin.buffer.read(), options)

@@ -116,6 +116,7 @@ fn our_choice(store: *const u8, len: usize, r: &Request) -> c::Chosen {
             r.weight,
             r.typeface,
             r.orientation,
+            r.mode,
         )
     }
 }

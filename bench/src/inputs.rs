@@ -15,8 +15,10 @@ pub struct Input {
 /// A name, and its input for a store of a length.
 pub type Named = (&'static str, fn(usize) -> Input);
 
-pub const INPUTS: [Named; 35] = [
+pub const INPUTS: [Named; 37] = [
     ("choose, store full of fonts", choose_among_fonts),
+    ("choose in mode 600, 600 dpi fonts", choose_among_fine_fonts),
+    ("choose in mode 600, both mixed", choose_among_mixed_fonts),
     ("choose, class 2 characters kept", choose_beside_runs),
     ("choose, class 1 characters kept", choose_beside_dots),
     ("choose, store nearly empty", choose_nearly_empty),
@@ -73,7 +75,9 @@ pub const INPUTS: [Named; 35] = [
 
 /// The bytes that a font's and a character's record take beside data, and those
 /// before the first.
-const FONT_RECORD: usize = 78;
+const FONT_RECORD: usize = 82;
+/// What telling a font copies.
+const KEPT: usize = 68;
 const CHARACTER_RECORD: usize = 26;
 const MARK_RECORD: usize = 12;
 
@@ -86,6 +90,7 @@ const REQUEST: Request = Request {
     weight: 2,
     typeface: 3,
     orientation: 0,
+    mode: 300,
 };
 
 /// Requests that vary as the fonts do, so that they get many of them.
@@ -124,6 +129,21 @@ fn header(number: usize) -> Vec<u8> {
     block
 }
 
+/// The same as a format 20 header of a font of 600 dots to the inch, as large.
+fn fine_header(number: usize) -> Vec<u8> {
+    let mut block = header(number);
+    block[1] = 68;
+    block[2] = 20;
+    for (field, extended) in [(16, 40), (18, 41)] {
+        let number = u16::from_be_bytes([block[field], block[field + 1]]);
+        let twice = 2 * (256 * u32::from(number) + u32::from(block[extended]));
+        block[field..field + 2].copy_from_slice(&((twice / 256) as u16).to_be_bytes());
+        block[extended] = (twice % 256) as u8;
+    }
+    block.extend([600_u16.to_be_bytes(); 2].concat());
+    block
+}
+
 fn first_block(class: u8, width: usize, height: usize, data: &[u8]) -> Vec<u8> {
     let mut block = vec![4, 0, 14, class, 0, 0, 0, 2, 0, 22];
     block.extend((width as u16).to_be_bytes());
@@ -159,6 +179,10 @@ fn fresh(length: usize) -> Vec<u8> {
 
 /// Fonts 1, 2, .. as long as `spare` bytes are left.
 fn full_of_fonts(length: usize, spare: usize) -> (Vec<u8>, usize) {
+    full_of(header, length, spare)
+}
+
+fn full_of(header: impl Fn(usize) -> Vec<u8>, length: usize, spare: usize) -> (Vec<u8>, usize) {
     let mut store = fresh(length);
     let fonts = (length - MARK_RECORD - spare) / FONT_RECORD;
     for number in 1..=fonts {
@@ -238,8 +262,28 @@ fn input(store: Vec<u8>, call: Call) -> Input {
 }
 
 fn choose_among_fonts(length: usize) -> Input {
-    // 900 fonts in 64 KiB.
+    // 790 fonts in 64 KiB.
     input(full_of_fonts(length, length / 100).0, Call::Choose(REQUEST))
+}
+
+const FINE: Request = Request {
+    mode: 600,
+    ..REQUEST
+};
+
+fn choose_among_fine_fonts(length: usize) -> Input {
+    let store = full_of(fine_header, length, length / 100).0;
+    input(store, Call::Choose(FINE))
+}
+
+/// Each third font of 300 dots to the inch.
+fn choose_among_mixed_fonts(length: usize) -> Input {
+    let mixed = |number| match number % 3 {
+        0 => header(number),
+        _ => fine_header(number),
+    };
+    let store = full_of(mixed, length, length / 100).0;
+    input(store, Call::Choose(FINE))
 }
 
 fn choose_beside_runs(length: usize) -> Input {
@@ -355,7 +399,7 @@ fn remove_first_character(length: usize) -> Input {
 fn tell_last_font(length: usize) -> Input {
     let (store, fonts) = full_of_fonts(length, 0);
     Input {
-        out: 64,
+        out: KEPT,
         ..input(store, Call::TellFont { font: fonts as u32 })
     }
 }
@@ -377,7 +421,7 @@ fn tell_last_character(length: usize) -> Input {
 /// 224 at 64 KiB, of 250 bytes with their records; as many as fit at less.
 fn tell_font_of_224(length: usize) -> Input {
     Input {
-        out: 64,
+        out: KEPT,
         ..input(at_most(224, length, 0, 1).0, Call::TellFont { font: 5 })
     }
 }
@@ -386,7 +430,7 @@ fn tell_font_of_224(length: usize) -> Input {
 fn list_ten_fonts(length: usize) -> Input {
     let store = ten_fonts(length, &first_block(1, 64, 28, &[0x5A; 224]));
     Input {
-        out: 64,
+        out: KEPT,
         ..input(store, Call::TellEach { fonts: 10 })
     }
 }
@@ -395,7 +439,7 @@ fn list_ten_fonts(length: usize) -> Input {
 fn check_small_characters(length: usize) -> Input {
     let store = ten_fonts(length, &first_block(1, 8, 1, &[0x5A]));
     Input {
-        out: 64,
+        out: KEPT,
         ..input(store, Call::TellFont { font: 1 })
     }
 }

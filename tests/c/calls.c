@@ -76,7 +76,7 @@ static size_t append(uint8_t *stream, size_t at, const void *bytes, size_t lengt
 static void listing(void)
 {
     const uint8_t row[2] = {0xFF, 0xC0};
-    uint8_t stream[512], block[64];
+    uint8_t stream[512], block[64], kept[MF_FONT_BYTES];
     size_t length = 0;
     mf_stream_read read;
     uint32_t font;
@@ -94,12 +94,12 @@ static void listing(void)
     read = mf_read_stream(store, sizeof store, stream, length);
     puts("id set spacing pitch height style weight face chars");
     for (font = 0; font <= MF_FONT_MAX; font++) {
-        mf_told told = mf_tell_font(store, sizeof store, block, sizeof block, font);
+        mf_told told = mf_tell_font(store, sizeof store, kept, sizeof kept, font);
         if (told.refusal == MF_DONE)
-            printf("%u %u %u %u %u %u %d %u %u\n", (unsigned)font, (unsigned)mf_field(block, 14),
-                   block[13], (unsigned)mf_field(block, 16), (unsigned)mf_field(block, 18),
-                   block[4] * 256u + block[23], block[24] < 128 ? block[24] : block[24] - 256,
-                   block[26] * 256u + block[25], (unsigned)told.count);
+            printf("%u %u %u %u %u %u %d %u %u\n", (unsigned)font, (unsigned)mf_field(kept, 14),
+                   kept[13], (unsigned)mf_field(kept, 16), (unsigned)mf_field(kept, 18),
+                   kept[4] * 256u + kept[23], kept[24] < 128 ? kept[24] : kept[24] - 256,
+                   kept[26] * 256u + kept[25], (unsigned)told.count);
     }
     printf("done %u refused %u", (unsigned)read.done, (unsigned)read.refused);
     if (read.refusal == MF_STREAM_BROKEN)
@@ -116,7 +116,7 @@ static void listing(void)
 static void choose(const char *name, uint32_t set, int32_t weight, uint32_t orientation)
 {
     mf_chosen chosen = mf_choose(store, sizeof store, set, MF_FIXED, 1000, 1200, 0, weight, 3,
-                                 orientation);
+                                 orientation, MF_MODE_300);
     if (chosen.refusal == MF_DONE)
         printf("%s: %u\n", name, (unsigned)chosen.font);
     else
@@ -163,7 +163,7 @@ static void extended(uint32_t font, unsigned pitch, unsigned pitch_byte, unsigne
 static void choose_size(const char *name, uint32_t pitch, uint32_t height)
 {
     mf_chosen chosen = mf_choose(store, sizeof store, 277, MF_FIXED, pitch, height, 0, 0, 3,
-                                 MF_PORTRAIT);
+                                 MF_PORTRAIT, MF_MODE_300);
     printf("%s: refusal %u, font %u\n", name, (unsigned)chosen.refusal, (unsigned)chosen.font);
 }
 
@@ -341,7 +341,7 @@ static void tell_count(const char *name)
 }
 
 /* W-205: the count beside the font after each kind of call; a store with a count or
- * a sum that is untrue, and one with font records of 72 bytes, as they were before.
+ * a sum that is untrue, and one with font records of 78 bytes, as they were before W-206.
  * Font 5's record begins at byte 12, with its numbers at bytes 20 and 22. */
 static void counting(void)
 {
@@ -367,9 +367,85 @@ static void counting(void)
     tell_count("true again");
     mf_remove_character(store, sizeof store, 5, 65);
     tell_count("removed");
-    memmove(store + 20, store + 26, sizeof store - 26);
-    store[12] = 72;
+    memmove(store + 12 + 78, store + 12 + 82, sizeof store - 12 - 82);
+    store[12] = 78;
     tell_count("the version before");
+}
+
+/* Document 01's font A as a format 20 block of so many bytes, with this descriptor
+ * size and resolutions. */
+static uint32_t fine(uint32_t font, size_t length, unsigned size, unsigned x, unsigned y)
+{
+    uint8_t block[72] = {0};
+    header(block, 277, MF_FIXED, 400, 0, 3, MF_PORTRAIT);
+    block[1] = (uint8_t)size;
+    block[2] = 20;
+    block[17] = 240;
+    block[64] = (uint8_t)(x / 256);
+    block[65] = (uint8_t)(x % 256);
+    block[66] = (uint8_t)(y / 256);
+    block[67] = (uint8_t)(y % 256);
+    return mf_download_font(store, sizeof store, block, length, font);
+}
+
+static void choose_mode(const char *name, uint32_t set, uint32_t orientation, uint32_t mode)
+{
+    mf_chosen chosen =
+        mf_choose(store, sizeof store, set, MF_FIXED, 1000, 1200, 0, 0, 3, orientation, mode);
+    printf("%s, mode %u: refusal %u, font %u\n", name, (unsigned)mode, (unsigned)chosen.refusal,
+           (unsigned)chosen.font);
+}
+
+/* A font told, written, and read again. */
+static void show_fine(uint32_t font)
+{
+    uint8_t stream[128], again[256];
+    mf_told told = mf_tell_font(store, sizeof store, out, MF_FONT_BYTES, font);
+    mf_written written = mf_write_font(store, sizeof store, stream, sizeof stream, font);
+    mf_stream_read read;
+
+    printf("font %u: %u, size %u, format %u, resolutions %u %u; written %u, %u bytes", (unsigned)font,
+           (unsigned)told.refusal, (unsigned)mf_field(out, 0), out[2], (unsigned)mf_field(out, 64),
+           (unsigned)mf_field(out, 66), (unsigned)written.refusal, (unsigned)written.length);
+    mf_make_fresh(again, sizeof again);
+    read = mf_read_stream(again, sizeof again, stream, written.length);
+    mf_tell_font(again, sizeof again, stream, sizeof stream, font);
+    printf(", read again: done %u, the same: %s\n", (unsigned)read.done,
+           memcmp(out, stream, MF_FONT_BYTES) == 0 ? "yes" : "no");
+}
+
+/* W-206: font 3 of 600 dots to the inch beside A, 5, of 300. */
+static void resolutions(void)
+{
+    size_t length;
+    unsigned size;
+
+    mf_make_fresh(store, sizeof store);
+    for (length = 64; length <= 68; length++)
+        printf("format 20 of %u bytes: %u\n", (unsigned)length,
+               (unsigned)fine(3, length, (unsigned)length, 600, 600));
+    for (size = 64; size <= 70; size++)
+        printf("format 20, descriptor size %u: %u\n", size, (unsigned)fine(3, 69, size, 300, 300));
+    printf("300 and 600: %u\n", (unsigned)fine(3, 68, 68, 300, 600));
+    printf("600 and 300: %u\n", (unsigned)fine(3, 68, 68, 600, 300));
+    printf("1200 and 1200: %u\n", (unsigned)fine(3, 68, 68, 1200, 1200));
+    show_fine(3);
+    fine(3, 68, 68, 600, 600);
+    show_fine(3);
+    choose_mode("600 dpi alone", 277, MF_PORTRAIT, MF_MODE_300);
+    choose_mode("600 dpi alone", 277, MF_PORTRAIT, MF_MODE_600);
+    download(5);
+    show_fine(5);
+    choose_mode("beside A", 277, MF_PORTRAIT, MF_MODE_300);
+    choose_mode("beside A", 277, MF_PORTRAIT, MF_MODE_600);
+    choose_mode("beside A", 277, MF_PORTRAIT, 0);
+    choose_mode("beside A", 277, MF_PORTRAIT, 301);
+    choose_mode("beside A", 277, MF_PORTRAIT, 65836);
+    download(9);
+    mf_remove_font(store, sizeof store, 5);
+    choose_mode("beside C, landscape page", 277, MF_LANDSCAPE, MF_MODE_600);
+    download(7);
+    choose_mode("beside D, its set", 341, MF_PORTRAIT, MF_MODE_600);
 }
 
 /* The header's names against the numbers answered; document 01's edges. */
@@ -395,11 +471,11 @@ static void refusals(void)
     SHOW(MF_RUN_PAST_ROW, character(2, 10, 1, (const uint8_t *)"\0\4\7", 3));
     SHOW(MF_TOO_LARGE, character(1, 1024, 257, block, 0));
     mf_make_fresh(store, sizeof store);
-    SHOW(MF_NONE_TO_CHOOSE, mf_choose(store, sizeof store, 277, 0, 0, 0, 0, 0, 0, 0).refusal);
+    SHOW(MF_NONE_TO_CHOOSE, mf_choose(store, sizeof store, 277, 0, 0, 0, 0, 0, 0, 0, 300).refusal);
     SHOW(MF_STREAM_BROKEN,
          mf_read_stream(store, sizeof store, (const uint8_t *)"?", 1).refusal);
     download(5);
-    SHOW(MF_OUTPUT_SHORT, mf_tell_font(store, sizeof store, out, 63, 5).refusal);
+    SHOW(MF_OUTPUT_SHORT, mf_tell_font(store, sizeof store, out, MF_FONT_BYTES - 1, 5).refusal);
     named(block, 5);
 #define ONE_FONT (MF_STORE_MIN + MF_FONT_ROOM)
     mf_make_fresh(store, ONE_FONT);
@@ -418,6 +494,7 @@ int main(void)
     writing();
     turning();
     counting();
+    resolutions();
     refusals();
     return 0;
 }

@@ -1,6 +1,7 @@
 /* Writes a soft font stream of capital letters, made here dot by dot, for trying
  * the examples: font 10 fixed, font 11 the same in bold, font 12 proportional,
- * font 13 as 10 but landscape. SCALE dots make one dot of the letters. */
+ * font 13 as 10 but landscape, font 20 as 10 but of 600 dots to the inch. SCALE dots
+ * make one dot of the letters, twice as many at 600. */
 #include <stdio.h>
 #include <stdlib.h>
 #include <string.h>
@@ -34,13 +35,14 @@ static void high16(unsigned char *bytes, int value)
     bytes[1] = (unsigned char)(value & 255);
 }
 
-static void font(int number, int weight, int spacing, int orientation)
+static void font(int number, int weight, int spacing, int orientation, int resolution)
 {
-    unsigned char block[64] = {0};
-    int letter;
+    unsigned char block[68] = {0};
+    int letter, size = resolution == 300 ? 64 : 68;
 
     bold = weight ? (scale + 1) / 2 : 0;
-    high16(block, 64);
+    high16(block, size);
+    block[2] = (unsigned char)(size == 64 ? 0 : 20);
     block[3] = 1;
     high16(block + 6, 7 * scale);
     high16(block + 8, 6 * scale);
@@ -52,8 +54,10 @@ static void font(int number, int weight, int spacing, int orientation)
     high16(block + 18, 4 * 12 * scale);
     block[24] = (unsigned char)weight;
     block[25] = 3;
-    printf("\x1b*c%dD\x1b)s64W", number);
-    fwrite(block, 1, 64, stdout);
+    high16(block + 64, resolution);
+    high16(block + 66, resolution);
+    printf("\x1b*c%dD\x1b)s%dW", number, size);
+    fwrite(block, 1, (size_t)size, stdout);
 
     for (letter = 0; letter < 26; letter++) {
         int wide = 5 * scale + bold, high = 7 * scale, class_ = weight ? 2 : 1;
@@ -109,11 +113,13 @@ static void font(int number, int weight, int spacing, int orientation)
 int main(int count, char **words)
 {
     scale = count > 1 ? atoi(words[1]) : 4;
-    if (scale < 1 || scale > 16)
+    if (scale < 1 || scale > 8)
         return 1;
-    font(10, 0, 0, 0);
-    font(11, 3, 0, 0);
-    font(12, 0, 1, 0);
-    font(13, 0, 0, 1);
+    font(10, 0, 0, 0, 300);
+    font(11, 3, 0, 0, 300);
+    font(12, 0, 1, 0, 300);
+    font(13, 0, 0, 1, 300);
+    scale *= 2;
+    font(20, 0, 0, 0, 600);
     return 0;
 }

@@ -13,13 +13,18 @@ static mf_request requests[MF_SHEET_MAX + 1];
 static mf_answer answers[ANSWERS], before[ANSWERS];
 
 /* Document 01's base request. */
-static const mf_request base = {MF_ROMAN_8, MF_FIXED, 1000, 1200, 0, 0, 3, MF_PORTRAIT};
+static const mf_request base = {MF_ROMAN_8, MF_FIXED, 1000, 1200, 0,
+                                0,          3,        MF_PORTRAIT, MF_MODE_300};
 
-/* The header of a font that fits the base request. */
-static void header(uint8_t block[64])
+/* The header of a font that fits the base request: in format 20, of 300 dots to the
+ * inch, so that its resolution can be changed. */
+static void header(uint8_t block[68])
 {
-    memset(block, 0, 64);
-    block[1] = 64;
+    memset(block, 0, 68);
+    block[1] = 68;
+    block[2] = 20;
+    block[64] = block[66] = 300 / 256;
+    block[65] = block[67] = 300 % 256;
     block[9] = 30;
     block[11] = 50;
     block[14] = 277 / 256;
@@ -29,9 +34,9 @@ static void header(uint8_t block[64])
     block[25] = 3;
 }
 
-static void download(uint32_t font, const uint8_t block[64])
+static void download(uint32_t font, const uint8_t block[68])
 {
-    uint32_t refusal = mf_download_font(store, sizeof store, block, 64, font);
+    uint32_t refusal = mf_download_font(store, sizeof store, block, 68, font);
     if (refusal)
         printf("font %u: refusal %u\n", (unsigned)font, (unsigned)refusal);
 }
@@ -74,6 +79,7 @@ static void layout(void)
     AT(weight);
     AT(typeface);
     AT(orientation);
+    AT(mode);
     printf("\nmf_answer %u: font %u refusal %u\n", (unsigned)sizeof(mf_answer),
            (unsigned)offsetof(mf_answer, font), (unsigned)offsetof(mf_answer, refusal));
 }
@@ -84,7 +90,7 @@ static void layout(void)
 static void follows(const char *field, const mf_request *other, const mf_request *wrong, size_t at,
                     unsigned byte)
 {
-    uint8_t block[64];
+    uint8_t block[68];
 
     mf_make_fresh(store, sizeof store);
     header(block);
@@ -119,11 +125,33 @@ static void fields(void)
     FOLLOWS(orientation, MF_REVERSE_LANDSCAPE, 4, 12, 3);
 }
 
+/* The same of the mode, for which font 2 is as large at 600 dots to the inch. */
+static void modes(void)
+{
+    uint8_t block[68];
+
+    mf_make_fresh(store, sizeof store);
+    header(block);
+    download(1, block);
+    block[17] = 240;
+    block[18] = 400 / 256;
+    block[19] = 400 % 256;
+    block[64] = block[66] = 600 / 256;
+    block[65] = block[67] = 600 % 256;
+    download(2, block);
+    requests[0] = requests[1] = requests[2] = requests[3] = requests[4] = base;
+    requests[1].mode = requests[3].mode = MF_MODE_600;
+    requests[2].mode = 450;
+    sheet("mode", 5, 5);
+    mf_remove_font(store, sizeof store, 1);
+    sheet("mode, 600 alone", 5, 5);
+}
+
 /* Fonts 100, 101, .. of heights 100, 110, .., and a sheet that asks for them from
  * the highest down. */
 static void full(void)
 {
-    uint8_t block[64];
+    uint8_t block[68];
     unsigned at, right = 0;
 
     mf_make_fresh(store, sizeof store);
@@ -141,7 +169,7 @@ static void full(void)
     for (at = 0; at < MF_SHEET_MAX; at++) {
         mf_chosen alone = mf_choose(store, sizeof store, base.symbol_set, base.spacing, base.pitch,
                                     requests[at].height, base.style, base.weight, base.typeface,
-                                    base.orientation);
+                                    base.orientation, base.mode);
         right += answers[at].refusal == MF_DONE && answers[at].font == alone.font &&
                  answers[at].font == 100 + MF_SHEET_MAX - 1 - at;
     }
@@ -160,7 +188,7 @@ static void full(void)
  * no store. */
 static void refusals(void)
 {
-    uint8_t block[64];
+    uint8_t block[68];
 
     requests[0] = requests[1] = requests[2] = base;
     requests[1].symbol_set = 85;
@@ -181,6 +209,7 @@ int main(void)
 {
     layout();
     fields();
+    modes();
     full();
     refusals();
     return 0;

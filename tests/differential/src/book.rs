@@ -1,11 +1,12 @@
 //! Demand 3's book: the fonts meant, made from the calls and their answers and
-//! never from the store; and the nine steps as document 01 words them, with the
-//! numbers of W-202.
+//! never from the store; and the steps as document 01 words them, with those and the
+//! numbers of W-202 and W-206.
 
 use crate::calls::{Answer, Call, Request};
 use std::collections::BTreeMap;
 
-pub type Header = [u8; 64];
+/// The 64 kept bytes and the resolutions.
+pub type Header = [u8; 68];
 
 #[derive(Clone, Default)]
 pub struct Book {
@@ -18,11 +19,19 @@ fn field(header: &Header, at: usize) -> u32 {
 
 /// "the kept bytes the rules make of its block", an accepted one's.
 fn kept(block: &[u8]) -> Header {
-    let mut kept = [0; 64];
-    kept.copy_from_slice(&block[..64]);
+    let mut kept = [0; 68];
+    kept[..64].copy_from_slice(&block[..64]);
     kept[0] = 0;
-    kept[1] = 64;
     kept[5] = 0;
+    if kept[2] == 20 {
+        // "A format 20 font keeps format 20 and descriptor size 68."
+        kept[1] = 68;
+        kept[64..].copy_from_slice(&block[64..68]);
+    } else {
+        // "a format 0 font gets 300 and 300"
+        kept[1] = 64;
+        kept[64..].copy_from_slice(&[1, 44, 1, 44]);
+    }
     if field(&kept, 16) > 16800 {
         kept[16] = (16800_u32 / 256) as u8;
         kept[17] = (16800_u32 % 256) as u8;
@@ -74,13 +83,26 @@ impl<'a> Font<'a> {
         u32::from(self.header[13])
     }
 
+    pub fn resolution(&self) -> u32 {
+        field(self.header, 64)
+    }
+
+    /// W-206: "a 300 dpi number of W-202 counts twice, a 600 dpi one once".
+    fn in_2400ths(&self, number: u64) -> u64 {
+        match self.resolution() {
+            600 => number,
+            _ => 2 * number,
+        }
+    }
+
     /// W-202: "Pitch becomes 256 x field + byte 40, height 256 x field + byte 41."
     fn pitch(&self) -> u64 {
-        256 * u64::from(field(self.header, 16)) + u64::from(self.header[40])
+        self.in_2400ths(256 * u64::from(field(self.header, 16)) + u64::from(self.header[40]))
     }
 
     fn height(&self) -> i64 {
-        256 * i64::from(field(self.header, 18)) + i64::from(self.header[41])
+        let number = 256 * u64::from(field(self.header, 18)) + u64::from(self.header[41]);
+        self.in_2400ths(number) as i64
     }
 
     fn style(&self) -> u32 {
@@ -102,9 +124,15 @@ impl<'a> Font<'a> {
         u32::from(self.header[12])
     }
 
-    /// "A font takes part exactly if it has the set asked for or Roman-8."
+    /// "A font takes part exactly if it has the set asked for or Roman-8." W-206:
+    /// "In mode 300 the 600 dpi fonts take no part in choosing".
     pub fn takes_part(&self, request: &Request) -> bool {
-        self.symbol_set() == request.symbol_set || self.symbol_set() == 277
+        self.takes_part_in(request.mode)
+            && (self.symbol_set() == request.symbol_set || self.symbol_set() == 277)
+    }
+
+    fn takes_part_in(&self, mode: u32) -> bool {
+        mode == 600 || self.resolution() == 300
     }
 }
 
@@ -118,12 +146,13 @@ fn if_any<'a>(fonts: &[Font<'a>], has: impl Fn(&Font) -> bool) -> Vec<Font<'a>> 
     }
 }
 
-/// The nine steps on these fonts: the number left, or none.
+/// The steps on these fonts: the number left, or none.
 pub fn chosen(request: &Request, fonts: &[Font]) -> Option<u32> {
     // 1
     let with = |set: u32| -> Vec<Font> {
         let all = fonts.iter().copied();
-        all.filter(|font| font.symbol_set() == set).collect()
+        all.filter(|font| font.takes_part_in(request.mode) && font.symbol_set() == set)
+            .collect()
     };
     let mut left = with(request.symbol_set);
     if left.is_empty() {
@@ -136,7 +165,7 @@ pub fn chosen(request: &Request, fonts: &[Font]) -> Option<u32> {
     left = if_any(&left, |font| font.spacing() == request.spacing);
     // 3
     if left.iter().all(|font| font.spacing() == 0) {
-        let fits = |pitch: u64| u64::from(request.pitch) * pitch <= 30_720_000;
+        let fits = |pitch: u64| u64::from(request.pitch) * pitch <= 61_440_000;
         let pitches = || left.iter().map(Font::pitch);
         let wanted = match pitches().filter(|&pitch| fits(pitch)).max() {
             Some(greatest) => greatest,
@@ -146,7 +175,7 @@ pub fn chosen(request: &Request, fonts: &[Font]) -> Option<u32> {
     }
     // 4
     let asked = 256 * i64::from(request.height);
-    let distance = |font: &Font| match (asked - 6 * font.height()).abs() {
+    let distance = |font: &Font| match (asked - 3 * font.height()).abs() {
         ..=6400 => 0,
         far => far,
     };
@@ -169,6 +198,10 @@ pub fn chosen(request: &Request, fonts: &[Font]) -> Option<u32> {
     left.retain(|font| font.weight() == wanted);
     // 7
     left = if_any(&left, |font| font.typeface() == request.typeface);
+    // W-206: "in mode 600 a 600 dpi font goes before a 300 dpi one"
+    if request.mode == 600 {
+        left = if_any(&left, |font| font.resolution() == 600);
+    }
     // 8
     left = if_any(&left, |font| font.orientation() == request.orientation);
     // 9

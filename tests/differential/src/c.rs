@@ -58,6 +58,7 @@ extern "C" {
         weight: i32,
         typeface: u32,
         orientation: u32,
+        mode: u32,
     ) -> Chosen;
     pub fn mf_choose_sheet(
         store: *const u8,

@@ -304,9 +304,9 @@ impl<T: PartialEq + From<u8>> Lent<T> {
     }
 }
 
-/// "A record holds the request's numbers in document 01's order, ..; all of 32
-/// bits", spelled here, not left to a struct.
-fn record(request: &Request) -> [u32; 8] {
+/// "A record holds the request's numbers in document 01's order, ones added later
+/// last; ..; all of 32 bits", spelled here, not left to a struct.
+fn record(request: &Request) -> [u32; 9] {
     [
         request.symbol_set,
         request.spacing,
@@ -316,6 +316,7 @@ fn record(request: &Request) -> [u32; 8] {
         request.weight as u32,
         request.typeface,
         request.orientation,
+        request.mode,
     ]
 }
 
@@ -339,7 +340,7 @@ fn our_sheet(
     let records: Vec<u32> = requests.iter().flat_map(record).collect();
     let mut asked = lending.lend(&records, chance);
     let mut out = lending.lend(&words(before), chance);
-    // SAFETY: each pointer is valid for as many entries as are said, of 8 and of
+    // SAFETY: each pointer is valid for as many entries as are said, of 9 and of
     // 2 numbers, and aligned; none overlap, and none is kept after the call.
     let refusal = unsafe {
         c::mf_choose_sheet(
@@ -426,6 +427,7 @@ pub fn ours(
                     request.weight,
                     request.typeface,
                     request.orientation,
+                    request.mode,
                 );
                 Answer::one(chosen.refusal, chosen.font)
             }

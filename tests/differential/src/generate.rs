@@ -17,10 +17,12 @@ pub struct Record {
 
 /// A font's record: its length, and where its kept bytes stand; before them the
 /// number of its characters (2 bytes) and the sum of their data (4 bytes), W-205.
-pub const FONT_RECORD: usize = 78;
+pub const FONT_RECORD: usize = 82;
 pub const FONT_KEPT: usize = 14;
 pub const FONT_COUNT: usize = 8;
 pub const FONT_SUM: usize = 10;
+/// What telling a font copies: 64 bytes of the header and both resolutions.
+pub const KEPT: usize = FONT_RECORD - FONT_KEPT;
 /// A character's record without its data.
 pub const CHARACTER_RECORD: usize = 26;
 
@@ -219,8 +221,30 @@ impl Generator<'_> {
         }
     }
 
-    /// A font block that is mostly taken; few values, so that fonts tie.
+    /// A font block that is mostly taken; few values, so that fonts tie. Many are of
+    /// format 20, of both resolutions.
     pub fn good_header(&mut self) -> Vec<u8> {
+        let mut block = self.good_header_of_format_0();
+        let chance = &mut *self.chance;
+        if chance.once_in(2) {
+            let resolution = chance.of(&[300_u16, 600, 600]);
+            block[1] = 68;
+            block[2] = 20;
+            block.extend([resolution.to_be_bytes(); 2].concat());
+            // So that fonts of both resolutions tie: the numbers of 300 dpi twice.
+            for (field, extended) in [(16, 40), (18, 41)] {
+                let number = 2 * (256 * high16(&block, field) + usize::from(block[extended]));
+                if resolution == 600 && number < 1 << 24 && !chance.once_in(4) {
+                    let number = (number + chance.of(&[0, 0, 0, 1])).min((1 << 24) - 1);
+                    put_high16(&mut block, field, number / 256);
+                    block[extended] = (number % 256) as u8;
+                }
+            }
+        }
+        block
+    }
+
+    fn good_header_of_format_0(&mut self) -> Vec<u8> {
         let chance = &mut *self.chance;
         let mut block = match chance.once_in(3) {
             true => chance.bytes(64),
@@ -280,19 +304,53 @@ impl Generator<'_> {
         if chance.once_in(4) {
             // Longer, with a descriptor size up to the block's length and one
             // beyond.
-            let length = match chance.once_in(12) {
-                true => chance.of(&[32766, 32767, 32768, 32769, 40000]),
-                false => 64 + chance.below(300),
+            let least = block.len();
+            let length = match chance.below(12) {
+                0 => chance.of(&[32766, 32767, 32768, 32769, 40000]),
+                1..=3 => least + chance.below(5),
+                _ => least + chance.below(300),
             };
-            let more = chance.bytes(length - 64);
+            let more = chance.bytes(length - least);
             block.extend(more);
-            let size = chance.of(&[64, 65, length - 1, length, length + 1, length / 2]);
+            let size = chance.of(&[
+                64,
+                65,
+                66,
+                67,
+                68,
+                69,
+                length - 1,
+                length,
+                length + 1,
+                length / 2,
+            ]);
             put_high16(&mut block, 0, size);
+        }
+        if block[2] == 20 && chance.once_in(8) {
+            match chance.below(3) {
+                // One that is not taken, or each another.
+                0 => {
+                    let of = [0, 1, 44, 88, 256, 299, 300, 301, 599, 600, 601, 1200, 65535];
+                    for at in [64, 66] {
+                        put_high16(&mut block, at, chance.of(&of));
+                    }
+                }
+                1 => put_high16(&mut block, chance.of(&[64, 66]), chance.of(&[300, 600])),
+                // Too short, with a size that fits its length or format 20.
+                _ => {
+                    let length = chance.between(64, 67);
+                    block.truncate(length);
+                    put_high16(&mut block, 0, chance.of(&[64, length, 68, 69]));
+                }
+            }
+            if block.len() < 68 {
+                return block;
+            }
         }
         if chance.once_in(3) {
             match chance.below(14) {
                 0 => {
-                    let size = chance.of(&[0, 63, 64, 65, 128, 320, 16384, 65535]);
+                    let size = chance.of(&[0, 63, 64, 65, 66, 67, 68, 69, 128, 320, 16384, 65535]);
                     put_high16(&mut block, 0, size);
                 }
                 1 => block[2] = chance.of(&[0, 1, 2, 10, 15, 20, 255]),
@@ -317,7 +375,7 @@ impl Generator<'_> {
                     let at = chance.below(64);
                     block[at] = chance.byte();
                 }
-                _ => block.truncate(chance.of(&[0, 1, 2, 63, 64])),
+                _ => block.truncate(chance.of(&[0, 1, 2, 63, 64, 65, 66, 67, 68])),
             }
         }
         block
@@ -655,16 +713,18 @@ impl Generator<'_> {
             weight: chance.below(15) as i32 - 7,
             typeface: chance.of(&[3, 3, 4, 0, 259, 65535]),
             orientation: chance.of(&[0, 0, 0, 0, 1, 1, 2, 3]),
+            mode: chance.of(&[300, 600, 600]),
         };
         if !fonts.is_empty() && chance.once_in(2) {
             let font = fonts[chance.below(fonts.len())];
             if chance.once_in(2) {
                 request.symbol_set = high16(font, 14) as u32;
             }
-            let pitch = (256 * high16(font, 16) + usize::from(font[40])).max(1) as u32;
-            request.pitch = (30_720_000 / pitch + chance.of(&[0, 0, 1])).min(57_600);
+            let times = if high16(font, 64) == 600 { 1 } else { 2 };
+            let pitch = (times * (256 * high16(font, 16) + usize::from(font[40]))).max(1) as u32;
+            request.pitch = (61_440_000 / pitch + chance.of(&[0, 0, 1])).min(57_600);
             // At the font's height, or where 6,400 off is just reached.
-            let height = 6 * (256 * high16(font, 18) + usize::from(font[41])) as i64;
+            let height = (3 * times * (256 * high16(font, 18) + usize::from(font[41]))) as i64;
             let beside = chance.of(&[-6400, 0, 6400]);
             let near = (height + beside) / 256 + chance.of(&[-1, 0, 0, 1, 1]);
             request.height = near.clamp(0, 99_975) as u32;
@@ -676,7 +736,8 @@ impl Generator<'_> {
         let mut request = self.good_request(store);
         let chance = &mut *self.chance;
         if chance.once_in(8) {
-            match chance.below(8) {
+            match chance.below(9) {
+                8 => request.mode = chance.of(&[0, 1, 299, 301, 1200, 65836, 66136, u32::MAX]),
                 0 => request.symbol_set = chance.of(&[2048, 65813, u32::MAX]),
                 1 => request.spacing = chance.of(&[2, 256, u32::MAX]),
                 2 => request.pitch = chance.of(&[57_601, 65_536, u32::MAX]),
@@ -775,7 +836,7 @@ impl Generator<'_> {
             } else if !kept || self.chance.once_in(30) {
                 let mut block = self.good_header();
                 block[12] = 0;
-                stream.extend(b"\x1b)s64W");
+                stream.extend(format!("\x1b)s{}W", block.len()).bytes());
                 stream.extend(&block);
                 reference::download_font(&mut left, &block, font);
             } else {
@@ -808,7 +869,7 @@ impl Generator<'_> {
                     _ => self.chance.below(32768),
                 };
                 let block = self.good_header();
-                stream.extend(format!("\x1b*c{number}D\x1b)s64W").bytes());
+                stream.extend(format!("\x1b*c{number}D\x1b)s{}W", block.len()).bytes());
                 stream.extend(block);
             }
             return stream;
@@ -816,7 +877,7 @@ impl Generator<'_> {
         let font = self.font_number(store).min(32767);
         let mut header = self.good_header();
         header[12] = 0;
-        stream.extend(format!("\x1b*c{font}D\x1b)s64W").bytes());
+        stream.extend(format!("\x1b*c{font}D\x1b)s{}W", header.len()).bytes());
         stream.extend(header);
         for code in 0..256 {
             let block = self.small_character();
@@ -972,7 +1033,7 @@ impl Generator<'_> {
             17 | 18 => Call::RemoveCharacter { font, code },
             19 | 20 => Call::Choose(self.request(shown)),
             21 | 22 => Call::TellFont {
-                out: self.output(64),
+                out: self.output(KEPT),
                 font,
             },
             23 | 24 => Call::TellCharacter {
@@ -1056,16 +1117,32 @@ impl Generator<'_> {
         numbers[2..].copy_from_slice(&data.to_le_bytes());
     }
 
-    /// The store with font records of 72 bytes, without the held counts: as it was
-    /// written before W-205.
+    /// A kept header of format 0 or 20, of any size and resolutions near those.
+    fn change_format(&mut self, bytes: &mut [u8]) {
+        let fonts = counts(bytes);
+        let chance = &mut *self.chance;
+        let kept = fonts[chance.below(fonts.len())].0.at + FONT_KEPT;
+        let (size, format) = chance.of(&[(64, 0), (68, 0), (64, 20), (68, 20), (68, 20), (68, 20)]);
+        bytes[kept + 1] = size;
+        bytes[kept + 2] = format;
+        let x = chance.of(&[300, 300, 600, 600, 601]);
+        let y = match chance.once_in(3) {
+            true => chance.of(&[300, 600, 88]),
+            false => x,
+        };
+        put_high16(bytes, kept + 64, x);
+        put_high16(bytes, kept + 66, y);
+    }
+
+    /// The store with font records of 78 bytes, without the resolutions: as it was
+    /// written before W-206.
     pub fn of_the_version_before(store: &[u8]) -> Vec<u8> {
         let mut bytes = store[..12].to_vec();
         for record in records(store) {
             let part = &store[record.at..record.at + record.length];
             if record.code.is_none() {
-                bytes.extend([72, 0, 0, 0]);
-                bytes.extend(&part[4..FONT_COUNT]);
-                bytes.extend(&part[FONT_KEPT..FONT_KEPT + 64]);
+                bytes.extend([78, 0, 0, 0]);
+                bytes.extend(&part[4..FONT_KEPT + 64]);
             } else {
                 bytes.extend(part);
             }
@@ -1091,6 +1168,12 @@ impl Generator<'_> {
                     let record = records[chance.below(records.len())];
                     record.at + chance.below(record.length)
                 }
+                (false, 4) => {
+                    // Where formats differ: descriptor size, format, resolutions.
+                    let fonts = records.iter().filter(|record| record.code.is_none());
+                    let font = chance.of(&fonts.collect::<Vec<_>>());
+                    font.at + FONT_KEPT + chance.of(&[1, 2, 64, 65, 66, 67])
+                }
                 (false, _) => {
                     let record = records[chance.below(records.len())];
                     record.at + chance.below(record.length.min(FONT_KEPT + 44))
@@ -1102,13 +1185,17 @@ impl Generator<'_> {
                 1 => bytes[at].wrapping_add(1),
                 2 => bytes[at].wrapping_sub(1),
                 3 => bytes[at] ^ (1 << chance.below(8)),
-                4 => chance.of(&[2, 3, 7, 8, 16, 64, 128, 249, 248]),
+                4 => chance.of(&[2, 3, 7, 8, 16, 20, 64, 68, 128, 249, 248]),
                 _ => chance.of(&[0, 1, 255]),
             };
             return bytes;
         }
         if chance.once_in(4) {
             self.change_count(&mut bytes);
+            return bytes;
+        }
+        if chance.once_in(4) {
+            self.change_format(&mut bytes);
             return bytes;
         }
         let pick = chance.below(records.len());

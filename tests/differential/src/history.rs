@@ -4,7 +4,7 @@
 use crate::book::{self, Book, Font};
 use crate::calls::{entries, ours, theirs, Answer, Call, Lending, Lent, Request, ANSWER};
 use crate::chance::Chance;
-use crate::generate::{self, Generator, Reading, Theme, CHARACTER_RECORD, FONT_KEPT};
+use crate::generate::{self, Generator, Reading, Theme, CHARACTER_RECORD, FONT_KEPT, KEPT};
 use crate::met::Met;
 use marlinfold_reference as reference;
 
@@ -38,14 +38,14 @@ pub fn run(
     let mut chance = Chance::new(seed, number);
     let (theme, length, calls) = match chance.below(40) {
         0 | 1 if !small => {
-            let length = chance.of(&[32866, 32867, 32883, 32884, 32885, 40000, 65535, 65536]);
+            let length = chance.of(&[32870, 32871, 32887, 32888, 32889, 40000, 65535, 65536]);
             (Theme::Giants, length, 24)
         }
         2 if !small => (Theme::Fonts, chance.of(&[4096, 16384, 65536]), 60),
         3..=4 => (Theme::Fonts, chance.between(300, 3000), 60),
         5 => (
             Theme::Small,
-            chance.of(&[12, 13, 18, 89, 90, 91, 167, 168, 169]),
+            chance.of(&[12, 13, 18, 93, 94, 95, 175, 176, 177]),
             20,
         ),
         6 if !small => (Theme::Small, chance.between(20_000, 65_536), 40),
@@ -284,6 +284,14 @@ impl History<'_> {
         let choice = self.choice(&mut pair.ours, request, &book)?;
         if choice.is_none() && !book.fonts.is_empty() {
             self.met.situation("none takes part though fonts are kept");
+            let mode_600 = Request {
+                mode: 600,
+                ..*request
+            };
+            if fonts(&book).iter().any(|font| font.takes_part(&mode_600)) {
+                self.met
+                    .situation("none takes part in mode 300, some in mode 600");
+            }
         }
         if choice.is_some() && book.fonts.len() >= 500 {
             self.met.situation("choice among 500 fonts or more");
@@ -303,11 +311,7 @@ impl History<'_> {
         let call = Call::Choose(*request);
         let (answer, _) = self.only_ours(store, &call)?;
         let complain = |what: &str| Err(format!("{call}\n  answered {answer:?}: {what}"));
-        let fonts: Vec<Font> = book
-            .fonts
-            .iter()
-            .map(|(&number, header)| Font::new(number, header))
-            .collect();
+        let fonts = fonts(book);
         if !fonts.iter().any(|font| font.takes_part(request)) {
             if answer.refusal != 11 || answer.numbers != [0; 3] {
                 return complain("but none takes part");
@@ -346,6 +350,7 @@ impl History<'_> {
         }
         if fonts.len() <= 16 {
             self.chosen_by_extended_bytes(request, book, choice.number);
+            self.chosen_by_resolution(request, book, choice);
         }
         Ok(Some(choice.number))
     }
@@ -361,14 +366,39 @@ impl History<'_> {
             for header in without.fonts.values_mut() {
                 header[at] = 0;
             }
-            let fonts: Vec<Font> = without
-                .fonts
-                .iter()
-                .map(|(&number, header)| Font::new(number, header))
-                .collect();
-            if book::chosen(request, &fonts) != Some(choice) {
+            if book::chosen(request, &fonts(&without)) != Some(choice) {
                 self.met.situation(situation);
             }
+        }
+    }
+
+    /// Counts choices that W-206 makes others: by the mode, and by what a 600 dpi
+    /// font's numbers count.
+    fn chosen_by_resolution(&mut self, request: &Request, book: &Book, choice: &Font) {
+        let other_mode = Request {
+            mode: 900 - request.mode,
+            ..*request
+        };
+        let otherwise = book::chosen(&other_mode, &fonts(book));
+        if otherwise != Some(choice.number) {
+            self.met.situation(match (request.mode, otherwise) {
+                (600, None) => "choice in mode 600, none in mode 300",
+                (600, Some(_)) => "choice in mode 600, another in mode 300",
+                _ => "choice in mode 300, another in mode 600",
+            });
+        }
+        if request.mode == 600 && choice.resolution() == 300 {
+            if fonts(book).iter().any(|font| font.resolution() == 600) {
+                self.met.situation("300 dpi font chosen in mode 600");
+            }
+        }
+        // As if each number counted alike.
+        let mut alike = book.clone();
+        for header in alike.fonts.values_mut() {
+            header[64..].copy_from_slice(&[1, 44, 1, 44]);
+        }
+        if book::chosen(request, &fonts(&alike)) != Some(choice.number) {
+            self.met.situation("choice by the resolution");
         }
     }
 
@@ -460,7 +490,7 @@ impl History<'_> {
             _ => 0,
         };
         let call = Call::TellFont {
-            out: vec![0x55; 64],
+            out: vec![0x55; KEPT],
             font,
         };
         let (answer, out) = self.only_ours(&mut pair.ours, &call)?;
@@ -472,7 +502,7 @@ impl History<'_> {
             Some(header) => {
                 answer.refusal == 0 && out == header && answer.number() as usize == characters
             }
-            None => answer.refusal == 6 && out == [0x55; 64],
+            None => answer.refusal == 6 && out == [0x55; KEPT],
         };
         match right {
             true => Ok(()),
@@ -503,6 +533,17 @@ impl History<'_> {
         }) && reference::is_store(&bytes)
         {
             self.met.situation("extended byte changed in a store");
+        }
+        // W-206: a kept header of either format.
+        if fonts.iter().any(|font| {
+            let kept = font.at + FONT_KEPT;
+            let places = [1, 2, 64, 65, 66, 67].map(|byte| Some(kept + byte));
+            font.code.is_none() && places.contains(&changed)
+        }) {
+            self.met.situation(match reference::is_store(&bytes) {
+                true => "format or resolution changed, still a store",
+                false => "format or resolution changed, no store",
+            });
         }
         let mut copy = self.pair(&bytes);
         for _ in 0..3 {
@@ -608,7 +649,7 @@ impl History<'_> {
         }
         // And as the calls tell it.
         let mut calls = vec![Call::TellFont {
-            out: vec![0; 64],
+            out: vec![0; KEPT],
             font,
         }];
         for record in &records {
@@ -632,6 +673,12 @@ impl History<'_> {
         if records.len() > 200 {
             self.met.situation("round trip of 200 characters or more");
         }
+        let header = &self.book.fonts[&font];
+        self.met.situation(match (header[2], header[64]) {
+            (0, _) => "round trip in format 0",
+            (_, 1) => "round trip in format 20, 300 dpi",
+            _ => "round trip in format 20, 600 dpi",
+        });
         Ok(())
     }
 
@@ -647,6 +694,18 @@ impl History<'_> {
             fields_cut(block, met);
         }
         counts_kept(call, answer, before, after, met);
+        if let Call::DownloadFont { block, .. } = call {
+            format_met(block, answer.refusal, met);
+        }
+        if let (Call::Choose(request), 2) = (call, answer.refusal) {
+            let right = Request {
+                mode: 300,
+                ..*request
+            };
+            if reference::choose(before, &right).refusal != 2 {
+                met.situation("a mode out of range alone");
+            }
+        }
         match (call, answer.refusal) {
             (Call::DownloadFont { font, .. }, 0) if kept(*font) => {
                 met.situation("font replaced");
@@ -752,6 +811,51 @@ impl History<'_> {
             }
             _ => {}
         }
+    }
+}
+
+fn fonts(book: &Book) -> Vec<Font<'_>> {
+    let all = book.fonts.iter();
+    all.map(|(&number, header)| Font::new(number, header))
+        .collect()
+}
+
+/// W-206: what the formats' own rules made of a font block in range.
+fn format_met(block: &[u8], refusal: u32, met: &mut Met) {
+    if !(64..=32767).contains(&block.len()) || refusal == 2 {
+        return;
+    }
+    let field = |at: usize| u16::from_be_bytes([block[at], block[at + 1]]);
+    let size = usize::from(field(0));
+    match (block[2], refusal) {
+        (20, 3) => met.situation("format 20 block of 64 to 67 bytes"),
+        (20, 4) if (64..68).contains(&size) => {
+            met.situation("format 20 descriptor size of 64 to 67");
+        }
+        (20, 4) => met.situation("format 20 descriptor size too small or too large"),
+        (20, 5) => {
+            let mut right = block.to_vec();
+            right[64..68].copy_from_slice(&[1, 44, 1, 44]);
+            let mut store = vec![0; 200];
+            reference::make_fresh(&mut store);
+            if reference::download_font(&mut store, &right, 0) == 0 {
+                met.situation(match (field(64), field(66)) {
+                    (300, 600) | (600, 300) => "resolutions 300 and 600",
+                    (x, y) if x == y => "resolutions alike, neither 300 nor 600",
+                    _ => "another resolution",
+                });
+            }
+        }
+        (20, 0) => met.situation(match (field(64), block.len()) {
+            (300, _) => "format 20 font of 300 dpi taken",
+            (_, 68) => "format 20 font of 600 dpi taken",
+            _ => "format 20 font of 600 dpi taken of a longer block",
+        }),
+        (0, 0) if block.len() >= 68 => met.situation("format 0 block of 68 bytes or more taken"),
+        (1..=19 | 21.., 4) if block.len() < 68 => {
+            met.situation("another format in a block of 64 to 67 bytes");
+        }
+        _ => {}
     }
 }
 

@@ -3,7 +3,7 @@
 use crate::calls::{Answer, Call, CALLS, NAMES, POSSIBLE};
 
 /// Every one must be met by a whole run.
-const SITUATIONS: [&str; 68] = [
+const SITUATIONS: [&str; 91] = [
     "font replaced",
     "font of the open character replaced",
     "font block while a character is open",
@@ -67,6 +67,29 @@ const SITUATIONS: [&str; 68] = [
     "untrue sum of data bytes refused",
     "both numbers untrue, refused",
     "store of the version before refused",
+    "format 20 font of 300 dpi taken",
+    "format 20 font of 600 dpi taken",
+    "format 20 font of 600 dpi taken of a longer block",
+    "format 20 block of 64 to 67 bytes",
+    "format 20 descriptor size of 64 to 67",
+    "format 20 descriptor size too small or too large",
+    "resolutions 300 and 600",
+    "resolutions alike, neither 300 nor 600",
+    "another resolution",
+    "format 0 block of 68 bytes or more taken",
+    "another format in a block of 64 to 67 bytes",
+    "a mode out of range alone",
+    "none takes part in mode 300, some in mode 600",
+    "choice in mode 600, none in mode 300",
+    "choice in mode 600, another in mode 300",
+    "choice in mode 300, another in mode 600",
+    "300 dpi font chosen in mode 600",
+    "choice by the resolution",
+    "format or resolution changed, still a store",
+    "format or resolution changed, no store",
+    "round trip in format 0",
+    "round trip in format 20, 300 dpi",
+    "round trip in format 20, 600 dpi",
     "a changed buffer is still a store",
     "a changed buffer is no store",
     "round trip",

@@ -4,8 +4,10 @@
 use crate::runs::{Reading, Shape};
 use crate::Refusal;
 
-/// A font's kept bytes: 01, The font block, "Kept: the first 64 bytes".
-pub const HEADER: usize = 64;
+/// A font's kept bytes: 01, The font block, "Kept: the first 64 bytes"; 02, W-206:
+/// "The font record grows at its end by those four bytes for every font", the
+/// resolutions.
+pub const HEADER: usize = 68;
 /// A character's kept bytes: 01, The character block, "Kept: the 16 bytes".
 pub const DESCRIPTOR: usize = 16;
 /// Format and continuation byte, before a continuation's data.
@@ -15,7 +17,15 @@ pub const BLOCK_MAX: usize = 32_767;
 /// "9 if kept data would pass 32,768 bytes"; a picture's limit as well.
 pub const DATA_MAX: usize = 32_768;
 
-const FORMAT_FONT: u8 = 0;
+/// The formats that are taken, with their least length and descriptor size: 01's,
+/// and 02, W-206: "format 20 headers: 68 bytes".
+const FORMAT_0: u8 = 0;
+const FORMAT_0_SIZE: usize = 64;
+const FORMAT_20: u8 = 20;
+const FORMAT_20_SIZE: usize = 68;
+/// Dots to the inch.
+const LOW: u16 = 300;
+pub const HIGH: u16 = 600;
 const FORMAT_CHARACTER: u8 = 4;
 const DESCRIPTOR_SIZE: u8 = 14;
 const PITCH_MAX: u16 = 16_800;
@@ -33,7 +43,16 @@ fn signed_field<const N: usize>(bytes: &[u8; N], at: usize) -> i16 {
     i16::from_be_bytes([bytes[at], bytes[at + 1]])
 }
 
-/// A font's first 64 bytes, with the fields' names.
+/// The descriptor size that a font of this format is kept with, if it is taken.
+fn size_of_format(format: u8) -> Option<usize> {
+    match format {
+        FORMAT_0 => Some(FORMAT_0_SIZE),
+        FORMAT_20 => Some(FORMAT_20_SIZE),
+        _ => None,
+    }
+}
+
+/// A font's first 64 bytes and its resolutions, with the fields' names.
 #[derive(Clone, Copy)]
 pub struct Header<'a>(pub &'a [u8; HEADER]);
 
@@ -76,12 +95,18 @@ impl Header<'_> {
         field(self.0, 18)
     }
     /// 02, W-202: "PCL gives it as 256ths of a quarter-dot. Pitch becomes 256 x
-    /// field + byte 40, height 256 x field + byte 41."
-    pub fn exact_pitch(self) -> u32 {
-        256 * u32::from(self.pitch()) + u32::from(self.0[PITCH_EXTENDED])
+    /// field + byte 40, height 256 x field + byte 41." W-206: "A 600 dpi
+    /// quarter-dot is half as wide, so pitch and height are compared in 2400ths of an
+    /// inch: a 300 dpi number of W-202 counts twice, a 600 dpi one once".
+    fn compared(self, field: u16, extended: usize) -> u32 {
+        let times = if self.resolution() == HIGH { 1 } else { 2 };
+        times * (256 * u32::from(field) + u32::from(self.0[extended]))
     }
-    pub fn exact_height(self) -> u32 {
-        256 * u32::from(self.height()) + u32::from(self.0[HEIGHT_EXTENDED])
+    pub fn compared_pitch(self) -> u32 {
+        self.compared(self.pitch(), PITCH_EXTENDED)
+    }
+    pub fn compared_height(self) -> u32 {
+        self.compared(self.height(), HEIGHT_EXTENDED)
     }
     /// "stroke weight (24, signed)"
     pub fn weight(self) -> i8 {
@@ -91,8 +116,23 @@ impl Header<'_> {
     pub fn typeface(self) -> u16 {
         u16::from_be_bytes([self.0[26], self.0[25]])
     }
+    /// 02, W-206: "X resolution at byte 64 and Y at 66. Take them where both are 300
+    /// or both are 600." So this is both.
+    pub fn resolution(self) -> u16 {
+        field(self.0, 64)
+    }
+    fn resolutions_allowed(self) -> bool {
+        let (x, y) = (self.resolution(), field(self.0, 66));
+        x == y && (x == LOW || x == HIGH)
+    }
 
-    /// 01, The font block, the list "Then, else 5", in its order.
+    /// 02, W-206: "The write-out gives back the format received."
+    pub fn written(&self) -> &[u8] {
+        &self.0[..usize::from(self.descriptor_size())]
+    }
+
+    /// 01, The font block, the list "Then, else 5", in its order; 02, W-206: "5 for
+    /// another resolution, last among the fields".
     fn fields_allowed(self) -> bool {
         self.font_type() <= 2
             && self.style() <= 1023
@@ -103,14 +143,17 @@ impl Header<'_> {
             && self.spacing() <= 1
             && self.symbol_set() <= 2047
             && (-7..=7).contains(&self.weight())
+            && self.resolutions_allowed()
     }
 
     /// 01, The store: "every kept field is as the rules above leave it": an
     /// allowed header with what "Kept: ..." makes of it already made. An extended
     /// byte may be any: a field at its limit need not have been cut.
+    /// 02, W-206: "a format 0 font gets 300 and 300. A format 20 font keeps format
+    /// 20 and descriptor size 68."
     pub fn is_kept(self) -> bool {
-        self.descriptor_size() == HEADER as u16
-            && self.format() == FORMAT_FONT
+        size_of_format(self.format()) == Some(usize::from(self.descriptor_size()))
+            && (self.format() == FORMAT_20 || self.resolution() == LOW)
             && self.fields_allowed()
             && self.0[5] == 0
             && self.pitch() <= PITCH_MAX
@@ -121,26 +164,40 @@ impl Header<'_> {
 /// 01, The font block: the header that is kept, or 3, 4, 5 in that order.
 pub fn read_font(block: &[u8]) -> Result<[u8; HEADER], Refusal> {
     // "Length 64..32767, else 3."
-    if block.len() > BLOCK_MAX {
+    if !(FORMAT_0_SIZE..=BLOCK_MAX).contains(&block.len()) {
         return Err(Refusal::BlockLength);
     }
-    let Some(first) = block.first_chunk::<HEADER>() else {
-        return Err(Refusal::BlockLength);
+    // "Byte 2 (format) 0 [..], else 4." 02, W-206: "3 below 68 bytes [..] for format
+    // 20 only".
+    let Some(least) = size_of_format(block[2]) else {
+        return Err(Refusal::NotTaken);
     };
-    let header = Header(first);
-    // "Byte 2 (format) 0 and descriptor size 64 up to the block's length, else 4."
-    let size = usize::from(header.descriptor_size());
-    if header.format() != FORMAT_FONT || size < HEADER || size > block.len() {
+    if block.len() < least {
+        return Err(Refusal::BlockLength);
+    }
+    // "descriptor size 64 up to the block's length, else 4"; "4 for a descriptor size
+    // below 68, for format 20 only".
+    let size = usize::from(u16::from_be_bytes([block[0], block[1]]));
+    if !(least..=block.len()).contains(&size) {
         return Err(Refusal::NotTaken);
     }
+    // "a format 0 font gets 300 and 300", whatever stands behind its 64 bytes.
+    let mut first = [0; HEADER];
+    first[..least].copy_from_slice(&block[..least]);
+    if least == FORMAT_0_SIZE {
+        first[64..66].copy_from_slice(&LOW.to_be_bytes());
+        first[66..68].copy_from_slice(&LOW.to_be_bytes());
+    }
+    let header = Header(&first);
     if !header.fields_allowed() {
         return Err(Refusal::FieldValue);
     }
     // "Kept: the first 64 bytes, with descriptor size 64, byte 5 zero, pitch
     // (16) above 16,800 made 16,800, height (18) above 10,922 made 10,922."
     // 02, W-202: "A field cut to its limit keeps its extended byte as zero."
-    let mut kept = *first;
-    kept[0..2].copy_from_slice(&(HEADER as u16).to_be_bytes());
+    // W-206: "A format 20 font keeps format 20 and descriptor size 68."
+    let mut kept = first;
+    kept[0..2].copy_from_slice(&(least as u16).to_be_bytes());
     kept[5] = 0;
     if header.pitch() > PITCH_MAX {
         kept[16..18].copy_from_slice(&PITCH_MAX.to_be_bytes());

@@ -1,15 +1,15 @@
 //! Choosing. It sees the kept fonts' numbers and headers only.
 
-use crate::block::Header;
+use crate::block::{Header, HIGH};
 use crate::store::{View, FONT_MAX};
 use crate::{Answer, Refusal, Request};
 
 /// "8U (Roman-8) is 277".
 const ROMAN_8: u32 = 277;
 const FIXED: u32 = 0;
-/// 02, W-202: "The test for pitch is R x pitch at most 30,720,000".
-const PITCH_LIMIT: u64 = 30_720_000;
-/// "the height distance is |256 x H - 6 x height| with 6,400 or less as 0."
+/// 02, W-206: "the pitch test is R x pitch at most 61,440,000".
+const PITCH_LIMIT: u64 = 61_440_000;
+/// "the height distance is |256 x H - 3 x height| with 6,400 or less as 0."
 const HEIGHT_LEVEL: u32 = 6_400;
 /// 02, W-201: "A label sheet asks for up to 64 fonts."
 const SHEET_MAX: usize = 64;
@@ -18,7 +18,8 @@ impl Request {
     /// 01, Choosing: "A request: symbol set 0..2047, spacing 0 or 1, pitch R in
     /// hundredths of a character per inch 0..57,600, height H in hundredths of
     /// a point 0..99,975, style 0..1023, weight -7..7, typeface 0..65535, page
-    /// orientation 0 or 1"; 02, W-203: "Orientation becomes 0 to 3".
+    /// orientation 0 or 1"; 02, W-203: "Orientation becomes 0 to 3"; W-206: "A
+    /// request gains a mode, 300 or 600."
     fn is_in_range(&self) -> bool {
         self.symbol_set <= 2047
             && self.spacing <= 1
@@ -28,6 +29,7 @@ impl Request {
             && (-7..=7).contains(&self.weight)
             && self.typeface <= 65_535
             && self.orientation <= 3
+            && (self.mode == 300 || self.mode == 600)
     }
 }
 
@@ -72,13 +74,17 @@ pub fn choose_sheet(
 }
 
 /// Where a font stands before this request, the lowest chosen, or nothing if it
-/// has neither the set asked for nor Roman-8.
+/// takes no part: it has neither the set asked for nor Roman-8, or (02, W-206) "In
+/// mode 300 the 600 dpi fonts take no part in choosing".
 ///
 /// Each step of the elimination keeps, of the fonts left, those with the lowest
 /// rank in that step; so the steps in turn leave the font whose ranks, read one
 /// behind the other, are lowest. They stand here in one number, the first step
 /// highest.
 fn standing(request: &Request, font: u32, header: Header) -> Option<u128> {
+    if request.mode == 300 && header.resolution() == HIGH {
+        return None;
+    }
     let mut standing = 0;
     let mut step = |bits: u32, rank: u32| standing = standing << bits | u128::from(rank);
     // "1. The set asked for; if none has it, Roman-8; if none, 11."
@@ -94,21 +100,21 @@ fn standing(request: &Request, font: u32, header: Header) -> Option<u128> {
     let spacing = u32::from(header.spacing());
     step(1, u32::from(spacing != request.spacing));
     // "3. Pitch, only if those left are fixed. For kept pitch P: if some have
-    // R x P at most [30,720,000], those with the greatest P among them; else
+    // R x P at most [61,440,000], those with the greatest P among them; else
     // those with the least P." Those left by step 2 all have the same spacing.
-    let pitch = header.exact_pitch();
+    let pitch = header.compared_pitch();
     step(
-        24,
+        25,
         if spacing != FIXED {
             0
         } else if u64::from(request.pitch) * u64::from(pitch) <= PITCH_LIMIT {
-            0x7F_FFFF - pitch
+            0xFF_FFFF - pitch
         } else {
-            0x80_0000 + pitch
+            0x100_0000 + pitch
         },
     );
-    // "4. Least [|256 x H - 6 x height|], where [6,400] or less counts as 0."
-    let distance = (256 * request.height).abs_diff(6 * header.exact_height());
+    // "4. Least [|256 x H - 3 x height|], where [6,400] or less counts as 0."
+    let distance = (256 * request.height).abs_diff(3 * header.compared_height());
     step(
         25,
         if distance <= HEIGHT_LEVEL {
@@ -135,6 +141,9 @@ fn standing(request: &Request, font: u32, header: Header) -> Option<u128> {
         1,
         u32::from(u32::from(header.typeface()) != request.typeface),
     );
+    // 02, W-206: "in mode 600 a 600 dpi font goes before a 300 dpi one, as a new step
+    // between typeface and orientation." In mode 300 all have 300.
+    step(1, u32::from(u32::from(header.resolution()) != request.mode));
     // "8. The page's orientation, if any has it."
     step(
         1,

@@ -100,6 +100,8 @@ pub struct Request {
     pub weight: i32,
     pub typeface: u32,
     pub orientation: u32,
+    /// 02, W-206: the printer's dots to the inch.
+    pub mode: u32,
 }
 
 /// What one request of a sheet gets.

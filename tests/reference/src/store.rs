@@ -16,7 +16,8 @@ const MARK_KIND: u16 = 1;
 const MARK_RECORD: usize = 12;
 /// "Kind 2 [..]: font number, 64 kept bytes." 02, W-205: "The font record is to
 /// hold the number of its characters (2 bytes) and the sum of their kept data bytes
-/// (4 bytes) after the font number, making it 78 bytes."
+/// (4 bytes) after the font number"; W-206: it "grows at its end by those four
+/// bytes", the resolutions, making it 82 bytes.
 const FONT_KIND: u16 = 2;
 const FONT_COUNT: usize = 8;
 const FONT_SUM: usize = 10;
@@ -395,21 +396,15 @@ impl<'a> View<'a> {
         find_font(self.records, MARK_RECORD, font).map_err(|_| Refusal::NoFont)
     }
 
-    /// A font's kept bytes and its characters by rising code; 2, 6.
+    /// A font's header and its characters by rising code; 2, 6.
     pub fn font_with_characters(
         &self,
         font: u32,
-    ) -> Result<
-        (
-            &'a [u8; HEADER],
-            impl Iterator<Item = Character<'a>> + Clone,
-        ),
-        Refusal,
-    > {
+    ) -> Result<(Header<'a>, impl Iterator<Item = Character<'a>> + Clone), Refusal> {
         check_range(font, 0)?;
         let records = self.records;
         let mut at = self.font(font)?;
-        let kept = header_at(records, at).0;
+        let header = header_at(records, at);
         at += FONT_RECORD;
         let characters = std::iter::from_fn(move || {
             if at < records.len() && font_at(records, at) == font {
@@ -420,7 +415,7 @@ impl<'a> View<'a> {
                 None
             }
         });
-        Ok((kept, characters))
+        Ok((header, characters))
     }
 
     /// A kept character; 2, 6, 7.
@@ -433,7 +428,7 @@ impl<'a> View<'a> {
         }
     }
 
-    /// "Telling copies the 64 or 16 kept bytes to an output, answers the number
+    /// "Telling copies the 64 [02, W-206: 68] or 16 kept bytes to an output, answers the number
     /// of characters or of data bytes, and checks as removing does, then 12." The
     /// number of characters is the held one.
     pub fn tell_font(&self, out: &mut [u8], font: u32) -> Result<u32, Refusal> {

@@ -1,6 +1,6 @@
 //! The stream: reading one into a store, and writing a font as one.
 
-use crate::block::{BLOCK_MAX, CONTINUATION, DESCRIPTOR, HEADER};
+use crate::block::{Header, BLOCK_MAX, CONTINUATION, DESCRIPTOR};
 use crate::store::{first_of, Character, Store, View, CODE_MAX, FONT_MAX};
 use crate::{Refusal, StreamRead};
 
@@ -126,15 +126,16 @@ pub fn write_font(view: &View, out: &mut [u8], font: u32) -> Result<u32, Refusal
 
 /// "Writing a font: D, header (64 bytes), then per rising code E, a first block
 /// with up to 32,751 data bytes, one continuation (byte 1 is 1) for the rest."
-/// Hands the stream to `put`, part by part.
+/// 02, W-206: a header of format 20 has 68 bytes. Hands the stream to `put`, part by part.
 fn spell_font<'a>(
     font: u32,
-    header: &[u8; HEADER],
+    header: Header,
     characters: impl Iterator<Item = Character<'a>>,
     mut put: impl FnMut(&[u8]),
 ) {
     spell_command(b"*c", font, b'D', &mut put);
-    spell_command(b")s", HEADER as u32, b'W', &mut put);
+    let header = header.written();
+    spell_command(b")s", header.len() as u32, b'W', &mut put);
     put(header);
     for Character { code, kept, data } in characters {
         spell_command(b"*c", code, b'E', &mut put);

@@ -46,7 +46,7 @@ fn every_refusal() {
     meet(download_character(&mut store, &run_past, 5, 65), 8);
     let large = first(1, 1024, 257, &[]);
     meet(download_character(&mut store, &large, 5, 65), 9);
-    meet(tell_font(&store, &mut [0; 63], 5).refusal, 12);
+    meet(tell_font(&store, &mut [0; 67], 5).refusal, 12);
     meet(write_font(&store, &mut [0; 74], 5).refusal, 12);
     assert_eq!(store, kept);
 
@@ -124,6 +124,14 @@ fn the_order_of_checks() {
             orientation: 4,
             ..BASE
         },
+        Request { mode: 0, ..BASE },
+        Request { mode: 299, ..BASE },
+        Request { mode: 301, ..BASE },
+        Request { mode: 601, ..BASE },
+        Request {
+            mode: u32::MAX,
+            ..BASE
+        },
     ];
     for request in wrong {
         assert_eq!(choose(&fresh(12), &request).refusal, 2);
@@ -138,6 +146,7 @@ fn the_order_of_checks() {
         weight: 7,
         typeface: 65535,
         orientation: 3,
+        mode: 600,
     };
     assert_eq!(choose(&store, &ends), chosen(5));
 
@@ -434,8 +443,9 @@ fn what_is_a_store() {
         (7, 1),
         (8, 6),
         (10, 66),
-        (five, 77),
+        (five, 81),
         (five, 72),
+        (five, 78),
         (five + 4, 4),
         (five + 6, 9),
         (five + 6, 10),
@@ -454,6 +464,10 @@ fn what_is_a_store() {
         (five + FONT_KEPT + 2, 1),
         (five + FONT_KEPT + 5, 1),
         (five + FONT_KEPT + 12, 1),
+        (five + FONT_KEPT + 64, 2),
+        (five + FONT_KEPT + 65, 45),
+        (five + FONT_KEPT + 66, 2),
+        (five + FONT_KEPT + 67, 43),
         (letter, 32),
         (letter + 4, 2),
         (letter + 6, 9),
@@ -646,7 +660,7 @@ fn the_count_beside_the_font() {
     for (font, code, block, expected) in steps {
         download_character(&mut store, block, *font, *code);
         assert_eq!(counts(&store), (*expected, (0, 0)), "{block:?}");
-        let told = tell_font(&store, &mut [0; 64], 5);
+        let told = tell_font(&store, &mut [0; KEPT], 5);
         assert_eq!(told.count, expected.0);
     }
     let dot = first(1, 1, 1, &[128]);
@@ -660,7 +674,7 @@ fn the_count_beside_the_font() {
     let row = first(1, 8, 40, &[7; 40]);
     assert_eq!(download_character(&mut store, &row, 9, 1), 10);
     assert_eq!(held(&store, 5), (1, 3));
-    assert_eq!(tell_font(&store, &mut [0; 64], 9).refusal, 6);
+    assert_eq!(tell_font(&store, &mut [0; KEPT], 9).refusal, 6);
     let stream = [
         font_number(5),
         code(70),
@@ -682,7 +696,7 @@ fn the_count_beside_the_font() {
         assert_eq!(download_character(&mut store, &row, 5, code), 0);
     }
     assert_eq!(held(&store, 5), (256, 256 * 40));
-    assert_eq!(tell_font(&store, &mut [0; 64], 5).count, 256);
+    assert_eq!(tell_font(&store, &mut [0; KEPT], 5).count, 256);
 }
 
 /// "1 also where a held count is untrue", from every call.
@@ -718,10 +732,13 @@ fn an_untrue_count_is_no_store() {
     assert!(is_store(&store));
 }
 
-/// Font records of 72 bytes, as they were before W-205.
+/// Font records of 72 bytes, as they were before W-205, and of 78, before W-206.
 #[test]
-fn a_store_of_the_version_before() {
+fn stores_of_the_versions_before() {
     let mut before = with_fonts(600, &[(5, A)]);
+    before.drain(ONE_FONT - 4..ONE_FONT);
+    before[MARK_RECORD] = 78;
+    refuses_all(&mut before);
     before.drain(MARK_RECORD + FONT_COUNT..MARK_RECORD + FONT_KEPT);
     before[MARK_RECORD] = 72;
     refuses_all(&mut before);

@@ -32,19 +32,25 @@ fn header(chance: &mut Chance) -> Vec<u8> {
         weight: chance.below(15) as i8 - 7,
         face: chance.of(&[0, 3, 3, 4, 259, 65535]),
         orientation: chance.of(&[0, 0, 0, 0, 0, 0, 0, 0, 0, 1, 2, 3]),
+        resolutions: match chance.below(12) {
+            0..=5 => None,
+            6 | 7 => Some((300, 300)),
+            8..=10 => Some((600, 600)),
+            _ => Some([(); 2].map(|()| chance.of(&[0, 300, 600, 601])).into()),
+        },
     };
-    let mut block = font.header().to_vec();
+    let mut block = font.block();
     if chance.once_in(4) {
         let more = chance.below(9);
-        block.resize(64 + more, 9);
-        block[1] = 64 + chance.below(more + 2) as u8;
+        block.resize(block.len() + more, 9);
+        block[1] = 64 + chance.below(block.len() - 62) as u8;
     }
     if chance.once_in(4) {
         let at = chance.below(28);
         block[at] = chance.byte();
     }
     if chance.once_in(20) {
-        block.truncate(chance.below(65));
+        block.truncate(chance.of(&[0, 1, 63, 64, 65, 67, 68]));
     }
     block
 }
@@ -158,9 +164,11 @@ fn request(chance: &mut Chance) -> Request {
         weight: chance.below(15) as i32 - 7,
         typeface: chance.of(&[0, 3, 4, 259]),
         orientation: chance.below(4) as u32,
+        mode: chance.of(&[300, 600]),
     };
     if chance.once_in(20) {
-        match chance.below(4) {
+        match chance.below(5) {
+            4 => request.mode = chance.of(&[0, 299, 1200, 65836, u32::MAX]),
             0 => request.weight = chance.of(&[8, -8, 249, i32::MAX]),
             1 => request.pitch = 57601,
             2 => request.typeface = 65536,

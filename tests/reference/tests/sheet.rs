@@ -49,9 +49,11 @@ fn records_of_32_bits() {
         offset_of!(Request, weight),
         offset_of!(Request, typeface),
         offset_of!(Request, orientation),
+        // "ones added later last": W-206's mode.
+        offset_of!(Request, mode),
     ];
-    assert_eq!(places, [0, 4, 8, 12, 16, 20, 24, 28]);
-    assert_eq!(size_of::<Request>(), 32);
+    assert_eq!(places, [0, 4, 8, 12, 16, 20, 24, 28, 32]);
+    assert_eq!(size_of::<Request>(), 36);
     assert_eq!(
         (offset_of!(Answer, font), offset_of!(Answer, refusal)),
         (0, 4)
@@ -110,6 +112,7 @@ fn a_refused_entry_stands_alone() {
             orientation: 4,
             ..BASE
         },
+        Request { mode: 450, ..BASE },
     ];
     for request in wrong {
         let mut answers = [UNWRITTEN; 3];

@@ -154,7 +154,7 @@ fn seventeen_to_the_inch() {
     );
 }
 
-/// "R x pitch at most 30,720,000", where it is just that, and in 64 bits.
+/// "R x pitch at most 30,720,000", of a 300 dpi font, where it is just that, and in 64 bits.
 #[test]
 fn the_limit_of_the_pitch() {
     // 1000 x 30,720
@@ -180,7 +180,8 @@ fn the_limit_of_the_pitch() {
     assert_eq!(of_two(wide, wider, none), SECOND);
 }
 
-/// "the height distance is |256 x H - 6 x height| with 6,400 or less as 0"
+/// "the height distance is |256 x H - 6 x height| with 6,400 or less as 0", of a 300
+/// dpi font
 #[test]
 fn the_height_in_256ths() {
     let at = with_height(200, 0);
@@ -251,9 +252,9 @@ fn a_cut_field_beside_its_extended_byte() {
             ..A
         };
         let store = with_fonts(ONE_FONT, &[(1, font(sent))]);
-        let mut told = [0; 64];
+        let mut told = [0; KEPT];
         assert_eq!(tell_font(&store, &mut told, 1).refusal, 0);
-        assert_eq!(told, font(kept).header(), "{sent:?}");
+        assert_eq!(told[..], font(kept).kept(), "{sent:?}");
         // What is kept is taken as it is.
         assert_eq!(with_fonts(ONE_FONT, &[(1, font(kept))]), store);
     }
@@ -321,16 +322,18 @@ fn p12_a_run_past_the_width() {
     assert_eq!(open_mark(&store), CLOSED);
 }
 
-/// 02, W-205: "the 84-byte case (now 90 and 89)".
+/// 02, W-206: "the 90-byte case becomes 94 and 93".
 #[test]
 fn a_store_that_one_font_fills() {
-    let mut store = fresh(90);
+    let mut store = fresh(94);
     assert_eq!(download_font(&mut store, &A.header(), 32767), 0);
     assert_eq!(download_font(&mut store, &B.header(), 0), 10);
     assert_eq!(download_font(&mut store, &B.header(), 32767), 0);
-    let mut store = fresh(89);
-    assert_eq!(download_font(&mut store, &A.header(), 5), 10);
-    assert_eq!(store, fresh(89));
+    let mut store = fresh(93);
+    for font in [A, A.dpi(600)] {
+        assert_eq!(download_font(&mut store, &font.block(), 5), 10);
+    }
+    assert_eq!(store, fresh(93));
 }
 
 #[test]
@@ -427,7 +430,7 @@ fn a_font_is_kept_as_the_rules_leave_it() {
     block[40] = 150;
     let mut store = fresh(200);
     assert_eq!(download_font(&mut store, &block, 1), 0);
-    let mut kept = [0xAA; 66];
+    let mut kept = [0xAA; KEPT + 2];
     assert_eq!(
         tell_font(&store, &mut kept, 1),
         Told {
@@ -440,6 +443,7 @@ fn a_font_is_kept_as_the_rules_leave_it() {
     expected[5] = 0;
     expected[16..20].copy_from_slice(&[0x41, 0xA0, 0x2A, 0xAA]);
     expected[40] = 0;
+    expected.extend([1, 44, 1, 44]);
     expected.extend([0xAA; 2]);
     assert_eq!(kept[..], expected);
     // A descriptor size one past the block's length.
@@ -473,7 +477,7 @@ fn a_character_is_kept_as_the_rules_leave_it() {
 fn listing(store: &[u8], read: StreamRead) -> String {
     let mut text = String::from("id set spacing pitch height style weight face chars\n");
     for font in 0..=1000 {
-        let mut h = [0; 64];
+        let mut h = [0; KEPT];
         let told = tell_font(store, &mut h, font);
         if told.refusal == 0 {
             let word = |high: usize, low: usize| u16::from_be_bytes([h[high], h[low]]);

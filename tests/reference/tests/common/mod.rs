@@ -20,6 +20,8 @@ pub struct Font {
     pub weight: i8,
     pub face: u16,
     pub orientation: u8,
+    /// X and Y of a format 20 header (W-206), none of a format 0 one.
+    pub resolutions: Option<(u16, u16)>,
 }
 
 /// 01, Trials: "A: 5, weight 0."
@@ -33,6 +35,7 @@ pub const A: Font = Font {
     weight: 0,
     face: 3,
     orientation: 0,
+    resolutions: None,
 };
 /// "B: 2, weight 3."
 pub const B: Font = Font { weight: 3, ..A };
@@ -51,6 +54,36 @@ pub const D: Font = Font {
 };
 
 impl Font {
+    /// The same with a format 20 header of so many dots to the inch.
+    pub fn dpi(self, resolution: u16) -> Font {
+        Font {
+            resolutions: Some((resolution, resolution)),
+            ..self
+        }
+    }
+
+    /// Its font block: 64 bytes in format 0, 68 in format 20.
+    pub fn block(self) -> Vec<u8> {
+        let mut block = self.header().to_vec();
+        if let Some((x, y)) = self.resolutions {
+            block[1] = 68;
+            block[2] = 20;
+            block.extend(x.to_be_bytes());
+            block.extend(y.to_be_bytes());
+        }
+        block
+    }
+
+    /// What is kept of that block, if its fields are allowed and none is cut.
+    pub fn kept(self) -> Vec<u8> {
+        let mut kept = self.block();
+        if self.resolutions.is_none() {
+            kept.extend([300_u16.to_be_bytes(), 300_u16.to_be_bytes()].concat());
+        }
+        kept
+    }
+
+    /// Its first 64 bytes, a whole block in format 0.
     pub fn header(self) -> [u8; 64] {
         let mut header = [0; 64];
         header[0..2].copy_from_slice(&64_u16.to_be_bytes());
@@ -92,12 +125,14 @@ pub fn continuation(data: &[u8]) -> Vec<u8> {
 
 /// The records' lengths, of a character's without its data.
 pub const MARK_RECORD: usize = 12;
-pub const FONT_RECORD: usize = 78;
+pub const FONT_RECORD: usize = 82;
 pub const CHARACTER_RECORD: usize = 26;
 /// Where a font's record holds its numbers (W-205) and its kept bytes.
 pub const FONT_COUNT: usize = 8;
 pub const FONT_SUM: usize = 10;
 pub const FONT_KEPT: usize = 14;
+/// What telling copies.
+pub const KEPT: usize = 68;
 /// A store that one font fills; its characters begin here.
 pub const ONE_FONT: usize = MARK_RECORD + FONT_RECORD;
 
@@ -111,7 +146,7 @@ pub fn fresh(length: usize) -> Vec<u8> {
 pub fn with_fonts(length: usize, fonts: &[(u32, Font)]) -> Vec<u8> {
     let mut store = fresh(length);
     for &(number, font) in fonts {
-        assert_eq!(download_font(&mut store, &font.header(), number), 0);
+        assert_eq!(download_font(&mut store, &font.block(), number), 0);
     }
     store
 }
@@ -169,6 +204,7 @@ pub const BASE: Request = Request {
     weight: 0,
     typeface: 3,
     orientation: 0,
+    mode: 300,
 };
 
 pub fn chosen(font: u32) -> Chosen {

@@ -41,9 +41,21 @@ fn keep_header(block: &[u8]) -> Result<Vec<u8>, u32> {
     if block.len() < 64 || block.len() > 32767 {
         return Err(3);
     }
-    if block[2] != 0 || be(block, 0) < 64 || be(block, 0) > block.len() as i64 {
+    let size = match block[2] {
+        0 => 64,
+        20 => 68,
+        _ => return Err(4),
+    };
+    if block.len() < size {
+        return Err(3);
+    }
+    if be(block, 0) < size as i64 || be(block, 0) > block.len() as i64 {
         return Err(4);
     }
+    let resolutions = match size {
+        64 => (300, 300),
+        _ => (be(block, 64), be(block, 66)),
+    };
     let style = i64::from(block[4]) * 256 + i64::from(block[23]);
     let weight = signed(i64::from(block[24]), 8);
     let wrong = [
@@ -57,14 +69,18 @@ fn keep_header(block: &[u8]) -> Result<Vec<u8>, u32> {
         be(block, 14) > 2047,
         weight < -7,
         weight > 7,
+        resolutions != (300, 300) && resolutions != (600, 600),
     ];
     if wrong.contains(&true) {
         return Err(5);
     }
     let mut kept = block[..64].to_vec();
     kept[0] = 0;
-    kept[1] = 64;
+    kept[1] = size as u8;
     kept[5] = 0;
+    for resolution in [resolutions.0, resolutions.1] {
+        kept.extend([(resolution / 256) as u8, (resolution % 256) as u8]);
+    }
     if be(block, 16) > 16800 {
         kept[16] = (16800 / 256) as u8;
         kept[17] = (16800 % 256) as u8;
@@ -198,7 +214,7 @@ impl Model {
             bytes.extend(two(number));
         }
         for (&number, font) in &self.fonts {
-            bytes.extend([78, 0, 0, 0, 2, 0]);
+            bytes.extend([82, 0, 0, 0, 2, 0]);
             bytes.extend(two(number));
             // W-205, counted anew each time.
             bytes.extend(two(font.characters.len() as u32));
@@ -405,9 +421,16 @@ impl Model {
         if above || request.weight < -7 || request.weight > 7 {
             return Err(2);
         }
+        if request.mode != 300 && request.mode != 600 {
+            return Err(2);
+        }
+        let fine = |f: &(u32, &[u8])| be(f.1, 64) == 600;
         let mut left: Vec<(u32, &[u8])> = Vec::new();
         for (&number, font) in &self.fonts {
             left.push((number, &font.header));
+        }
+        if request.mode == 300 {
+            left.retain(|f| !fine(f));
         }
         let set = |f: &(u32, &[u8])| be(f.1, 14);
         let asked = i64::from(request.symbol_set);
@@ -422,8 +445,11 @@ impl Model {
         }
         prefer(&mut left, |f| u32::from(f.1[13]) == request.spacing);
         if left.iter().all(|f| f.1[13] == 0) {
-            let pitch = |f: &(u32, &[u8])| 256 * be(f.1, 16) + i64::from(f.1[40]);
-            let qualifies = |f: &(u32, &[u8])| i64::from(request.pitch) * pitch(f) <= 30_720_000;
+            let pitch = |f: &(u32, &[u8])| {
+                let of_300 = if fine(f) { 1 } else { 2 };
+                of_300 * (256 * be(f.1, 16) + i64::from(f.1[40]))
+            };
+            let qualifies = |f: &(u32, &[u8])| i64::from(request.pitch) * pitch(f) <= 61_440_000;
             let best = match left.iter().filter(|f| qualifies(f)).map(pitch).max() {
                 Some(greatest) => greatest,
                 None => left.iter().map(pitch).min().unwrap(),
@@ -431,8 +457,9 @@ impl Model {
             left.retain(|f| pitch(f) == best);
         }
         let away = |f: &(u32, &[u8])| {
-            let height = 256 * be(f.1, 18) + i64::from(f.1[41]);
-            let distance = (256 * i64::from(request.height) - 6 * height).abs();
+            let of_300 = if fine(f) { 1 } else { 2 };
+            let height = of_300 * (256 * be(f.1, 18) + i64::from(f.1[41]));
+            let distance = (256 * i64::from(request.height) - 3 * height).abs();
             if distance <= 6400 {
                 0
             } else {
@@ -466,6 +493,9 @@ impl Model {
         prefer(&mut left, |f| {
             u32::from(f.1[26]) * 256 + u32::from(f.1[25]) == request.typeface
         });
+        if request.mode == 600 {
+            prefer(&mut left, fine);
+        }
         prefer(&mut left, |f| u32::from(f.1[12]) == request.orientation);
         Ok(left.iter().map(|f| f.0).min().unwrap())
     }
@@ -487,8 +517,9 @@ impl Model {
     pub fn write_font(&self, out: &mut [u8], font: u32) -> Result<u32, u32> {
         in_range(font, 0)?;
         let kept = self.fonts.get(&font).ok_or(6_u32)?;
-        let mut stream = format!("\x1b*c{font}D\x1b)s64W").into_bytes();
-        stream.extend(&kept.header);
+        let size = if kept.header[2] == 20 { 68 } else { 64 };
+        let mut stream = format!("\x1b*c{font}D\x1b)s{size}W").into_bytes();
+        stream.extend(&kept.header[..size]);
         for (code, character) in &kept.characters {
             stream.extend(format!("\x1b*c{code}E").bytes());
             let first = &character.data[..character.data.len().min(32751)];
