@@ -3,7 +3,12 @@
  *     specimen [--font N] [--plain] FONTFILE... > sheet.pbm
  *
  * Sixteen codes to a line, by rising code, lines without characters left out;
- * the font of the lowest number, unless one is named. */
+ * the font of the lowest number, unless one is named.
+ *
+ *     specimen --profile [--font N] FONTFILE...
+ *
+ * draws nothing and says whether the font meets the profile of spine labels: if not,
+ * which rule is broken, and where. The exit status is 0 only if it meets it. */
 #include "page.h"
 
 #define GAP 8
@@ -11,7 +16,7 @@
 
 typedef struct {
     uint32_t font; /* NO_FONT if none is named */
-    int plain;
+    int plain, profile;
 } request;
 
 static uint32_t font_number(const char *word)
@@ -28,12 +33,14 @@ static uint32_t font_number(const char *word)
 /* Takes the words of the command line, and reads each font file into the store. */
 static request read_request(int count, char **words)
 {
-    request asked = {NO_FONT, 0};
+    request asked = {NO_FONT, 0, 0};
     int files = 0, word;
 
     for (word = 1; word < count; word++) {
         if (strcmp(words[word], "--plain") == 0)
             asked.plain = 1;
+        else if (strcmp(words[word], "--profile") == 0)
+            asked.profile = 1;
         else if (strcmp(words[word], "--font") == 0 && word + 1 < count)
             asked.font = font_number(words[++word]);
         else {
@@ -42,7 +49,7 @@ static request read_request(int count, char **words)
         }
     }
     if (!files)
-        stop("usage", "specimen [--font N] [--plain] FONTFILE...");
+        stop("usage", "specimen [--font N] [--plain | --profile] FONTFILE...");
     return asked;
 }
 
@@ -114,6 +121,55 @@ static page draw_sheet(uint32_t font, const field *of)
     return sheet;
 }
 
+/* A rule that a character breaks, with its numbers. */
+static void print_break(const uint8_t *font, const uint8_t *kept, const mf_profile *found)
+{
+    printf("code %u: ", (unsigned)found->code);
+    switch (found->rule) {
+    case MF_PROFILE_LEFT:
+        printf("its left offset is %d, below 0\n", (int)mf_signed_field(kept, 6));
+        break;
+    case MF_PROFILE_WIDTH:
+        printf("left offset %d plus width %u is more than the cell width %u\n",
+               (int)mf_signed_field(kept, 6), (unsigned)mf_field(kept, 10),
+               (unsigned)mf_field(font, 8));
+        break;
+    case MF_PROFILE_HEIGHT:
+        printf("its height %u is more than the cell height %u\n", (unsigned)mf_field(kept, 12),
+               (unsigned)mf_field(font, 10));
+        break;
+    default:
+        printf("its delta X %u is not the font's pitch %u\n", (unsigned)mf_field(kept, 14),
+               (unsigned)mf_field(font, 16));
+    }
+}
+
+/* Says in words what the check of the profile found; the exit status. */
+static int tell_profile(uint32_t number, const uint8_t *font)
+{
+    mf_profile found = mf_check_profile(store, sizeof store, number);
+    uint8_t kept[MF_CHARACTER_BYTES];
+
+    if (found.refusal)
+        refuse("profile", found.refusal);
+    if (found.rule == MF_PROFILE_MET) {
+        printf("font %u meets the profile\n", (unsigned)number);
+        return 0;
+    }
+    printf("font %u breaks rule %u of the profile: ", (unsigned)number, (unsigned)found.rule);
+    if (found.rule == MF_PROFILE_TYPE)
+        printf("its type is %u, not 0\n", font[3]);
+    else if (found.rule == MF_PROFILE_SPACING)
+        puts("its spacing is proportional, not fixed");
+    else if (!tell(number, found.code, kept))
+        printf("code %u is not there\n", (unsigned)found.code);
+    else if (found.rule == MF_PROFILE_CODES)
+        printf("code %u is not complete\n", (unsigned)found.code);
+    else
+        print_break(font, kept, &found);
+    return 1;
+}
+
 int main(int count, char **words)
 {
     uint8_t kept[MF_FONT_BYTES];
@@ -129,6 +185,8 @@ int main(int count, char **words)
     told = mf_tell_font(store, sizeof store, kept, sizeof kept, asked.font);
     if (told.refusal)
         refuse("font", told.refusal);
+    if (asked.profile)
+        return tell_profile(asked.font, kept);
     fprintf(stderr, "font %u: %u characters\n", (unsigned)asked.font, (unsigned)told.count);
     around = measure(asked.font);
     if (!around.lines)

@@ -69,7 +69,8 @@ enum mf_refusal {
     MF_NO_ROOM = 10,       /* no room in the store */
     MF_NONE_TO_CHOOSE = 11, /* no font to choose */
     MF_OUTPUT_SHORT = 12,  /* the output is too short */
-    MF_STREAM_BROKEN = 13  /* the stream is broken */
+    MF_STREAM_BROKEN = 13, /* the stream is broken */
+    MF_OUTSIDE_PROFILE = 14 /* the font is outside the profile of spine labels */
 };
 
 /* Font numbers and codes above these are out of range. */
@@ -137,6 +138,7 @@ static inline const char *mf_refusal_name(uint32_t refusal)
     case MF_NONE_TO_CHOOSE: return "no font to choose";
     case MF_OUTPUT_SHORT: return "output too short";
     case MF_STREAM_BROKEN: return "stream broken";
+    case MF_OUTSIDE_PROFILE: return "outside the profile";
     default: return "no refusal of this library";
     }
 }
@@ -158,6 +160,8 @@ typedef struct { uint32_t refusal; uint32_t font; } mf_chosen;
 /* count: the characters of a font, or the data bytes of a character */
 typedef struct { uint32_t refusal; uint32_t count; } mf_told;
 typedef struct { uint32_t refusal; uint32_t length; } mf_written;
+/* rule, code: 0 and 0, or the first rule broken and the lowest code that breaks it */
+typedef struct { uint32_t refusal; uint32_t rule; uint32_t code; } mf_profile;
 typedef struct {
     uint32_t refusal;
     uint64_t done;
@@ -376,6 +380,33 @@ uint32_t mf_turn_picture(const uint8_t *picture, size_t picture_len,
  * Refuses: 1, 2, 6, 12 if out_len is too short (MF_WRITTEN_MAX never is). */
 mf_written mf_write_font(const uint8_t *store, size_t store_len,
                          uint8_t *out, size_t out_len, uint32_t font);
+
+/* The rules of the profile of spine labels, in their order. */
+enum mf_profile_rule {
+    MF_PROFILE_MET = 0,
+    MF_PROFILE_TYPE = 1,      /* the font's type (3) is 0 */
+    MF_PROFILE_SPACING = 2,   /* its spacing (13) is fixed */
+    MF_PROFILE_CODES = 3,     /* codes 32 to 127 are all there, each complete */
+    /* and of every character of the font, also one of another code or incomplete: */
+    MF_PROFILE_LEFT = 4,      /* its left offset (6) is at least 0 */
+    MF_PROFILE_WIDTH = 5,     /* left offset plus width (10) is at most the cell width (8) */
+    MF_PROFILE_HEIGHT = 6,    /* its height (12) is at most the cell height (10) */
+    MF_PROFILE_DELTA_X = 7    /* its delta X (14) is the font's pitch field (16), both as kept */
+};
+
+/* Checks whether a font meets that profile, which the binder's machine needs. Answers
+ * MF_PROFILE_MET and code 0 if it does; else the first rule that is broken, whatever
+ * codes break later ones, and the lowest code that breaks it, which is 0 for the type
+ * and the spacing. A font that breaks a rule is no refusal: the answer's refusal is
+ * MF_DONE.
+ * Refuses: 1, 2, 6. */
+mf_profile mf_check_profile(const uint8_t *store, size_t store_len, uint32_t font);
+
+/* Writes a font as mf_write_font does, if it meets the profile.
+ * Refuses: 1, 2, 6, 14 (MF_OUTSIDE_PROFILE) if it does not, 12 if out_len is too short
+ * (MF_WRITTEN_MAX never is). */
+mf_written mf_write_profiled(const uint8_t *store, size_t store_len,
+                             uint8_t *out, size_t out_len, uint32_t font);
 
 /* Reads a command stream into the store:
  *   ESC *c#D    font number         ESC )s#W    and # bytes of a font block

@@ -53,6 +53,12 @@ pub enum Call {
     WriteFont {
         font: u32,
     },
+    CheckProfile {
+        font: u32,
+    },
+    WriteProfiled {
+        font: u32,
+    },
     ReadStream,
     TurnPicture {
         width: u32,
@@ -70,6 +76,10 @@ fn bare(refusal: u32) -> Answer {
 
 fn two(refusal: u32, number: u32) -> Answer {
     [u64::from(refusal), u64::from(number), 0, 0]
+}
+
+fn three(refusal: u32, first: u32, second: u32) -> Answer {
+    [u64::from(refusal), u64::from(first), u64::from(second), 0]
 }
 
 /// An output as a sheet's answers.
@@ -178,6 +188,14 @@ pub fn ours(call: Call, store: &mut [u8], input: &[u8], out: &mut [u8]) -> Answe
                 let written = c::mf_write_font(at, len, to, to_len, font);
                 two(written.refusal, written.length)
             }
+            Call::CheckProfile { font } => {
+                let profile = c::mf_check_profile(at, len, font);
+                three(profile.refusal, profile.rule, profile.code)
+            }
+            Call::WriteProfiled { font } => {
+                let written = c::mf_write_profiled(at, len, to, to_len, font);
+                two(written.refusal, written.length)
+            }
             Call::ReadStream => {
                 let read = c::mf_read_stream(at, len, block, block_len);
                 [u64::from(read.refusal), read.done, read.refused, read.place]
@@ -229,6 +247,14 @@ pub fn theirs(call: Call, store: &mut [u8], input: &[u8], out: &mut [u8]) -> Ans
         Call::DrawPicture { font, code } => bare(reference::draw_picture(store, out, font, code)),
         Call::WriteFont { font } => {
             let written = reference::write_font(store, out, font);
+            two(written.refusal, written.length)
+        }
+        Call::CheckProfile { font } => {
+            let profile = reference::check_profile(store, font);
+            three(profile.refusal, profile.rule, profile.code)
+        }
+        Call::WriteProfiled { font } => {
+            let written = reference::write_profiled(store, out, font);
             two(written.refusal, written.length)
         }
         Call::ReadStream => {

@@ -15,7 +15,7 @@ pub struct Input {
 /// A name, and its input for a store of a length.
 pub type Named = (&'static str, fn(usize) -> Input);
 
-pub const INPUTS: [Named; 37] = [
+pub const INPUTS: [Named; 40] = [
     ("choose, store full of fonts", choose_among_fonts),
     ("choose in mode 600, 600 dpi fonts", choose_among_fine_fonts),
     ("choose in mode 600, both mixed", choose_among_mixed_fonts),
@@ -49,6 +49,13 @@ pub const INPUTS: [Named; 37] = [
     ("draw a class 1 picture", draw_dots),
     ("draw the last row, class 2", draw_last_row),
     ("write a full font", write_full_font),
+    ("check the profile, 224 of class 1", |length| {
+        check_profile(length, 1)
+    }),
+    ("check the profile, 224 of class 2", |length| {
+        check_profile(length, 2)
+    }),
+    ("write a profiled font of 224", write_profiled),
     ("read a stream of rising fonts", read_fonts),
     ("read a stream of characters", read_characters),
     ("read a stream of falling fonts", read_falling_fonts),
@@ -510,6 +517,48 @@ fn write_full_font(length: usize) -> Input {
     Input {
         out: length + 2048,
         ..input(store, Call::WriteFont { font: 5 })
+    }
+}
+
+/// Font 5 with codes from 32 on, complete and within the profile, that fill the store:
+/// 224 of them, at 4 KiB the 96 that it needs.
+fn profiled(length: usize, class: u8) -> Vec<u8> {
+    let mut store = fresh(length);
+    let room = length - MARK_RECORD - FONT_RECORD;
+    let codes = if length > 8192 { 224 } else { 96 };
+    let most = room / codes - CHARACTER_RECORD;
+    // Cells of 30 x 50 dots at left offset 2.
+    let width = if most < 150 { 8 } else { 24 };
+    let data = |height: usize| match class {
+        1 => vec![0x5A; width / 8 * height],
+        _ => runs(width, height, 10),
+    };
+    let fits = |height: &usize| data(*height).len() <= most;
+    let height = (1..=50).rev().find(fits).expect("a row that fits");
+    let block = first_block(class, width, height, &data(height));
+    // Pitch 120, as the characters' delta X.
+    assert_eq!(reference::download_font(&mut store, &header(3), 5), 0);
+    for code in 32..32 + codes as u32 {
+        assert_eq!(
+            reference::download_character(&mut store, &block, 5, code),
+            0
+        );
+    }
+    assert_eq!(
+        reference::check_profile(&store, 5),
+        reference::Profile::default()
+    );
+    store
+}
+
+fn check_profile(length: usize, class: u8) -> Input {
+    input(profiled(length, class), Call::CheckProfile { font: 5 })
+}
+
+fn write_profiled(length: usize) -> Input {
+    Input {
+        out: length + 2048,
+        ..input(profiled(length, 1), Call::WriteProfiled { font: 5 })
     }
 }
 

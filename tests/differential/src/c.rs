@@ -21,6 +21,13 @@ pub struct Written {
 }
 
 #[repr(C)]
+pub struct Profile {
+    pub refusal: u32,
+    pub rule: u32,
+    pub code: u32,
+}
+
+#[repr(C)]
 pub struct StreamRead {
     pub refusal: u32,
     pub done: u64,
@@ -101,6 +108,14 @@ extern "C" {
         code: u32,
     ) -> u32;
     pub fn mf_write_font(
+        store: *const u8,
+        store_len: usize,
+        out: *mut u8,
+        out_len: usize,
+        font: u32,
+    ) -> Written;
+    pub fn mf_check_profile(store: *const u8, store_len: usize, font: u32) -> Profile;
+    pub fn mf_write_profiled(
         store: *const u8,
         store_len: usize,
         out: *mut u8,

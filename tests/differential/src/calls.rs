@@ -61,12 +61,19 @@ pub enum Call {
     ReadStream {
         stream: Vec<u8>,
     },
+    CheckProfile {
+        font: u32,
+    },
+    WriteProfiled {
+        out: Vec<u8>,
+        font: u32,
+    },
 }
 
 /// "an answer is the font number, then the refusal number; all of 32 bits"
 pub const ANSWER: usize = 8;
 
-pub const CALLS: usize = 13;
+pub const CALLS: usize = 15;
 
 pub const NAMES: [&str; CALLS] = [
     "make_fresh",
@@ -82,6 +89,8 @@ pub const NAMES: [&str; CALLS] = [
     "draw_picture",
     "write_font",
     "read_stream",
+    "check_profile",
+    "write_profiled",
 ];
 
 /// The refusals that documents 01 and 02 list for each call, 0 among them.
@@ -99,6 +108,8 @@ pub const POSSIBLE: [&[usize]; CALLS] = [
     &[0, 1, 2, 6, 7, 12],
     &[0, 1, 2, 6, 12],
     &[0, 1, 13],
+    &[0, 1, 2, 6],
+    &[0, 1, 2, 6, 12, 14],
 ];
 
 impl Call {
@@ -118,6 +129,8 @@ impl Call {
             Call::DrawPicture { .. } => 10,
             Call::WriteFont { .. } => 11,
             Call::ReadStream { .. } => 12,
+            Call::CheckProfile { .. } => 13,
+            Call::WriteProfiled { .. } => 14,
         }
     }
 
@@ -129,7 +142,8 @@ impl Call {
             | Call::TellCharacter { out, .. }
             | Call::DrawRow { out, .. }
             | Call::DrawPicture { out, .. }
-            | Call::WriteFont { out, .. } => out,
+            | Call::WriteFont { out, .. }
+            | Call::WriteProfiled { out, .. } => out,
             _ => &[],
         }
     }
@@ -160,7 +174,7 @@ impl fmt::Display for Call {
             Call::DownloadCharacter { block, font, code } => {
                 write!(f, " font {font} code {code}, {}", Shown(block))
             }
-            Call::RemoveFont { font } => write!(f, " font {font}"),
+            Call::RemoveFont { font } | Call::CheckProfile { font } => write!(f, " font {font}"),
             Call::RemoveCharacter { font, code } => write!(f, " font {font} code {code}"),
             Call::Choose(request) => write!(f, " {request:?}"),
             Call::ChooseSheet { requests, out } => write!(
@@ -169,7 +183,9 @@ impl fmt::Display for Call {
                 requests.len(),
                 out.len() / ANSWER
             ),
-            Call::TellFont { out, font } | Call::WriteFont { out, font } => {
+            Call::TellFont { out, font }
+            | Call::WriteFont { out, font }
+            | Call::WriteProfiled { out, font } => {
                 write!(f, " font {font}, output of {}", out.len())
             }
             Call::TellCharacter { out, font, code } | Call::DrawPicture { out, font, code } => {
@@ -206,6 +222,13 @@ impl Answer {
         Answer {
             refusal,
             numbers: [u64::from(number), 0, 0],
+        }
+    }
+
+    fn two(refusal: u32, first: u32, second: u32) -> Answer {
+        Answer {
+            refusal,
+            numbers: [u64::from(first), u64::from(second), 0],
         }
     }
 
@@ -389,7 +412,8 @@ pub fn ours(
         | Call::TellCharacter { out: before, .. }
         | Call::DrawRow { out: before, .. }
         | Call::DrawPicture { out: before, .. }
-        | Call::WriteFont { out: before, .. } => out = Some(lending.lend(before, chance)),
+        | Call::WriteFont { out: before, .. }
+        | Call::WriteProfiled { out: before, .. } => out = Some(lending.lend(before, chance)),
         _ => {}
     }
     let (block, block_len) = match &mut read {
@@ -448,6 +472,14 @@ pub fn ours(
             }
             Call::WriteFont { font, .. } => {
                 let written = c::mf_write_font(at, len, to, to_len, font);
+                Answer::one(written.refusal, written.length)
+            }
+            Call::CheckProfile { font } => {
+                let profile = c::mf_check_profile(at, len, font);
+                Answer::two(profile.refusal, profile.rule, profile.code)
+            }
+            Call::WriteProfiled { font, .. } => {
+                let written = c::mf_write_profiled(at, len, to, to_len, font);
                 Answer::one(written.refusal, written.length)
             }
             Call::ReadStream { .. } => {
@@ -526,6 +558,14 @@ pub fn theirs(call: &Call, store: &mut [u8]) -> Outcome {
         }
         Call::WriteFont { font, .. } => {
             let written = reference::write_font(store, &mut output, *font);
+            Answer::one(written.refusal, written.length)
+        }
+        Call::CheckProfile { font } => {
+            let profile = reference::check_profile(store, *font);
+            Answer::two(profile.refusal, profile.rule, profile.code)
+        }
+        Call::WriteProfiled { font, .. } => {
+            let written = reference::write_profiled(store, &mut output, *font);
             Answer::one(written.refusal, written.length)
         }
         Call::ReadStream { stream } => {

@@ -30,11 +30,15 @@ fn low16(bytes: &[u8], at: usize) -> u32 {
     u32::from(bytes[at]) + 256 * u32::from(bytes[at + 1])
 }
 
-fn high16(bytes: &[u8], at: usize) -> usize {
+pub fn high16(bytes: &[u8], at: usize) -> usize {
     256 * usize::from(bytes[at]) + usize::from(bytes[at + 1])
 }
 
-fn put_high16(bytes: &mut [u8], at: usize, value: usize) {
+fn signed16(bytes: &[u8], at: usize) -> i64 {
+    i64::from(i16::from_be_bytes([bytes[at], bytes[at + 1]]))
+}
+
+pub fn put_high16(bytes: &mut [u8], at: usize, value: usize) {
     bytes[at] = (value / 256) as u8;
     bytes[at + 1] = (value % 256) as u8;
 }
@@ -111,6 +115,8 @@ pub fn open(store: &[u8]) -> Option<(u32, u32)> {
 /// A kept character of a store.
 pub struct Kept<'a> {
     pub class: u8,
+    pub left: i64,
+    pub delta_x: i64,
     pub width: usize,
     pub height: usize,
     pub data: &'a [u8],
@@ -133,6 +139,8 @@ pub fn character<'a>(store: &'a [u8], font: u32, code: u32) -> Option<Kept<'a>> 
     let bytes = &store[record.at..record.at + record.length];
     Some(Kept {
         class: bytes[13],
+        left: signed16(bytes, 16),
+        delta_x: signed16(bytes, 24),
         width: high16(bytes, 20),
         height: high16(bytes, 22),
         data: &bytes[CHARACTER_RECORD..],
@@ -156,6 +164,8 @@ pub enum Theme {
     Fonts,
     /// Characters near the limits of pictures and of kept data.
     Giants,
+    /// Fonts that meet W-207's profile, or break a rule of it.
+    Profiles,
 }
 
 pub struct Generator<'a> {
@@ -777,7 +787,7 @@ impl Generator<'_> {
     }
 
     /// An output for `needed` bytes: short, exact or longer.
-    fn output(&mut self, needed: usize) -> Vec<u8> {
+    pub fn output(&mut self, needed: usize) -> Vec<u8> {
         let length = match self.chance.below(8) {
             0 => needed.saturating_sub(1),
             1 => 0,
@@ -888,7 +898,14 @@ impl Generator<'_> {
     }
 
     /// Commands, then maybe cut or damaged.
-    fn stream(&mut self, store: &[u8]) -> Vec<u8> {
+    pub fn stream(&mut self, store: &[u8]) -> Vec<u8> {
+        if self.theme == Theme::Profiles && self.chance.below(4) > 0 {
+            let mut stream = self.profiled(store);
+            if self.chance.once_in(8) {
+                self.damage(&mut stream);
+            }
+            return stream;
+        }
         if store.len() > 4000 && self.chance.once_in(6) {
             let mut stream = self.bulk(store);
             self.damage(&mut stream);
@@ -1016,8 +1033,11 @@ impl Generator<'_> {
             false => &[0; 12],
         };
         let (font, code) = self.character_number(shown);
+        if self.theme == Theme::Profiles && self.chance.below(3) > 0 {
+            return self.profile_call(store, shown, font, code);
+        }
         let needs = |of: fn(&Kept) -> usize| character(shown, font, code).map_or(40, |c| of(&c));
-        match self.chance.below(35) {
+        match self.chance.below(37) {
             0 if self.chance.once_in(6) => Call::MakeFresh,
             0..=5 => Call::DownloadFont {
                 block: self.header(),
@@ -1070,6 +1090,8 @@ impl Generator<'_> {
                 }
             }
             30 | 31 => self.sheet(shown),
+            35 => Call::CheckProfile { font },
+            36 => self.write_profiled(store, font),
             _ => Call::ReadStream {
                 stream: self.stream(shown),
             },

@@ -6,6 +6,7 @@ use crate::calls::{entries, ours, theirs, Answer, Call, Lending, Lent, Request, 
 use crate::chance::Chance;
 use crate::generate::{self, Generator, Reading, Theme, CHARACTER_RECORD, FONT_KEPT, KEPT};
 use crate::met::Met;
+use crate::profile;
 use marlinfold_reference as reference;
 
 /// A difference, in words.
@@ -43,6 +44,8 @@ pub fn run(
         }
         2 if !small => (Theme::Fonts, chance.of(&[4096, 16384, 65536]), 60),
         3..=4 => (Theme::Fonts, chance.between(300, 3000), 60),
+        // Room for one font of the profile, or for a few.
+        8 | 9 => (Theme::Profiles, chance.between(2700, 12_000), 16),
         5 => (
             Theme::Small,
             chance.of(&[12, 13, 18, 93, 94, 95, 175, 176, 177]),
@@ -50,7 +53,7 @@ pub fn run(
         ),
         6 if !small => (Theme::Small, chance.between(20_000, 65_536), 40),
         7 if !small => (Theme::Small, chance.of(&[65535, 65536]), 40),
-        8..=20 => (Theme::Small, chance.between(110, 600), 60),
+        10..=20 => (Theme::Small, chance.between(110, 600), 60),
         _ => (Theme::Small, chance.between(300, 3000), 60),
     };
     let mut history = History {
@@ -73,6 +76,10 @@ pub fn run(
         history.both(&mut pair, &call)?;
     }
     history.step(&mut pair, Call::MakeFresh)?;
+    if theme == Theme::Profiles {
+        let stream = history.generator().profiled(&pair.theirs);
+        history.step(&mut pair, Call::ReadStream { stream })?;
+    }
     let trips = if theme == Theme::Giants { 4 } else { 16 };
     for _ in 0..calls {
         let call = history.generator().call(&pair.theirs);
@@ -182,6 +189,13 @@ impl History<'_> {
                 self.sheet_one_by_one(pair, requests, &out)?;
             }
         }
+        match &call {
+            Call::CheckProfile { font } => self.profile_by_its_words(pair, *font, &answer)?,
+            Call::WriteProfiled { font, .. } => {
+                self.written_if_profiled(pair, *font, &answer, &out)?;
+            }
+            _ => {}
+        }
         if let Call::ReadStream { stream } = &call {
             self.stream_one_by_one(&before, stream, &answer, pair)?;
         } else {
@@ -275,6 +289,132 @@ impl History<'_> {
                 }
             }
         }
+        Ok(())
+    }
+
+    /// W-207: ""meets the profile" (rule 0, code 0) exactly when all that holds, or
+    /// else the first broken rule, numbered 1 to 7 in this order, and the lowest code
+    /// that breaks it".
+    fn profile_by_its_words(&mut self, pair: &Pair, font: u32, answer: &Answer) -> Found<()> {
+        let store = pair.ours.content();
+        let Some(broken) = profile::broken(store, font) else {
+            return match answer.refusal {
+                2 | 6 => Ok(()),
+                _ => Err(format!("profile of no font {font}: answered {answer:?}")),
+            };
+        };
+        let (rule, code) = match broken.first() {
+            Some((rule, codes)) => (*rule, codes[0]),
+            None => (0, 0),
+        };
+        let expected = [u64::from(rule), u64::from(code), 0];
+        if answer.refusal != 0 || answer.numbers != expected {
+            return Err(format!(
+                "profile of font {font}: answered {answer:?}; by its words {broken:?}"
+            ));
+        }
+        self.profile_met(store, font, &broken);
+        Ok(())
+    }
+
+    fn profile_met(&mut self, store: &[u8], font: u32, broken: &[(u32, Vec<u32>)]) {
+        let met = &mut *self.met;
+        let Some((rule, codes)) = broken.first() else {
+            met.situation("font meets the profile");
+            if self.book.fonts[&font][64] == 2 {
+                met.situation("font of 600 dpi meets the profile");
+            }
+            let incomplete = |code: u32| {
+                let kept = generate::character(store, font, code);
+                kept.is_some_and(|kept| !Reading::is_complete(&kept))
+            };
+            if (0..32).chain(128..256).any(incomplete) {
+                met.situation("font meets the profile, an incomplete character beside its codes");
+            }
+            if generate::open(store).is_some_and(|(of, _)| of == font) {
+                met.situation("font meets the profile while one of its characters is open");
+            }
+            return;
+        };
+        if broken.len() == 1 {
+            met.situation(&format!("profile, rule {rule} alone broken"));
+        }
+        if *rule == 3 {
+            met.situation(match generate::character(store, font, codes[0]) {
+                Some(_) => "profile, a code incomplete",
+                None => "profile, a code missing",
+            });
+        }
+        if codes.len() > 1 {
+            met.situation("profile, a rule broken by several codes");
+        }
+        if *rule > 3 && codes.iter().all(|code| !(32..=127).contains(code)) {
+            met.situation("profile, a rule broken only outside codes 32 to 127");
+        }
+        if *rule > 2 && broken[1..].iter().any(|(_, later)| later[0] < codes[0]) {
+            met.situation("profile, a later rule broken by a lower code");
+        }
+    }
+
+    /// "A second call writes out the font only if it meets the profile", and then as
+    /// the first does; "1, 2, 6 as before, then [..] 14, then 12".
+    fn written_if_profiled(
+        &mut self,
+        pair: &mut Pair,
+        font: u32,
+        answer: &Answer,
+        out: &[u8],
+    ) -> Found<()> {
+        let Some(broken) = profile::broken(pair.ours.content(), font) else {
+            return Ok(());
+        };
+        let length = pair.theirs.len();
+        let write = Call::WriteFont {
+            out: vec![0; length + 2048],
+            font,
+        };
+        let (plain, stream) = self.only_ours(&mut pair.ours, &write)?;
+        let needed = plain.number() as usize;
+        let expected = match (broken.is_empty(), out.len() < needed) {
+            (false, _) => 14,
+            (true, true) => 12,
+            (true, false) => 0,
+        };
+        let same = expected != 0 || (answer.number() as usize == needed);
+        if answer.refusal != expected || !same {
+            return Err(format!(
+                "font {font} written if profiled: answered {answer:?}, breaks {broken:?}"
+            ));
+        }
+        if expected == 0 && out[..needed] != stream[..needed] {
+            return Err(format!("font {font} written if profiled: another stream"));
+        }
+        self.met.situation(match (expected, out.len()) {
+            (0, _) => "profiled font written",
+            (12, short) if short + 1 == needed => "profiled font, the output one byte short",
+            (12, _) => return Ok(()),
+            (_, short) if short < needed => "font outside the profile, the output short too",
+            _ => "font outside the profile, the output long enough",
+        });
+        if expected == 0 {
+            self.profiled_again(&out[..needed], font, length)?;
+        }
+        Ok(())
+    }
+
+    /// What is written meets the profile when it is read into a fresh store of the same
+    /// length.
+    fn profiled_again(&mut self, stream: &[u8], font: u32, length: usize) -> Found<()> {
+        let mut again = self.pair(&vec![0; length]);
+        self.both(&mut again, &Call::MakeFresh)?;
+        let stream = stream.to_vec();
+        self.both(&mut again, &Call::ReadStream { stream })?;
+        let answer = self.both(&mut again, &Call::CheckProfile { font })?;
+        if answer.refusal != 0 || answer.numbers != [0; 3] {
+            return Err(format!("profiled font {font} read again: {answer:?}"));
+        }
+        self.met
+            .situation("profiled font written, read, and within the profile again");
         Ok(())
     }
 

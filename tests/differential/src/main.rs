@@ -16,6 +16,7 @@ mod chance;
 mod generate;
 mod history;
 mod met;
+mod profile;
 mod turning;
 
 use calls::Lending;

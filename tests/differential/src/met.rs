@@ -2,8 +2,11 @@
 
 use crate::calls::{Answer, Call, CALLS, NAMES, POSSIBLE};
 
+/// 0 to 14.
+const REFUSALS: usize = 15;
+
 /// Every one must be met by a whole run.
-const SITUATIONS: [&str; 91] = [
+const SITUATIONS: [&str; 112] = [
     "font replaced",
     "font of the open character replaced",
     "font block while a character is open",
@@ -90,6 +93,27 @@ const SITUATIONS: [&str; 91] = [
     "round trip in format 0",
     "round trip in format 20, 300 dpi",
     "round trip in format 20, 600 dpi",
+    "font meets the profile",
+    "font meets the profile, an incomplete character beside its codes",
+    "font meets the profile while one of its characters is open",
+    "font of 600 dpi meets the profile",
+    "profile, rule 1 alone broken",
+    "profile, rule 2 alone broken",
+    "profile, rule 3 alone broken",
+    "profile, rule 4 alone broken",
+    "profile, rule 5 alone broken",
+    "profile, rule 6 alone broken",
+    "profile, rule 7 alone broken",
+    "profile, a code missing",
+    "profile, a code incomplete",
+    "profile, a rule broken by several codes",
+    "profile, a rule broken only outside codes 32 to 127",
+    "profile, a later rule broken by a lower code",
+    "profiled font written",
+    "profiled font written, read, and within the profile again",
+    "profiled font, the output one byte short",
+    "font outside the profile, the output short too",
+    "font outside the profile, the output long enough",
     "a changed buffer is still a store",
     "a changed buffer is no store",
     "round trip",
@@ -98,14 +122,14 @@ const SITUATIONS: [&str; 91] = [
 ];
 
 pub struct Met {
-    answers: [[u64; 14]; CALLS],
+    answers: [[u64; REFUSALS]; CALLS],
     situations: [u64; SITUATIONS.len()],
 }
 
 impl Met {
     pub fn new() -> Met {
         Met {
-            answers: [[0; 14]; CALLS],
+            answers: [[0; REFUSALS]; CALLS],
             situations: [0; SITUATIONS.len()],
         }
     }
@@ -145,13 +169,13 @@ impl Met {
     pub fn report(&self) -> usize {
         let mut never = 0;
         print!("{:18}", "call");
-        for refusal in 0..14 {
+        for refusal in 0..REFUSALS {
             print!("{refusal:>8}");
         }
         println!();
         for (index, name) in NAMES.iter().enumerate() {
             print!("{name:18}");
-            for refusal in 0..14 {
+            for refusal in 0..REFUSALS {
                 let times = self.answers[index][refusal];
                 if !POSSIBLE[index].contains(&refusal) {
                     print!("{:>8}", ".");

@@ -63,7 +63,7 @@ impl Header<'_> {
     fn format(self) -> u8 {
         self.0[2]
     }
-    fn font_type(self) -> u8 {
+    pub fn font_type(self) -> u8 {
         self.0[3]
     }
     /// "style word (byte 4 high, byte 23 low)"
@@ -73,10 +73,10 @@ impl Header<'_> {
     fn baseline(self) -> u16 {
         field(self.0, 6)
     }
-    fn cell_width(self) -> u16 {
+    pub fn cell_width(self) -> u16 {
         field(self.0, 8)
     }
-    fn cell_height(self) -> u16 {
+    pub fn cell_height(self) -> u16 {
         field(self.0, 10)
     }
     pub fn orientation(self) -> u8 {
@@ -88,7 +88,7 @@ impl Header<'_> {
     pub fn symbol_set(self) -> u16 {
         field(self.0, 14)
     }
-    fn pitch(self) -> u16 {
+    pub fn pitch(self) -> u16 {
         field(self.0, 16)
     }
     fn height(self) -> u16 {
@@ -224,19 +224,19 @@ impl Descriptor<'_> {
     fn orientation(self) -> u8 {
         self.0[4]
     }
-    fn left_offset(self) -> i16 {
+    pub fn left_offset(self) -> i16 {
         signed_field(self.0, 6)
     }
     fn top_offset(self) -> i16 {
         signed_field(self.0, 8)
     }
-    fn width(self) -> u16 {
+    pub fn width(self) -> u16 {
         field(self.0, 10)
     }
-    fn height(self) -> u16 {
+    pub fn height(self) -> u16 {
         field(self.0, 12)
     }
-    fn delta_x(self) -> i16 {
+    pub fn delta_x(self) -> i16 {
         signed_field(self.0, 14)
     }
 

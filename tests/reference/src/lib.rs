@@ -14,6 +14,7 @@
 
 mod block;
 mod choice;
+mod profile;
 mod runs;
 mod store;
 mod stream;
@@ -50,6 +51,8 @@ pub enum Refusal {
     OutputShort = 12,
     /// "stream broken"
     StreamBroken = 13,
+    /// 02, W-207: "outside the profile"
+    OutsideProfile = 14,
 }
 
 /// What choosing answers: the font number.
@@ -71,6 +74,15 @@ pub struct Told {
 pub struct Written {
     pub refusal: u32,
     pub length: u32,
+}
+
+/// What a check of the profile answers: 02, W-207, "the first broken rule, [..] and
+/// the lowest code that breaks it".
+#[derive(Clone, Copy, Debug, Default, PartialEq, Eq)]
+pub struct Profile {
+    pub refusal: u32,
+    pub rule: u32,
+    pub code: u32,
 }
 
 /// What reading a stream answers: "commands done, commands refused"; for 13
@@ -187,7 +199,29 @@ pub fn draw_picture(store: &[u8], out: &mut [u8], font: u32, code: u32) -> u32 {
 }
 
 pub fn write_font(store: &[u8], out: &mut [u8], font: u32) -> Written {
-    match View::of(store).and_then(|view| stream::write_font(&view, out, font)) {
+    written(View::of(store).and_then(|view| stream::write_font(&view, out, font)))
+}
+
+pub fn check_profile(store: &[u8], font: u32) -> Profile {
+    match View::of(store).and_then(|view| profile::check_profile(&view, font)) {
+        Ok(broken) => Profile {
+            refusal: 0,
+            rule: broken.rule,
+            code: broken.code,
+        },
+        Err(refusal) => Profile {
+            refusal: refusal as u32,
+            ..Profile::default()
+        },
+    }
+}
+
+pub fn write_profiled(store: &[u8], out: &mut [u8], font: u32) -> Written {
+    written(View::of(store).and_then(|view| profile::write_profiled(&view, out, font)))
+}
+
+fn written(result: Result<u32, Refusal>) -> Written {
+    match result {
         Ok(length) => Written { refusal: 0, length },
         Err(refusal) => Written {
             refusal: refusal as u32,

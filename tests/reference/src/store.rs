@@ -348,6 +348,11 @@ impl Character<'_> {
     fn shape(&self) -> Shape {
         Descriptor(self.kept).shape()
     }
+
+    /// "Class 1 is complete at its byte count, class 2 when all rows are drawn."
+    pub fn is_complete(&self) -> bool {
+        block::read_kept_data(self.shape(), self.data).is_some_and(|reading| reading.is_complete())
+    }
 }
 
 fn character_at(records: &[u8], at: usize) -> Character<'_> {

@@ -1,4 +1,4 @@
-//! A history that meets every refusal from 1 to 13, the order of checks, the
+//! A history that meets every refusal from 1 to 14, the order of checks, the
 //! open mark, the largest characters, and round trips.
 
 mod common;
@@ -8,7 +8,7 @@ use marlinfold_reference::*;
 
 #[test]
 fn every_refusal() {
-    let mut met = [false; 14];
+    let mut met = [false; 15];
     let mut meet = |refusal: u32, expected: u32| {
         assert_eq!(refusal, expected);
         met[refusal as usize] = true;
@@ -48,6 +48,7 @@ fn every_refusal() {
     meet(download_character(&mut store, &large, 5, 65), 9);
     meet(tell_font(&store, &mut [0; 67], 5).refusal, 12);
     meet(write_font(&store, &mut [0; 74], 5).refusal, 12);
+    meet(write_profiled(&store, &mut [0; 74], 5).refusal, 14);
     assert_eq!(store, kept);
 
     // Font blocks fill the store; the third would not fit.
@@ -64,7 +65,7 @@ fn every_refusal() {
     let read = read_stream(&mut store, &stream);
     meet(read.refusal, 13);
     assert_eq!((read.done, read.refused, read.place), (1, 1, 14));
-    assert_eq!(met, [true; 14]);
+    assert_eq!(met, [true; 15]);
 }
 
 #[test]
@@ -761,9 +762,11 @@ fn refuses_all(store: &mut [u8]) {
         draw_row(store, &mut out, 5, 1, 0),
         draw_picture(store, &mut out, 5, 1),
         write_font(store, &mut out, 5).refusal,
+        check_profile(store, 5).refusal,
+        write_profiled(store, &mut out, 5).refusal,
         read_stream(store, b"").refusal,
     ];
-    assert_eq!(refusals, [1; 12]);
+    assert_eq!(refusals, [1; 14]);
     assert_eq!(store, before);
     assert_eq!(out, [0xAA; 100]);
 }

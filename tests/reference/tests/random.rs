@@ -214,7 +214,7 @@ fn stream(chance: &mut Chance, model: &Model) -> Vec<u8> {
 }
 
 /// One chance call on both; `met` counts the answers.
-fn call(chance: &mut Chance, store: &mut [u8], model: &mut Model, met: &mut [u32; 14]) {
+fn call(chance: &mut Chance, store: &mut [u8], model: &mut Model, met: &mut [u32; 15]) {
     let before = store.to_vec();
     let (font, code) = (some_font(chance), some_code(chance));
     let most = if chance.once_in(3) { 20 } else { 3000 };
@@ -222,7 +222,7 @@ fn call(chance: &mut Chance, store: &mut [u8], model: &mut Model, met: &mut [u32
     let mut out = vec![0xAA; length];
     let mut expected = out.clone();
     let mut font_struck = false;
-    let refusal = match chance.below(25) {
+    let refusal = match chance.below(27) {
         0 if chance.once_in(20) => {
             *model = Model::fresh(store.len());
             make_fresh(store)
@@ -293,6 +293,17 @@ fn call(chance: &mut Chance, store: &mut [u8], model: &mut Model, met: &mut [u32
             assert_eq!(refusal, model::number(answer));
             refusal
         }
+        25 => {
+            let answer = check_profile(store, font);
+            assert_eq!(answer, model::profile(model.check_profile(font)));
+            answer.refusal
+        }
+        26 => {
+            let written = write_profiled(store, &mut out, font);
+            let answer = model.write_profiled(&mut expected, font);
+            assert_eq!(written, model::written(answer));
+            written.refusal
+        }
         22 => {
             let written = write_font(store, &mut out, font);
             let answer = model.write_font(&mut expected, font);
@@ -332,7 +343,7 @@ fn call(chance: &mut Chance, store: &mut [u8], model: &mut Model, met: &mut [u32
 
 #[test]
 fn chance_calls_agree_with_the_model() {
-    let mut met = [0; 14];
+    let mut met = [0; 15];
     for seed in 0..400 {
         let mut chance = Chance::new(seed);
         let length = match seed % 5 {
@@ -424,7 +435,7 @@ fn chance_bytes_are_a_store_exactly_if_the_model_reads_them() {
         let mut store = fresh(length);
         let mut model = Model::fresh(length);
         for _ in 0..12 {
-            call(&mut chance, &mut store, &mut model, &mut [0; 14]);
+            call(&mut chance, &mut store, &mut model, &mut [0; 15]);
         }
         let records = length - store.iter().rev().take_while(|&&byte| byte == 0).count();
         for _ in 0..100 {
@@ -470,9 +481,11 @@ fn refuses_all(bytes: &mut [u8], chance: &mut Chance) {
         draw_row(bytes, &mut out, font, code, 0),
         draw_picture(bytes, &mut out, font, code),
         write_font(bytes, &mut out, font).refusal,
+        check_profile(bytes, font).refusal,
+        write_profiled(bytes, &mut out, font).refusal,
         read_stream(bytes, b"?").refusal,
     ];
-    assert_eq!(refusals, [1; 12]);
+    assert_eq!(refusals, [1; 14]);
     assert_eq!(bytes, before);
     assert_eq!(out, [0xAA; 100]);
     assert_eq!(answers, [UNWRITTEN; 64]);

@@ -2,7 +2,7 @@
 //! sorted maps, pictures as dots, elimination step by step, and the store's
 //! bytes made anew after each call. Nothing here is shared with the library.
 
-use marlinfold_reference::{Answer, Chosen, Request, StreamRead, Told, Written};
+use marlinfold_reference::{Answer, Chosen, Profile, Request, StreamRead, Told, Written};
 use std::collections::BTreeMap;
 
 #[derive(Clone, PartialEq, Debug)]
@@ -537,6 +537,47 @@ impl Model {
         Ok(stream.len() as u32)
     }
 
+    /// Rule by rule, and for each rule code by code.
+    pub fn check_profile(&self, font: u32) -> Result<(u32, u32), u32> {
+        in_range(font, 0)?;
+        let font = self.fonts.get(&font).ok_or(6_u32)?;
+        if font.header[3] != 0 {
+            return Ok((1, 0));
+        }
+        if font.header[13] != 0 {
+            return Ok((2, 0));
+        }
+        let complete = |code: u32| match font.characters.get(&code) {
+            Some(character) => rows(&character.kept, &character.data).unwrap().2,
+            None => false,
+        };
+        if let Some(code) = (32..128).find(|&code| !complete(code)) {
+            return Ok((3, code));
+        }
+        for rule in 4..8 {
+            for (&code, character) in &font.characters {
+                let left = signed(be(&character.kept, 6), 16);
+                let holds = match rule {
+                    4 => left >= 0,
+                    5 => left + be(&character.kept, 10) <= be(&font.header, 8),
+                    6 => be(&character.kept, 12) <= be(&font.header, 10),
+                    _ => be(&character.kept, 14) == be(&font.header, 16),
+                };
+                if !holds {
+                    return Ok((rule, code));
+                }
+            }
+        }
+        Ok((0, 0))
+    }
+
+    pub fn write_profiled(&self, out: &mut [u8], font: u32) -> Result<u32, u32> {
+        if self.check_profile(font)? != (0, 0) {
+            return Err(14);
+        }
+        self.write_font(out, font)
+    }
+
     pub fn read_stream(&mut self, stream: &[u8]) -> StreamRead {
         let (mut font, mut code) = (0, 0);
         let mut read = StreamRead::default();
@@ -634,6 +675,15 @@ pub fn chosen(result: Result<u32, u32>) -> Chosen {
     Chosen {
         refusal: result.err().unwrap_or(0),
         font: result.unwrap_or(0),
+    }
+}
+
+pub fn profile(result: Result<(u32, u32), u32>) -> Profile {
+    let (rule, code) = result.unwrap_or((0, 0));
+    Profile {
+        refusal: result.err().unwrap_or(0),
+        rule,
+        code,
     }
 }
 
