@@ -8,7 +8,7 @@ use native.Mathlib.Omega.{arith}
 use borrow.Author.Tests.{eqb-true, eq-eqb, le-leb, leb-true}
 use lib.Dec.{leb}
 use Rattle.blocks.specs.Header.{fontType, spacing}
-use Rattle.blocks.specs.Field.{within}
+use Rattle.pictures.specs.Size.{within}
 use Rattle.pictures.specs.declared.picture.Held.{Held}
 use Rattle.pictures.specs.declared.picture.Held.the-variants.{Whole, Unfinished, Foreign}
 use Rattle.store.specs.Layout.{lastFont, lastCode, keyOf}

@@ -7,7 +7,8 @@ use mathlib.Core.Option.{Option, none, some}
 use lib.Dec.{eqb, leb}
 use lib.IntN.{pos, _+ℤ_}
 use lib.Signed.{leZ}
-use Rattle.blocks.specs.Field.{signed, negative, within}
+use Rattle.blocks.specs.Field.{signed, negative}
+use Rattle.pictures.specs.Size.{within}
 use Rattle.blocks.specs.Header.{fontType, spacing, cellWidth, cellHeight, pitch}
 use Rattle.blocks.specs.Character.{leftOffset, width, height, deltaX}
 use Rattle.pictures.specs.declared.picture.Held.{Held}
