@@ -390,7 +390,7 @@ fn mirror_eight(
     mirror_run(table, picture, out, end - 2, to + 2, 6);
 }
 
-// Mirrors a picture without padding: all its bytes, from the last. Loads are what takes time, and a pair is one: it's read a turn ahead, since the compiler would part it again.
+// Mirrors a picture without padding: all its bytes, from the last. A pair is one load instead of two; it is read a turn ahead, since a compiler parts one that is used at once.
 fn mirror_bytes(table: &[u8; 256], picture: &[u8], out: &mut [u8], width: usize, height: usize)
     requires { ⌜ Mirrors (now table) × (0 < width) × (width ≤ sideLimit) × (height ≤ sideLimit) × (width % 8 ≡ 0)
         × (pictureSize width height ≤ length (now picture)) × (pictureSize width height ≤ length (now out)) ⌝ }
