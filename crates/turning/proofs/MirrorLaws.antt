@@ -113,14 +113,10 @@ pub last-as : (s : List ℕ) (from n scale q left : ℕ) → 0 < n → q ≡ n -
 unfolding halfByte
 last-as s from n scale q left l e f = rw (f, e, mirrored-out s from n (n - 1 + 1) (omega arith))
 
--- ---- eight bytes, two of them read ahead
-pub pair-none : (s : List ℕ) (end : ℕ) → end < 2 → pairBefore s end ≡ 0
+-- ---- eight bytes, two of them read at once
+pub pair-in : (s : List ℕ) (end : ℕ) → pairBefore s end ≡ getD s (end - 2) 0 + getD s (end - 1) 0 * 256
 unfolding pairBefore
-pair-none s end l = rw (lt-ltb end 2 l)
-
-pub pair-in : (s : List ℕ) (end : ℕ) → 2 ≤ end → pairBefore s end ≡ getD s (end - 2) 0 + getD s (end - 1) 0 * 256
-unfolding pairBefore
-pair-in s end l = rw (le-ltb end 2 l)
+pair-in s end = refl
 
 pub eight-next : (s out out' : List ℕ) (end to pair : ℕ) → 8 ≤ end → pair ≡ pairBefore s end → getD s (end - 2) 0 < 256
     → MirroredInto s (end - 2) (to + 2) 6 (set (set out to (mirror (pair / 256))) (to + 1) (mirror (pair % 256))) out' → MirroredInto s end to 8 out out'
@@ -138,13 +134,13 @@ eight-next s out out' end to pair l e b m all out₀ al ol g p =
     first : mirror (pair / 256) ≡ getD all (to + 0) 0
     first =
         let z : end - 1 - 0 ≡ end - 1 = omega arith in
-        let f : pair / 256 ≡ getD s (end - 1) 0 = omega (arith, e, pair-in s end (omega arith)) in
+        let f : pair / 256 ≡ getD s (end - 1) 0 = omega (arith, e, pair-in s end) in
         ap mirror f ∙ sym (rw z at (g 0 (omega arith)))
 
     second : mirror (pair % 256) ≡ getD all (to + 1) 0
     second =
         let z : end - 1 - 1 ≡ end - 2 = omega arith in
-        let f : pair % 256 ≡ getD s (end - 2) 0 = omega (arith, e, pair-in s end (omega arith)) in
+        let f : pair % 256 ≡ getD s (end - 2) 0 = omega (arith, e, pair-in s end) in
         ap mirror f ∙ sym (rw z at (g 1 (omega arith)))
 
     one : set out to (mirror (pair / 256)) ≡ take (to + 1) all ++ drop (to + 1) out₀

@@ -39,6 +39,6 @@ MirroredInto s end to count out out' = (all out₀ : List ℕ) → to + count �
     → ((k : ℕ) → k < count → getD all (to + k) 0 ≡ mirror (getD s (end - 1 - k) 0))
     → out ≡ take to all ++ drop to out₀ → out' ≡ take (to + count) all ++ drop (to + count) out₀
 
--- the two bytes before a place as one number, the last the high one; 0 where there are not two
+-- the two bytes before a place as one number, the last the high one
 unfoldable pub pairBefore : List ℕ → ℕ → ℕ
-pairBefore s end = cond (ltb end 2) 0 (getD s (end - 2) 0 + getD s (end - 1) 0 * 256)
+pairBefore s end = getD s (end - 2) 0 + getD s (end - 1) 0 * 256
