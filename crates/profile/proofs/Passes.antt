@@ -85,7 +85,7 @@ module _ (n : ℕ) (h : List ℕ) where
     first : ((q .rule ≡ p .rule) × (q .code ≡ p .code)) ⊎ First rs (p .rule) (q .rule) (q .code)
     least : p .wanted ≤ q .wanted
     held : (c : ℕ) → p .wanted ≤ c → c < q .wanted → c ≤ lastCode → complete (at rs c) ≡ true
-    lacks : q .wanted ≤ lastCode → complete (at rs (q .wanted)) ≡ false
+    lacks : q .wanted ≤ lastRequired → complete (at rs (q .wanted)) ≡ false
 
   finds-none : (p : Findings) → Finds [] p p
   unfolding find
@@ -119,7 +119,7 @@ module _ (n : ℕ) (h : List ℕ) where
         first = by-first (f .first);
         least = f .least;
         held = λ c a b m. rw (s c m) (f .held c a b m);
-        lacks = λ m. rw (s (q .wanted) m) (f .lacks m);
+        lacks = λ m. rw (s (q .wanted) (omega arith)) (f .lacks m);
       }
     where
       by-first : ((q .rule ≡ p .rule) × (q .code ≡ p .code)) ⊎ First rs (p .rule) (q .rule) (q .code) → ((q .rule ≡ p .rule) × (q .code ≡ p .code)) ⊎ First ts (p .rule) (q .rule) (q .code)
@@ -178,14 +178,14 @@ module _ (n : ℕ) (h : List ℕ) where
 
     -- ── the wanted code
     abbrev Wants : ℕ → ℕ → Type 0
-    Wants w v = (w ≤ v) × ((c : ℕ) → w ≤ c → c < v → c ≤ lastCode → complete (at (met ∷ rs) c) ≡ true) × (v ≤ lastCode → complete (at (met ∷ rs) v) ≡ false)
+    Wants w v = (w ≤ v) × ((c : ℕ) → w ≤ c → c < v → c ≤ lastCode → complete (at (met ∷ rs) c) ≡ true) × (v ≤ lastRequired → complete (at (met ∷ rs) v) ≡ false)
 
     not-held : (c : ℕ) → c ≤ b → complete (at rs c) ≡ true → ⊥
     not-held c l e = let x : complete (at rs c) ≡ false = rw (behind c l) in let y : true ≡ false = sym e ∙ x in let z : _≡_ {A = ℕ} 0 1 = cc in omega arith
 
-    more-wants : (w w' v : ℕ) → nextWanted w b (isWhole (heldOf k d)) ≡ w' → w' ≤ v → ((c : ℕ) → w' ≤ c → c < v → c ≤ lastCode → complete (at rs c) ≡ true) → (v ≤ lastCode → complete (at rs v) ≡ false) → Wants w v
+    more-wants : (w w' v : ℕ) → nextWanted w b (isWhole (heldOf k d)) ≡ w' → w' ≤ v → ((c : ℕ) → w' ≤ c → c < v → c ≤ lastCode → complete (at rs c) ≡ true) → (v ≤ lastRequired → complete (at rs v) ≡ false) → Wants w v
     unfolding nextWanted
-    more-wants w w' v i l f g = go (eqb b w) refl (isWhole (heldOf k d)) refl i
+    more-wants w w' v i l f g = go (eqb b w) refl (ltb lastRequired b) refl (isWhole (heldOf k d)) refl i
       where
         found : (c : ℕ) → w' ≤ c → c < v → c ≤ lastCode → (t : Bool) → eqb b c ≡ t → complete (at (met ∷ rs) c) ≡ true
         found c x y m true e = absurd (not-held c (omega (arith, eqb-true b c e)) (f c x y m))
@@ -208,17 +208,21 @@ module _ (n : ℕ) (h : List ℕ) where
         apart : (b ≡ w → ⊥) → w ≡ w' → v ≤ lastCode → b ≡ v → ⊥
         apart e i m x = not-held w (omega arith) (f w (omega arith) (omega arith) (omega arith))
 
-        go : (t : Bool) → eqb b w ≡ t → (x : Bool) → isWhole (heldOf k d) ≡ x → cond t (cond x (b + 1) w) w ≡ w' → Wants w v
-        go true e true q i =
+        go : (t : Bool) → eqb b w ≡ t → (u : Bool) → ltb lastRequired b ≡ u → (x : Bool) → isWhole (heldOf k d) ≡ x → cond (not t || u) w (cond x (b + 1) w) ≡ w' → Wants w v
+        go true e true r x q i =
+            let y = eqb-true b w e in
+            let z = ltb-true lastRequired b r in
+            (omega arith, (λ c x z m. found c (omega arith) z m (eqb b c) refl), λ m. absurd (omega arith))
+        go true e false r true q i =
             let y = eqb-true b w e in
             (omega arith, (λ c x z m. counts y q i c x z m (eqb b c) refl), λ m. rw (other v (λ x. omega arith)) (g m))
-        go true e false q i =
+        go true e false r false q i =
             let y = eqb-true b w e in
             let z = stays y i in
             (omega arith, (λ c x z' m. absurd (omega arith)), λ m. rw (here v (omega arith)) q)
-        go false e x q i =
+        go false e u r x q i =
             let y = eqb-false b w e in
-            (omega arith, (λ c x z m. found c (omega arith) z m (eqb b c) refl), λ m. rw (other v (λ x. apart y i m x)) (g m))
+            (omega arith, (λ c x z m. found c (omega arith) z m (eqb b c) refl), λ m. rw (other v (λ x. apart y i (omega arith) x)) (g m))
 
     -- ── behind it
     -- the rule and the code are the character's, or stay
@@ -337,7 +341,7 @@ module _ (n : ℕ) (h : List ℕ) where
     wanting : q .wanted ≤ lastRequired → firstBroken (hasCharacter ∷ characterRules) 3 h (at rs) ≡ record { rule = 3; code = q .wanted }
     wanting l =
         rule-breaks h (at rs) hasCharacter characterRules 3 (q .wanted) (omega arith)
-        (rw (le-leb firstRequired (q .wanted) (f .least), le-leb (q .wanted) lastRequired l) (f .lacks (omega arith)))
+        (rw (le-leb firstRequired (q .wanted) (f .least), le-leb (q .wanted) lastRequired l) (f .lacks l))
         (λ c x. required-below c x (omega arith))
 
     required-all : lastRequired < q .wanted → (c : ℕ) → c ≤ lastCode → hasCharacter h c (at rs c) ≡ true

@@ -1,7 +1,7 @@
 -- For the code alone: what one pass over the records of a font, in their order, finds.
 use Prim.Native.Nat.{ℕ, _+_}
 use mathlib.Core.List.{List, [], _∷_}
-use mathlib.Core.Bool.{Bool, cond}
+use mathlib.Core.Bool.{Bool, not, _||_, cond}
 use lib.Dec.{eqb, leb, ltb}
 use Rattle.blocks.specs.Header.{fontType, spacing}
 use Rattle.store.specs.Model.{Rec, font, character, heldOf}
@@ -16,9 +16,9 @@ brokenBy h k =
     (cond (rightInside h k) (cond (heightInside h k) (cond (advancesByPitch h k) 8 7) 6) 5)
     4
 
--- the lowest code from 32 on that has no complete character yet, behind a character of code c
+-- the lowest required code that has no complete character yet, behind a character of code c; a higher one, if all have
 unfoldable pub nextWanted : ℕ → ℕ → Bool → ℕ
-nextWanted w c whole = cond (eqb c w) (cond whole (c + 1) w) w
+nextWanted w c whole = cond (not (eqb c w) || ltb lastRequired c) w (cond whole (c + 1) w)
 
 -- codes rise: the first that breaks a rule is the lowest, and a lower rule goes before it
 unfoldable pub behindCharacter : List ℕ → Findings → ℕ → List ℕ → List ℕ → Findings

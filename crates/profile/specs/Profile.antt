@@ -100,8 +100,8 @@ abbrev pub brokenOr : ℕ → Option ℕ → RuleBroken → RuleBroken
 brokenOr i none next = next
 brokenOr i (some c) next = record { rule = i; code = c }
 
--- of rules numbered from i on; `at` gives the character of each code. The codes are 0 to 255, so that a rule of the font alone, which fails at every
--- code, has "0 for the type and the spacing".
+-- of rules numbered from i on; `at` gives the character of each code. The codes are 0 to 255, so that a rule of the font alone, which holds at every
+-- code or at none, has "0 for the type and the spacing".
 unfoldable pub firstBroken : List Rule → ℕ → List ℕ → (ℕ → Option Rec) → RuleBroken
 firstBroken [] i h at = noneBroken
 firstBroken (t ∷ ts) i h at = brokenOr i (lowestBreaking (λ c. t h c (at c)) 0 (lastCode + 1)) (firstBroken ts (i + 1) h at)

@@ -29,7 +29,7 @@ pub struct RuleBroken {
     pub code: u32,
 }
 
-// What a pass has found: the lowest required code that has no complete character yet, and of the rules 4 to 7 the first broken one with the
+// What a pass has found: the lowest required code that has no complete character yet (or one above them, if all have), and of the rules 4 to 7 the first broken one with the
 // lowest code that breaks it.
 pub struct Findings {
     pub wanted: u32,
@@ -49,12 +49,12 @@ fn none_broken() -> RuleBroken
     RuleBroken { rule: 0, code: 0 }
 }
 
-// Data is looked at where the code is the one that is wanted.
+// Data is looked at where the code is the one that is wanted, and required.
 fn next_wanted(wanted: u32, code: u32, k: &[u8], d: &[u8]) -> u32
     requires { ⌜ (code ≤ lastCode) × (descriptorBytes ≤ length (now k)) ⌝ }
     ensures { λ r. ⌜ r ≡ nextWanted wanted code (isWhole (heldOf (now (k .entry)) (now (d .entry)))) ⌝ }
 {
-    if code != wanted {
+    if (code != wanted) | (LAST_REQUIRED < code) {
         return wanted;
     }
     if rules::is_whole(k, d) {

@@ -51,9 +51,9 @@ pub(crate) const LAST_FONT: usize = 32767;
 
 pub(crate) const LAST_CODE: usize = 255;
 
-pub(crate) const LAST_FONT_ASKED: u32 = LAST_FONT as u32;
+pub const LAST_FONT_ASKED: u32 = LAST_FONT as u32;
 
-pub(crate) const LAST_CODE_ASKED: u32 = LAST_CODE as u32;
+pub const LAST_CODE_ASKED: u32 = LAST_CODE as u32;
 
 // Two bytes spell the numbers below this one.
 pub(crate) const WORD_END: usize = 65536;

@@ -6,7 +6,7 @@ pub mod drawing;
 pub mod fonts;
 pub mod kept_fonts;
 pub mod known;
-pub(crate) mod layout;
+pub mod layout;
 pub mod locate;
 pub mod number;
 pub mod records;

@@ -4,6 +4,7 @@ ghost use mathlib.Core.Bool.{cond};
 ghost use Prim.Native.Nat.{_^_, _-_, _≤_, _<_};
 ghost use Rattle.stream.specs.Command.{streamByte, startsWith, isDigit, numberOf, numberCommand, isBlock, blockOf, command, Ends, movedBy, commandAt};
 ghost use Rattle.stream.specs.declared.command.Command.the-variants.{FontBlock, CharacterBlock};
+use blocks::header::BLOCK_LIMIT;
 
 // A command and the place behind it, for a block the place where it begins too; no command; or the end of the stream.
 pub enum Command {
@@ -100,8 +101,9 @@ fn is_block(s: &[u8], d: Number) -> bool
     ensures { λ r. ⌜ r ≡ isBlock (now (s .entry)) d ⌝ }
 {
     let next = d.next;
-    let to = next + 1 + (d.value as usize);
-    (4 <= next) & ((byte_at(s, next) == b'W') & ((d.value <= 32767) & (to <= s.len())))
+    let size = d.value as usize;
+    let to = next + 1 + size;
+    (4 <= next) & ((byte_at(s, next) == b'W') & ((size <= BLOCK_LIMIT) & (to <= s.len())))
 }
 
 // A block's place: a font's, or a character's.

@@ -3,6 +3,7 @@
 ghost use mathlib.Core.Path.{_≡_};
 ghost use Prim.Native.Nat.{_+_, _≤_, _<_};
 ghost use lib.ListN.{length};
+ghost use Rattle.store.specs.Layout.{lastFont, lastCode};
 ghost use Rattle.store.specs.Calls.{downloadingFont};
 ghost use Rattle.store.specs.Download.{downloadingCharacter};
 ghost use Rattle.store.specs.Cursor.{Points};
@@ -12,11 +13,9 @@ use crate::command;
 use crate::command::Command;
 use store::known;
 use store::known::Opened;
+use store::layout::LAST_CODE_ASKED;
+use store::layout::LAST_FONT_ASKED;
 use store::locate::Cursor;
-
-const LAST_FONT: u32 = 32767;
-
-const LAST_CODE: u32 = 255;
 
 // The font number and the code that the next block is for.
 pub struct Target {
@@ -96,7 +95,7 @@ fn range_answer(last: u32, n: u32) -> u32
 fn with_number(t: Target, n: u32) -> Target
     ensures { λ r. ⌜ r ≡ withNumber n t ⌝ }
 {
-    if n <= LAST_FONT {
+    if n <= LAST_FONT_ASKED {
         return Target {
             font: n,
             code: t.code,
@@ -108,7 +107,7 @@ fn with_number(t: Target, n: u32) -> Target
 fn with_code(t: Target, n: u32) -> Target
     ensures { λ r. ⌜ r ≡ withCode n t ⌝ }
 {
-    if n <= LAST_CODE {
+    if n <= LAST_CODE_ASKED {
         return Target {
             font: t.font,
             code: n,
@@ -134,7 +133,7 @@ fn set_target(x: State, target: Target, answer: u32, next: usize) -> State
 
 // The state behind a font block.
 fn take_font(s: &mut [u8], x: State, block: &[u8], next: usize) -> State
-    requires { ⌜ Points (now s) (x .cursor) × (x .target .font ≤ 32767) × (x .counts .done + x .counts .refused < 18446744073709551615) ⌝ }
+    requires { ⌜ Points (now s) (x .cursor) × (x .target .font ≤ lastFont) × (x .counts .done + x .counts .refused < 18446744073709551615) ⌝ }
     ensures { λ r. ⌜ (r ≡ stateBehind x next (x .target) (downloadingFont (x .target .font) (now (block .entry)) (now (s .entry)) .answer) (r .cursor)) × Points (now (s .exit)) (r .cursor) ⌝ }
     ensures { λ _. ⌜ now (s .exit) ≡ downloadingFont (x .target .font) (now (block .entry)) (now (s .entry)) .bytes ⌝ }
 {
@@ -152,7 +151,7 @@ fn take_font(s: &mut [u8], x: State, block: &[u8], next: usize) -> State
 
 // The state behind a character block.
 fn take_character(s: &mut [u8], x: State, block: &[u8], next: usize) -> State
-    requires { ⌜ Points (now s) (x .cursor) × (x .target .font ≤ 32767) × (x .target .code ≤ 255) × (x .counts .done + x .counts .refused < 18446744073709551615) ⌝ }
+    requires { ⌜ Points (now s) (x .cursor) × (x .target .font ≤ lastFont) × (x .target .code ≤ lastCode) × (x .counts .done + x .counts .refused < 18446744073709551615) ⌝ }
     ensures { λ r. ⌜ (r ≡ stateBehind x next (x .target) (downloadingCharacter (x .target .font) (x .target .code) (now (block .entry)) (now (s .entry)) .answer) (r .cursor)) × Points (now (s .exit)) (r .cursor) ⌝ }
     ensures { λ _. ⌜ now (s .exit) ≡ downloadingCharacter (x .target .font) (x .target .code) (now (block .entry)) (now (s .entry)) .bytes ⌝ }
 {
@@ -178,11 +177,11 @@ fn obey(s: &mut [u8], stream: &[u8], x: State) -> Obeyed
     let target = x.target;
     match command::read_command(stream, at) {
         Command::SetFont { number, next } => {
-            let answer = range_answer(LAST_FONT, number);
+            let answer = range_answer(LAST_FONT_ASKED, number);
             Obeyed::On(set_target(x, with_number(target, number), answer, next))
         }
         Command::SetCode { number, next } => {
-            let answer = range_answer(LAST_CODE, number);
+            let answer = range_answer(LAST_CODE_ASKED, number);
             Obeyed::On(set_target(x, with_code(target, number), answer, next))
         }
         Command::FontBlock { from, to } => Obeyed::On(take_font(s, x, &stream[from..to], to)),

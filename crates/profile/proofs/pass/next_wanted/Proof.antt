@@ -1,21 +1,20 @@
 use mathlib.Core.Path.{sym, _∙_}
 use borrow.Author.Needs.{needs}
-use borrow.Author.Tests.{eq-eqb, ne-eqb}
 use Rattle.profile.specs.Pass.{nextWanted}
 use Rattle.profile.proofs.pass.next_wanted.Statement.{statement}
 use Rattle.profile.proofs.pass.next_wanted.Tie as tie
 
 returns : tie.Need-returns
 unfolding nextWanted
-returns c = rw (ne-eqb _ _ (c .if1 .taken))
+returns c = rw (c .if1 .taken)
 
 returns-2 : tie.Need-returns-2
 unfolding nextWanted
-returns-2 c = rw (eq-eqb _ _ (c .before .before .if1 .left), sym (c .before .is-whole .ensures) ∙ c .if2 .taken)
+returns-2 c = rw (c .before .before .if1 .left, sym (c .before .is-whole .ensures) ∙ c .if2 .taken)
 
 returns-3 : tie.Need-returns-3
 unfolding nextWanted
-returns-3 c = rw (eq-eqb _ _ (c .before .before .if1 .left), sym (c .before .is-whole .ensures) ∙ c .if2 .left)
+returns-3 c = rw (c .before .before .if1 .left, sym (c .before .is-whole .ensures) ∙ c .if2 .left)
 
 pub next-wanted-spec : {M : Type 1} → statement M
 next-wanted-spec =

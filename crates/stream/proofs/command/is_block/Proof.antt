@@ -5,7 +5,7 @@ use Rattle.stream.proofs.command.is_block.Tie as tie
 
 returns : tie.Need-returns
 unfolding isBlock
-returns c = rw (c .before .byte-at .ensures)
+returns c = rw (c .byte-at .ensures)
 
 pub is-block-spec : {M : Type 1} → statement M
 is-block-spec =
