@@ -241,7 +241,8 @@ fixHeader b =
 unfoldable pub keptHeader : List ℕ → List ℕ
 keptHeader b = fixHeader (firstBytes b)
 
--- the bytes that the rules change stand as the rules leave them
+-- the bytes that an accepted block always has, or that the rules change, stand as the rules leave them: format 0 with size 64 and 300, 300, or
+-- format 20 with size 68 (W-206)
 abbrev pub fixedHeader : List ℕ → Bool
 fixedHeader k =
     ((eqb (format k) plainFormat && bothAre coarseResolution k) || saysResolution k)

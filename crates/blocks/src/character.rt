@@ -42,9 +42,6 @@ const FORMAT: u8 = 4;
 
 const SIZE_TAKEN: u8 = 14;
 
-// How far a width or a height goes.
-const SIDE_LIMIT: u16 = 16384;
-
 pub enum Kind {
     First,
     Continuation,
@@ -138,7 +135,7 @@ fn first_form(block: &[u8]) -> bool
 fn side_allowed(n: u16) -> bool
     ensures { λ r. ⌜ r ≡ within 1 sideLimit n ⌝ }
 {
-    (1 <= n) & (n <= SIDE_LIMIT)
+    (1 <= n) & (n <= size::SIDE_LIMIT)
 }
 
 fn first_fields(block: &[u8], orientation: u8) -> bool

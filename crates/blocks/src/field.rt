@@ -7,7 +7,7 @@ ghost use Rattle.blocks.specs.Header.{weightLimit};
 ghost use Rattle.blocks.specs.Character.{offsetLimit};
 
 // A signed field goes from minus its limit up to it: as an unsigned number at most the limit, or at least what stands for minus the limit.
-const WEIGHT_LIMIT: u8 = 7;
+pub const WEIGHT_LIMIT: u8 = 7;
 
 const LEAST_WEIGHT: u8 = 255 - WEIGHT_LIMIT + 1;
 

@@ -20,7 +20,7 @@ const FORMAT_AT: usize = 2;
 
 const FONT_TYPE_AT: usize = 3;
 
-const STYLE_HIGH_AT: usize = 4;
+pub const STYLE_HIGH_AT: usize = 4;
 
 const RESERVED_AT: usize = 5;
 
@@ -32,23 +32,27 @@ const CELL_HEIGHT_AT: usize = 10;
 
 pub const ORIENTATION_AT: usize = 12;
 
-const SPACING_AT: usize = 13;
+pub const SPACING_AT: usize = 13;
 
-const SYMBOL_SET_AT: usize = 14;
+pub const SYMBOL_SET_AT: usize = 14;
 
-const PITCH_AT: usize = 16;
+pub const PITCH_AT: usize = 16;
 
-const HEIGHT_AT: usize = 18;
+pub const HEIGHT_AT: usize = 18;
 
-const STYLE_LOW_AT: usize = 23;
+pub const STYLE_LOW_AT: usize = 23;
 
-const STROKE_WEIGHT_AT: usize = 24;
+pub const STROKE_WEIGHT_AT: usize = 24;
 
-const PITCH_EXTENDED_AT: usize = 40;
+pub const TYPEFACE_LOW_AT: usize = 25;
 
-const HEIGHT_EXTENDED_AT: usize = 41;
+pub const TYPEFACE_HIGH_AT: usize = 26;
 
-const X_RESOLUTION_AT: usize = 64;
+pub const PITCH_EXTENDED_AT: usize = 40;
+
+pub const HEIGHT_EXTENDED_AT: usize = 41;
+
+pub const X_RESOLUTION_AT: usize = 64;
 
 const Y_RESOLUTION_AT: usize = 66;
 
@@ -57,19 +61,19 @@ const PLAIN_FORMAT: u8 = 0;
 
 const RESOLUTION_FORMAT: u8 = 20;
 
-const COARSE_RESOLUTION: u16 = 300;
+pub const COARSE_RESOLUTION: u16 = 300;
 
-const FINE_RESOLUTION: u16 = 600;
+pub const FINE_RESOLUTION: u16 = 600;
 
 const LAST_FONT_TYPE: u8 = 2;
 
-const LAST_STYLE: u16 = 1023;
+pub const LAST_STYLE: u16 = 1023;
 
-const LAST_ORIENTATION: u8 = 3;
+pub const LAST_ORIENTATION: u8 = 3;
 
-const LAST_SPACING: u8 = 1;
+pub const LAST_SPACING: u8 = 1;
 
-const LAST_SYMBOL_SET: u16 = 2047;
+pub const LAST_SYMBOL_SET: u16 = 2047;
 
 const PITCH_LIMIT: u16 = 16800;
 

@@ -9,8 +9,8 @@ use Rattle.store.specs.Records.{Begun}
 use Rattle.store.specs.Fonts.{fontsAt, fontsOf, Onward}
 use Rattle.store.specs.declared.records.Begin.{Begin}
 use Rattle.store.specs.declared.records.Begin.the-variants.{At, NotStore}
-use Rattle.store.specs.declared.kept_fonts.Next.{Next}
-use Rattle.store.specs.declared.kept_fonts.Next.the-variants.{Font as found, End}
+use Rattle.store.specs.declared.kept_fonts.NextFont.{NextFont}
+use Rattle.store.specs.declared.kept_fonts.NextFont.the-variants.{Font as found, End}
 use Rattle.store.proofs.KeptFonts.{fonts-rise, fonts-begun}
 use Rattle.blocks.specs.Header.{headerBytes}
 use Rattle.choice.specs.Request.{inRange}
@@ -23,7 +23,7 @@ use Rattle.choice.specs.declared.Chosen.the-variants.{NotStore as not-st
 use Rattle.choice.proofs.Choice.{rising-keyed}
 use Rattle.choice.proofs.Pass.{once}
 
-module _ (s : List ℕ) (at : ℕ) (v : Next) (h : Onward s at v) where
+module _ (s : List ℕ) (at : ℕ) (v : NextFont) (h : Onward s at v) where
   -- a font was met
   pub met : (n k next : ℕ) → v ≡ found n k next → Onward s at (found n k next)
   met n k next e = rw e at h

@@ -1,5 +1,7 @@
 // The choice of a font.
-use store::kept_fonts::Next;
+use blocks::field;
+use blocks::header;
+use store::kept_fonts::NextFont;
 use store::records::Begin;
 ghost use Prim.Native.Nat.{ℕ, _+_, _*_, _%_, _^_, _<_, _≤_};
 ghost use mathlib.Core.Path.{_≡_};
@@ -8,7 +10,7 @@ ghost use lib.Dec.{eqb, leb, ltb};
 ghost use lib.ListN.{length};
 ghost use Rattle.blocks.specs.Field.{byte, word, join as joinOf};
 ghost use Rattle.blocks.specs.Header.{headerBytes, style, typeface, resolution};
-ghost use Rattle.store.specs.Records.{Place, Begun};
+ghost use Rattle.store.specs.Records.{RecordPlace, Begun};
 ghost use Rattle.store.specs.Fonts.{fontsAt, fontsOf};
 ghost use Rattle.store.specs.declared.records.Begin.the-variants.{At};
 ghost use Rattle.choice.specs.Request.{inRange};
@@ -19,29 +21,29 @@ ghost use Rattle.choice.specs.Scores.{miss as missOf, mostCompared, pitc
 
 const ROMAN_8: u32 = 277;
 
-// The highest that each number of a request may be, and the lowest weight, -7, in two's complement.
-const LAST_SYMBOL_SET: u32 = 2047;
+// The highest that each number of a request may be, as far as a header's goes where it has a limit, and the lowest weight, in two's complement.
+const LAST_SYMBOL_SET: u32 = header::LAST_SYMBOL_SET as u32;
 
-const LAST_SPACING: u32 = 1;
+const LAST_SPACING: u32 = header::LAST_SPACING as u32;
 
 const HIGHEST_R: u32 = 57600;
 
 const HIGHEST_H: u32 = 99975;
 
-const LAST_STYLE: u32 = 1023;
+const LAST_STYLE: u32 = header::LAST_STYLE as u32;
 
-const WEIGHT_LIMIT: u32 = 7;
+const WEIGHT_LIMIT: u32 = field::WEIGHT_LIMIT as u32;
 
-const LEAST_WEIGHT: u32 = 4294967289;
+const LEAST_WEIGHT: u32 = 4294967295 - WEIGHT_LIMIT + 1;
 
 const HIGHEST_TYPEFACE: u32 = 65535;
 
-const LAST_ORIENTATION: u32 = 3;
+const LAST_ORIENTATION: u32 = header::LAST_ORIENTATION as u32;
 
 // The resolutions of fonts, and the modes of requests.
-const COARSE: u32 = 300;
+const COARSE: u32 = header::COARSE_RESOLUTION as u32;
 
-const FINE: u32 = 600;
+const FINE: u32 = header::FINE_RESOLUTION as u32;
 
 // A font qualifies by its pitch up to this product.
 const PITCH_TEST_LIMIT: u64 = 61440000;
@@ -52,35 +54,6 @@ const QUARTER_DOT_PARTS: u64 = 256;
 const QUARTER_DOT: u64 = 3;
 
 const QUARTER_POINT: u64 = 6400;
-
-// How many bytes of a font are kept, and where the fields stand in them.
-const KEPT: usize = 68;
-
-const STYLE_HIGH: usize = 4;
-
-const ORIENTATION: usize = 12;
-
-const SPACING: usize = 13;
-
-const SYMBOL_SET: usize = 14;
-
-const PITCH: usize = 16;
-
-const HEIGHT: usize = 18;
-
-const STYLE_LOW: usize = 23;
-
-const STROKE_WEIGHT: usize = 24;
-
-const TYPEFACE_LOW: usize = 25;
-
-const TYPEFACE_HIGH: usize = 26;
-
-const PITCH_EXTENDED: usize = 40;
-
-const HEIGHT_EXTENDED: usize = 41;
-
-const RESOLUTION: usize = 64;
 
 // The greatest number that can be compared for pitch or height, and a base above every number of the pitch.
 const MOST_COMPARED: u64 = 33554430;
@@ -150,14 +123,20 @@ fn style_of(f: &[u8]) -> u32
     requires { ⌜ length (now f) ≡ headerBytes ⌝ }
     ensures { λ r. ⌜ r ≡ style (asBytes (now (f .entry))) ⌝ }
 {
-    join(kept_byte(f, STYLE_HIGH), kept_byte(f, STYLE_LOW))
+    join(
+        kept_byte(f, header::STYLE_HIGH_AT),
+        kept_byte(f, header::STYLE_LOW_AT),
+    )
 }
 
 fn typeface_of(f: &[u8]) -> u32
     requires { ⌜ length (now f) ≡ headerBytes ⌝ }
     ensures { λ r. ⌜ r ≡ typeface (asBytes (now (f .entry))) ⌝ }
 {
-    join(kept_byte(f, TYPEFACE_HIGH), kept_byte(f, TYPEFACE_LOW))
+    join(
+        kept_byte(f, header::TYPEFACE_HIGH_AT),
+        kept_byte(f, header::TYPEFACE_LOW_AT),
+    )
 }
 
 // Whether a font is one of 600 dpi.
@@ -165,7 +144,7 @@ fn is_fine(f: &[u8]) -> bool
     requires { ⌜ length (now f) ≡ headerBytes ⌝ }
     ensures { λ b. ⌜ ((n : ℕ) → b ≡ isFine (record { number = n; kept = now (f .entry) })) ⌝ }
 {
-    kept_word(f, RESOLUTION) == FINE
+    kept_word(f, header::X_RESOLUTION_AT) == FINE
 }
 
 // The number that is compared, by a field and its extended byte: one of 300 dpi counts twice.
@@ -182,7 +161,7 @@ fn compared_pitch(f: &[u8]) -> u64
     requires { ⌜ length (now f) ≡ headerBytes ⌝ }
     ensures { λ p. ⌜ ((n : ℕ) → p ≡ comparedPitch (record { number = n; kept = now (f .entry) })) × (p ≤ mostCompared) ⌝ }
 {
-    compared(f, PITCH, PITCH_EXTENDED)
+    compared(f, header::PITCH_AT, header::PITCH_EXTENDED_AT)
 }
 
 // The number that is compared for height.
@@ -190,7 +169,7 @@ fn compared_height(f: &[u8]) -> u64
     requires { ⌜ length (now f) ≡ headerBytes ⌝ }
     ensures { λ h. ⌜ ((n : ℕ) → h ≡ comparedHeight (record { number = n; kept = now (f .entry) })) × (h ≤ mostCompared) ⌝ }
 {
-    compared(f, HEIGHT, HEIGHT_EXTENDED)
+    compared(f, header::HEIGHT_AT, header::HEIGHT_EXTENDED_AT)
 }
 
 // 0 for a match.
@@ -256,7 +235,7 @@ fn weight_of(f: &[u8], r: Request) -> u64
 {
     weight_number(
         raised_request(r.weight),
-        (kept_byte(f, STROKE_WEIGHT) + 128) % 256,
+        (kept_byte(f, header::STROKE_WEIGHT_AT) + 128) % 256,
     ) as u64
 }
 
@@ -265,8 +244,8 @@ fn major_of(f: &[u8], r: Request) -> u64
     requires { ⌜ length (now f) ≡ headerBytes ⌝ }
     ensures { λ m. ⌜ ((n : ℕ) → m ≡ majorOf r (record { number = n; kept = now (f .entry) })) ⌝ }
 {
-    let set = miss(kept_word(f, SYMBOL_SET) == r.symbol_set);
-    let fixed = kept_byte(f, SPACING) == 0;
+    let set = miss(kept_word(f, header::SYMBOL_SET_AT) == r.symbol_set);
+    let fixed = kept_byte(f, header::SPACING_AT) == 0;
     let spacing = miss(fixed == (r.spacing == 0));
     let pitch = pitch_number(fixed, r.pitch, compared_pitch(f));
     (set * 2 + spacing) * PITCH_BASE + pitch
@@ -282,7 +261,7 @@ fn minor_of(f: &[u8], r: Request) -> u64
     let weight = weight_of(f, r);
     let typeface = miss(typeface_of(f) == r.typeface);
     let resolution = miss(is_fine(f));
-    let orientation = miss(kept_byte(f, ORIENTATION) == r.orientation);
+    let orientation = miss(kept_byte(f, header::ORIENTATION_AT) == r.orientation);
     let looks = ((height * 2 + style) * WEIGHT_BASE + weight) * 2 + typeface;
     (looks * 2 + resolution) * 2 + orientation
 }
@@ -310,7 +289,7 @@ fn takes_part(f: &[u8], r: Request) -> bool
     requires { ⌜ length (now f) ≡ headerBytes ⌝ }
     ensures { λ b. ⌜ ((n : ℕ) → b ≡ takesPart r (record { number = n; kept = now (f .entry) })) ⌝ }
 {
-    let set = kept_word(f, SYMBOL_SET);
+    let set = kept_word(f, header::SYMBOL_SET_AT);
     ((set == r.symbol_set) | (set == ROMAN_8)) & in_mode(f, r)
 }
 
@@ -340,7 +319,7 @@ fn weigh(best: Score, f: &[u8], number: u32, r: Request) -> Score
 
 // The best of the fonts from a place of the store on, in one pass.
 fn scan(s: &[u8], from: usize, r: Request) -> Score
-    requires { ⌜ Place (now s) from × (inRange r ≡ true) ⌝ }
+    requires { ⌜ RecordPlace (now s) from × (inRange r ≡ true) ⌝ }
     ensures { λ b. ⌜ b ≡ pass r noScore (fontsAt (now (s .entry)) from) ⌝ }
 {
     let mut best = Score {
@@ -350,10 +329,10 @@ fn scan(s: &[u8], from: usize, r: Request) -> Score
     };
     let mut at = from;
     loop {
-        let Next::Font { number, kept, next } = store::kept_fonts::next_font(s, at) else {
+        let NextFont::Font { number, kept, next } = store::kept_fonts::next_font(s, at) else {
             return best;
         };
-        let end = kept + KEPT;
+        let end = kept + header::KEPT;
         best = weigh(best, &s[kept..end], number, r);
         at = next;
     }

@@ -12,13 +12,13 @@ use Rattle.store.specs.Layout.{fontRecord}
 use Rattle.store.specs.Model.{Rec, Store, font, character, split, sizeOf, total, decode}
 use Rattle.store.specs.Answer.{toldOf}
 use Rattle.store.specs.Calls.{tellingFont}
-use Rattle.store.specs.Records.{isStore, isSome, recordsIn, recordsAt, recordsBy, Place, Begun}
+use Rattle.store.specs.Records.{isStore, isSome, recordsIn, recordsAt, recordsBy, RecordPlace, Begun}
 use Rattle.store.specs.Fonts.{fontsIn, fontsAt, fontsOf, Onward}
 use Rattle.store.specs.declared.telling.Told.{Told}
 use Rattle.store.specs.declared.records.Begin.{Begin}
 use Rattle.store.specs.declared.records.Begin.the-variants.{At, NotStore}
-use Rattle.store.specs.declared.kept_fonts.Next.{Next}
-use Rattle.store.specs.declared.kept_fonts.Next.the-variants.{Font as found, End}
+use Rattle.store.specs.declared.kept_fonts.NextFont.{NextFont}
+use Rattle.store.specs.declared.kept_fonts.NextFont.the-variants.{Font as found, End}
 use Rattle.store.proofs.RecordBytes.{head-inv}
 use Rattle.store.proofs.RecordRuns.{Standing, at-end, at-record, stands-at, headed-size}
 use Rattle.store.proofs.KeptFonts.{fonts-begun}
@@ -85,7 +85,7 @@ fonts-total [] = omega arith
 fonts-total (font n h ∷ rs) = omega (arith, fonts-total rs)
 fonts-total (character n c h d ∷ rs) = omega (arith, fonts-total rs)
 
-pub fonts-fit : (s : List ℕ) (at : ℕ) → Place s at → fontRecord * length (fontsAt s at) ≤ length s
+pub fonts-fit : (s : List ℕ) (at : ℕ) → RecordPlace s at → fontRecord * length (fontsAt s at) ≤ length s
 unfolding fontsAt recordsAt
 fonts-fit s at p = rw (p .is) (omega (arith, fonts-total (p .recs), run-fits (p .recs) (drop at s) (p .is), length-drop at s))
 
@@ -96,11 +96,11 @@ pub record Listed (s : List ℕ) (from : ℕ) (o : List ℕ) (at p : ℕ) (out :
   pub left : text ++ lines s (fontsAt s p) ≡ lines s (fontsAt s from)
   pub room : to + 65 * length (fontsAt s p) ≤ at + length s
 
-pub listed-none : (s : List ℕ) (from : ℕ) (o : List ℕ) (at : ℕ) → at + length s ≤ length o → Place s from → Listed s from o at from o at
+pub listed-none : (s : List ℕ) (from : ℕ) (o : List ℕ) (at : ℕ) → at + length s ≤ length o → RecordPlace s from → Listed s from o at from o at
 listed-none s from o at h p =
     record { text = []; wrote = wrote-none o at (omega arith); left = refl; room = omega (arith, fonts-fit s from p) }
 
-module _ (s : List ℕ) (from : ℕ) (o : List ℕ) (at p : ℕ) (out : List ℕ) (to : ℕ) (x : Listed s from o at p out to) (v : Next) (h : Onward s p v) where
+module _ (s : List ℕ) (from : ℕ) (o : List ℕ) (at p : ℕ) (out : List ℕ) (to : ℕ) (x : Listed s from o at p out to) (v : NextFont) (h : Onward s p v) where
   pub listed-all : v ≡ End → Wrote o at (lines s (fontsAt s from)) to out
   unfolding lines
   listed-all e =
@@ -143,7 +143,7 @@ module _ (s : List ℕ) (v : Begin) (h : Begun s v) where
     begun : Begun s (At p)
     begun = rw e at h
 
-    pub begins-at : Place s p
+    pub begins-at : RecordPlace s p
     begins-at = begun .1
 
     pub wrote-begun : (o out : List ℕ) (at end : ℕ) → Wrote o at (lines s (fontsAt s p)) end out → Wrote o at (lines s (fontsOf s)) end out

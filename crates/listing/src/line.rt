@@ -9,6 +9,8 @@ ghost use Rattle.listing.specs.Line.{wordFrom, measures, looks, line, fo
 use crate::column::write_column;
 use crate::column::write_short;
 use crate::column::write_signed;
+use blocks::header;
+use blocks::header::KEPT;
 use store::fonts;
 
 fn wide(x: u8) -> usize
@@ -18,7 +20,7 @@ fn wide(x: u8) -> usize
 }
 
 // A kept byte.
-fn byte(k: &[u8; 68], i: usize) -> usize
+fn byte(k: &[u8; KEPT], i: usize) -> usize
     requires { ⌜ i < headerBytes ⌝ }
     ensures { λ r. ⌜ (r ≡ byteOf (now (k .entry)) i) × (r < 256) ⌝ }
 {
@@ -26,38 +28,56 @@ fn byte(k: &[u8; 68], i: usize) -> usize
 }
 
 // Two kept bytes, high and low.
-fn word(k: &[u8; 68], hi: usize, lo: usize) -> usize
+fn word(k: &[u8; KEPT], hi: usize, lo: usize) -> usize
     requires { ⌜ (hi < headerBytes) × (lo < headerBytes) ⌝ }
     ensures { λ r. ⌜ (r ≡ wordFrom (now (k .entry)) hi lo) × (r < 65536) ⌝ }
 {
     byte(k, hi) * 256 + byte(k, lo)
 }
 
+// A field of two kept bytes.
+fn word_at(k: &[u8; KEPT], at: usize) -> usize
+    requires { ⌜ at + 1 < headerBytes ⌝ }
+    ensures { λ r. ⌜ (r ≡ wordFrom (now (k .entry)) at (at + 1)) × (r < 65536) ⌝ }
+{
+    word(k, at, at + 1)
+}
+
 // Symbol set, spacing, pitch and height.
-fn write_measures(out: &mut [u8], at: usize, k: &[u8; 68]) -> usize
+fn write_measures(out: &mut [u8], at: usize, k: &[u8; KEPT]) -> usize
     requires { ⌜ at + 24 ≤ length (now out) ⌝ }
     ensures { λ r. ⌜ Wrote (now (out .entry)) at (measures (now (k .entry))) r (now (out .exit)) ⌝ }
     ensures { λ r. ⌜ r ≤ at + 24 ⌝ }
 {
-    let spacing = write_short(out, at, word(k, 14, 15), b' ');
-    let pitch = write_short(out, spacing, byte(k, 13), b' ');
-    let height = write_short(out, pitch, word(k, 16, 17), b' ');
-    write_short(out, height, word(k, 18, 19), b' ')
+    let spacing = write_short(out, at, word_at(k, header::SYMBOL_SET_AT), b' ');
+    let pitch = write_short(out, spacing, byte(k, header::SPACING_AT), b' ');
+    let height = write_short(out, pitch, word_at(k, header::PITCH_AT), b' ');
+    write_short(out, height, word_at(k, header::HEIGHT_AT), b' ')
 }
 
 // Style, weight and typeface.
-fn write_looks(out: &mut [u8], at: usize, k: &[u8; 68]) -> usize
+fn write_looks(out: &mut [u8], at: usize, k: &[u8; KEPT]) -> usize
     requires { ⌜ at + 19 ≤ length (now out) ⌝ }
     ensures { λ r. ⌜ Wrote (now (out .entry)) at (looks (now (k .entry))) r (now (out .exit)) ⌝ }
     ensures { λ r. ⌜ r ≤ at + 19 ⌝ }
 {
-    let weight = write_short(out, at, word(k, 4, 23), b' ');
-    let face = write_signed(out, weight, k[24], b' ');
-    write_short(out, face, word(k, 26, 25), b' ')
+    let weight = write_short(
+        out,
+        at,
+        word(k, header::STYLE_HIGH_AT, header::STYLE_LOW_AT),
+        b' ',
+    );
+    let face = write_signed(out, weight, k[header::STROKE_WEIGHT_AT], b' ');
+    write_short(
+        out,
+        face,
+        word(k, header::TYPEFACE_HIGH_AT, header::TYPEFACE_LOW_AT),
+        b' ',
+    )
 }
 
 // The line of the font with this number, these kept bytes and so many characters.
-fn write_line(out: &mut [u8], at: usize, number: u32, k: &[u8; 68], characters: u32) -> usize
+fn write_line(out: &mut [u8], at: usize, number: u32, k: &[u8; KEPT], characters: u32) -> usize
     requires { ⌜ at + 65 ≤ length (now out) ⌝ }
     ensures { λ r. ⌜ Wrote (now (out .entry)) at (line number (now (k .entry)) characters) r (now (out .exit)) ⌝ }
     ensures { λ r. ⌜ r ≤ at + 65 ⌝ }
@@ -74,7 +94,7 @@ pub fn write_font(out: &mut [u8], at: usize, s: &[u8], number: u32) -> usize
     ensures { λ r. ⌜ Wrote (now (out .entry)) at (fontLine (now (s .entry)) number) r (now (out .exit)) ⌝ }
     ensures { λ r. ⌜ r ≤ at + 65 ⌝ }
 {
-    let mut kept = [0u8; 68];
+    let mut kept = [0u8; KEPT];
     let told = fonts::tell_font(s, &mut kept, number);
     write_line(out, at, number, &kept, told.count)
 }

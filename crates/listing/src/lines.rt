@@ -1,26 +1,26 @@
 // The lines of a store's fonts, by rising number.
 ghost use Prim.Native.Nat.{_+_, _≤_};
 ghost use lib.ListN.{length};
-ghost use Rattle.store.specs.Records.{Place};
+ghost use Rattle.store.specs.Records.{RecordPlace};
 ghost use Rattle.store.specs.Fonts.{fontsAt, fontsOf};
 ghost use Rattle.listing.specs.Wrote.{Wrote};
 ghost use Rattle.listing.specs.Line.{lines};
 use crate::line::write_font;
 use store::kept_fonts;
-use store::kept_fonts::Next;
+use store::kept_fonts::NextFont;
 use store::records;
 use store::records::Begin;
 
 // Those from a place of the store on. A line is shorter than the record of its font, so that the store's length is room enough.
 fn write_from(out: &mut [u8], at: usize, s: &[u8], from: usize) -> usize
-    requires { ⌜ (at + length (now s) ≤ length (now out)) × Place (now s) from ⌝ }
+    requires { ⌜ (at + length (now s) ≤ length (now out)) × RecordPlace (now s) from ⌝ }
     ensures { λ r. ⌜ Wrote (now (out .entry)) at (lines (now (s .entry)) (fontsAt (now (s .entry)) from)) r (now (out .exit)) ⌝ }
     ensures { λ r. ⌜ r ≤ at + length (now (s .entry)) ⌝ }
 {
     let mut to = at;
     let mut place = from;
     loop {
-        let Next::Font {
+        let NextFont::Font {
             number,
             kept: _,
             next,

@@ -16,10 +16,10 @@ use Rattle.blocks.specs.declared.character.Kind.{Kind}
 use Rattle.blocks.specs.declared.character.Kind.the-variants.{First, Continuation, Unknown}
 use Rattle.pictures.specs.declared.picture.Judged.{Judged}
 use Rattle.pictures.specs.declared.picture.Judged.the-variants.{Complete, Incomplete, PastWidth}
-use Rattle.store.specs.Layout.{leastStore, mostStore, lastFont, keyOf}
+use Rattle.store.specs.Layout.{leastStore, mostStore, lastFont}
 use Rattle.store.specs.Num.{_&_}
 use Rattle.store.specs.Model.{Rec, Store, decode}
-use Rattle.store.specs.Order.{find}
+use Rattle.store.specs.Order.{fontAt, characterAt}
 use Rattle.store.specs.Answer.{onStore, checked, taking, finding, numbered, onFont, onCharacter, After, refuse, done, Telling, untold}
 use Rattle.store.specs.Records.{isStore}
 use Rattle.store.specs.Calls.{used, makingFresh, putFont, removingFont, downloadingFont, removingCharacter, keptOf, dataOf, tellingFont, tellingCharacter}
@@ -71,10 +71,10 @@ module _ {c : Call} {s : List ℕ} {A : Type 0} (w : Way c s A) where
   by-check true k a m p = p
   by-check false k a m p = refused k m
 
-  by-find : (o : Option Rec) (k : ℕ) (f : Rec → A) → May k → ((r : Rec) → Is (f r)) → Is (finding (w .refuse) o k f)
+  by-find : (o : Option Rec) (k : ℕ) (f : Rec → A) → May k → ((r : Rec) → o ≡ some r → Is (f r)) → Is (finding (w .refuse) o k f)
   unfolding finding
   by-find none k f m g = refused k m
-  by-find (some r) k f m g = g r
+  by-find (some r) k f m g = g r refl
 
   -- each check of a list refuses with a listed number
   abbrev Listed : List Check → Type 0
@@ -92,12 +92,12 @@ module _ {c : Call} {s : List ℕ} {A : Type 0} (w : Way c s A) where
   -- a call on a kept font, or on a kept character
   by-font : (n : ℕ) (f : Store → Rec → A) → May 1 × May 2 × May 6 → ((st : Store) (r : Rec) → Is (f st r)) → Is (onFont (w .refuse) n s f)
   unfolding onFont
-  by-font n f m g = by-store (decode s) _ (m .0) (λ st e. by-check (leb n lastFont) 2 _ (m .1) (by-find (find (keyOf n 0) (st .recs)) 6 (f st) (m .2) (g st)))
+  by-font n f m g = by-store (decode s) _ (m .0) (λ st e. by-check (leb n lastFont) 2 _ (m .1) (by-find (fontAt n (st .recs)) 6 (f st) (m .2) (λ r q. g st r)))
 
   by-character : (n k : ℕ) (f : Store → Rec → A) → May 1 × May 2 × May 6 × May 7 → ((st : Store) (r : Rec) → Is (f st r)) → Is (onCharacter (w .refuse) n k s f)
   unfolding onCharacter
   by-character n k f m g = by-store (decode s) _ (m .0) (λ st e. by-check (numbered n k) 2 _ (m .1)
-      (by-find (find (keyOf n 0) (st .recs)) 6 _ (m .2) (λ r. by-find (find (keyOf n (k + 1)) (st .recs)) 7 (f st) (m .3) (g st))))
+      (by-find (fontAt n (st .recs)) 6 _ (m .2) (λ r q. by-find (characterAt n k (st .recs)) 7 (f st) (m .3) (λ x p. g st x))))
 
 -- ── the calls
 abbrev Claim : Call → List ℕ → Type 0
@@ -207,16 +207,16 @@ module _ (n c : ℕ) (b s : List ℕ) where
 
   module _ (st : Store) (e : decode s ≡ some st) where
     -- 8, 9 and 10
-    received : (h d : List ℕ)
+    received : (r : Rec) → fontAt n (st .recs) ≡ some r → (h d : List ℕ)
         → Is sent (taking (refuse s) (withinWidth (judgedOf h d)) (checked (refuse s) (leb (length (keptOfData h d)) dataLimit) 9
         (checked (withoutFont n st) (leb (used (putCharacter n c h (keptOfData h d) st)) (st .size)) 10 (done (putCharacter n c h (keptOfData h d) st)))))
     unfolding listed sent
-    received h d =
+    received r q h d =
         within (judgedOf h d) _ (by-check sent (leb (length (keptOfData h d)) dataLimit) 9 _ refl (placed (leb (used (putCharacter n c h (keptOfData h d) st)) (st .size)) (putCharacter n c h (keptOfData h d) st)))
       where
         placed : (t : Bool) (u : Store) → Is sent (checked (withoutFont n st) t 10 (done u))
         placed true u = inl refl
-        placed false u = inr (no-room n c b st e)
+        placed false u = inr (no-room n c b st r e q)
 
         within : (j : Judged) (a : After) → Is sent a → Is sent (taking (refuse s) (withinWidth j) a)
         within (Complete m) a p = p
@@ -234,10 +234,10 @@ module _ (n c : ℕ) (b s : List ℕ) where
   unfolding listed sent downloadingCharacter readFirst
   downloads-character =
       by-store sent (decode s) _ refl (λ st e. by-check sent (numbered n c) 2 _ refl (by-check sent (characterLength b) 3 _ refl
-      (by-find sent (find (keyOf n 0) (st .recs)) 6 _ refl (λ r. by-kind st e (kindOf b) _ _ _
-      (by-verdict sent (firstChecks b (orientation (keptOf r))) _ (refl, (refl, (refl, (refl, tt)))) (received st e (keptFirst b) (drop descriptorBytes b)))
+      (by-find sent (fontAt n (st .recs)) 6 _ refl (λ r q. by-kind st e (kindOf b) _ _ _
+      (by-verdict sent (firstChecks b (orientation (keptOf r))) _ (refl, (refl, (refl, (refl, tt)))) (received st e r q (keptFirst b) (drop descriptorBytes b)))
       (by-check sent (names n c (st .mark)) 7 _ refl
-      (by-find sent (find (keyOf n (c + 1)) (st .recs)) 7 _ refl (λ r. received st e (keptOf r) (dataOf r ++ drop continuationBytes b))))))))
+      (by-find sent (characterAt n c (st .recs)) 7 _ refl (λ x p. received st e r q (keptOf x) (dataOf x ++ drop continuationBytes b))))))))
 
 -- ── a stream
 reads : (b s : List ℕ) → Claim (read-stream b) s

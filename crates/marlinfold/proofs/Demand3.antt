@@ -268,6 +268,4 @@ held s i = go (decode s) refl (unfold isStore in i)
     go (some st) q z = counts-true s st q
 
 pub held-counts : HeldCounts
-held-counts c s i =
-    let k : isStore (leaves c s) ≡ true = rw (single-ran c s) at (call-kept c s (fontsOf s) (i, refl) .0) in
-    (k, held (leaves c s) k)
+held-counts c s = (λ i. rw (single-ran c s) at (call-kept c s (fontsOf s) (i, refl) .0), held (leaves c s))

@@ -8,7 +8,8 @@ use mathlib.Core.Bool.{Bool, true, false, _||_}
 use mathlib.Core.Option.{some}
 use lib.Dec.{eqb}
 use lib.ListN.{length, take, getD, replicate}
-use Rattle.store.specs.Model.{Store, encode, decode}
+use Rattle.store.specs.Model.{Rec, Store, encode, decode}
+use Rattle.store.specs.Order.{fontAt}
 use Rattle.store.specs.Records.{isStore, CountsTrue}
 use Rattle.store.specs.Fonts.{Font}
 use Rattle.store.specs.Calls.{removeFont}
@@ -97,7 +98,7 @@ pub data Refusal (s : List ℕ) : Call → Outcome → Type 0 where
   as-listed : (c : Call) (k : ℕ) → isIn k (listed c) ≡ true → Refusal s c (unchanged c k s)
   -- 10, "character block: its font and all its characters removed"
   no-room :
-      (n c : ℕ) (b : List ℕ) (st : Store) → decode s ≡ some st
+      (n c : ℕ) (b : List ℕ) (st : Store) (r : Rec) → decode s ≡ some st → fontAt n (st .recs) ≡ some r
       → Refusal s (download-character n c b) (answered 10 [] (encode (removeFont n st)) [])
   -- 13, "commands before it stay done"; it "gives its place and the counts so far"
   broken :
@@ -194,6 +195,7 @@ SheetBySingles =
     (getD sheet (2 * i) 0 ≡ getD (choice .numbers) 0 0) × (getD sheet (2 * i + 1) 0 ≡ choice .refusal)
 
 -- ── W-205: "Every download, replacement, continuation and removal, also the one for lack of room, keeps both equal to a fresh count."
--- for every call, reading a stream among them, on every store: what it leaves is a store, whose fonts hold true counts
+-- for every call, reading a stream among them: on a store it leaves a store; and wherever it leaves one, as making fresh does of any buffer of an
+-- allowed length, the fonts hold true counts
 abbrev pub HeldCounts : Type 0
-HeldCounts = (c : Call) (s : List ℕ) → isStore s ≡ true → (isStore (leaves c s) ≡ true) × CountsTrue (leaves c s)
+HeldCounts = (c : Call) (s : List ℕ) → (isStore s ≡ true → isStore (leaves c s) ≡ true) × (isStore (leaves c s) ≡ true → CountsTrue (leaves c s))

@@ -10,7 +10,7 @@ use borrow.Author.Tests.{le-leb, lt-leb, leb-true, leb-false, ltb-true, ltb-fals
 use lib.Dec.{ltb, leb, eqb}
 use lib.ListN.{length, replicate, length-append, length-replicate}
 use Rattle.pictures.specs.Runs.{fillRow, endRow, placeOf, stepRun, scanFrom, start, onStep, onFill}
-use Rattle.pictures.specs.Rows.{rowsFrom, rowsDrawn, At, count, inRow}
+use Rattle.pictures.specs.Rows.{rowsFrom, rowsDrawn, RowPlace, count, inRow}
 use Rattle.pictures.specs.declared.runs.Place.the-variants.{Count, Finished}
 use Rattle.pictures.specs.declared.runs.Reader.{Reader}
 use Rattle.pictures.specs.declared.runs.Filled.{Filled}
@@ -28,7 +28,7 @@ isComplete (Open s) = false
 isComplete (PastWidth r f b) = false
 
 -- the reader's state at a place among the rows
-abbrev readerAt : ℕ → At → Reader
+abbrev readerAt : ℕ → RowPlace → Reader
 readerAt row count = record { row = row; repeat = 0; at = Count }
 readerAt row (inRow r ds c) = record { row = row; repeat = r; at = placeOf c (length ds) }
 
@@ -69,7 +69,7 @@ part-fits w f b m e = fits-by w f b m (ltb w (f + b)) (eqb (f + b) w) refl e
 
 module _ (w h : ℕ) where
   abbrev Agrees : List ℕ → Type 0
-  Agrees xs = (n row : ℕ) (p : At) → row < h → isComplete (scanFrom w h n (readerAt row p) xs) ≡ leb h (row + length (rowsFrom w p xs))
+  Agrees xs = (n row : ℕ) (p : RowPlace) → row < h → isComplete (scanFrom w h n (readerAt row p) xs) ≡ leb h (row + length (rowsFrom w p xs))
 
   -- a whole row
   ended : (xs : List ℕ) → Agrees xs → (n row r : ℕ) (ds : List Bool) (t : Bool) → leb h (row + 1 + r) ≡ t
@@ -112,15 +112,15 @@ module _ (w h : ℕ) where
 
   -- ---- a run past the width
   -- how many rows data draws from a place on, below the first ones
-  abbrev drawnFrom : ℕ → At → List ℕ → ℕ
+  abbrev drawnFrom : ℕ → RowPlace → List ℕ → ℕ
   drawnFrom row p xs = row + length (rowsFrom w p xs)
 
-  abbrev Fits : At → Type 0
+  abbrev Fits : RowPlace → Type 0
   Fits count = Unit
   Fits (inRow r ds c) = length ds ≤ w
 
   abbrev PastOf : List ℕ → Type 0
-  PastOf xs = (n row q f b : ℕ) (p : At) → row < h → Fits p → scanFrom w h n (readerAt row p) xs ≡ PastWidth q f b → PastRun (drawnFrom row p) w h xs q f b
+  PastOf xs = (n row q f b : ℕ) (p : RowPlace) → row < h → Fits p → scanFrom w h n (readerAt row p) xs ≡ PastWidth q f b → PastRun (drawnFrom row p) w h xs q f b
 
   -- one byte more before it
   shift : (g g′ : List ℕ → ℕ) (a : ℕ) (xs : List ℕ) (q f b : ℕ) → ((x : List ℕ) → g x ≡ g′ (a ∷ x)) → PastRun g w h xs q f b → PastRun g′ w h (a ∷ xs) q f b
@@ -155,7 +155,7 @@ module _ (w h : ℕ) where
   unfolding rowsFrom
   drawn-count row a x = refl
 
-  drawn-none : (row : ℕ) (p : At) → drawnFrom row p [] ≡ row
+  drawn-none : (row : ℕ) (p : RowPlace) → drawnFrom row p [] ≡ row
   unfolding rowsFrom
   drawn-none row p = add-zero row
 
@@ -228,7 +228,7 @@ module _ (w h : ℕ) where
 
   -- ---- and where the rows say so, the scan finds it
   abbrev FoundIn : List ℕ → Type 0
-  FoundIn xs = (n row q f b : ℕ) (p : At) (ys : List ℕ) → drawnFrom row p xs ≡ q → q < h → f ≤ w → w < f + b → q < drawnFrom row p (xs ++ ((w - f) ∷ []))
+  FoundIn xs = (n row q f b : ℕ) (p : RowPlace) (ys : List ℕ) → drawnFrom row p xs ≡ q → q < h → f ≤ w → w < f + b → q < drawnFrom row p (xs ++ ((w - f) ∷ []))
       → scanFrom w h n (readerAt row p) (xs ++ (b ∷ ys)) ≡ PastWidth q f b
 
   -- the run that would end the row tells the dots filled

@@ -8,7 +8,7 @@ use native.Mathlib.Omega.{arith}
 use lib.ListN.{length, drop, getD, replicate, drop-of-length-le, length-replicate, getD-replicate, List·getD-append, length-drop}
 use lib.Seq.{drop-cons, drop-drop, getD-append-add}
 use Rattle.pictures.specs.Runs.{fillRow, onFill}
-use Rattle.pictures.specs.Rows.{rowsFrom, runsRow, At, count, inRow}
+use Rattle.pictures.specs.Rows.{rowsFrom, runsRow, RowPlace, count, inRow}
 use Rattle.pictures.specs.Drawing.{Read, none, whole, readLine, lineFrom, lineOf, dotsOf}
 use Rattle.pictures.specs.declared.compressed.Line.the-variants.{Ends, Unfinished}
 use Rattle.pictures.specs.declared.runs.Filled.{Filled}
@@ -108,7 +108,7 @@ prefix-by w xs ys r ds Whole l m p q = (p .0, rw (p .1) (sym (append-assoc (repl
 prefix-by w xs ys r ds (Part n) l m p q = q
 
 -- the rows of data are the first rows of more
-rows-prefix : (w : ℕ) (xs ys : List ℕ) (p : At) → (zs : List (List Bool)) × (rowsFrom w p (xs ++ ys) ≡ rowsFrom w p xs ++ zs)
+rows-prefix : (w : ℕ) (xs ys : List ℕ) (p : RowPlace) → (zs : List (List Bool)) × (rowsFrom w p (xs ++ ys) ≡ rowsFrom w p xs ++ zs)
 unfolding rowsFrom
 rows-prefix w [] ys p = (rowsFrom w p ys, refl)
 rows-prefix w (b ∷ xs) ys count = rows-prefix w xs ys (inRow b [] false)

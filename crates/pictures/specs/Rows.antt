@@ -13,14 +13,14 @@ unfoldable pub bitmapRow : ℕ → List ℕ → ℕ → List Bool
 bitmapRow w d t = take w (unpack (drop (t * rowSize w) d))
 
 -- where class 2 data is read: the next byte is a repeat count, or a run, black or not, of a row that has these repeats and these dots so far
-pub data At : Type 0 where
-  count : At
-  inRow : ℕ → List Bool → Bool → At
+pub data RowPlace : Type 0 where
+  count : RowPlace
+  inRow : ℕ → List Bool → Bool → RowPlace
 
 -- "Class 2: a repeat count, then white and black runs in turn, white first, each one byte, until they sum to the width; the row is drawn once
 -- and then as often again as the count says." The rows of the data, from the top, each a list of its dots. "A row unfinished at the end of
 -- data isn't drawn", nor is anything from a run past the width on.
-unfoldable pub rowsFrom : ℕ → At → List ℕ → List (List Bool)
+unfoldable pub rowsFrom : ℕ → RowPlace → List ℕ → List (List Bool)
 rowsFrom w p [] = []
 rowsFrom w count (b ∷ xs) = rowsFrom w (inRow b [] false) xs
 rowsFrom w (inRow r ds c) (b ∷ xs) =

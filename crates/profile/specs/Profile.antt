@@ -13,9 +13,9 @@ use Rattle.blocks.specs.Header.{fontType, spacing, cellWidth, cellHeight, pitch
 use Rattle.blocks.specs.Character.{leftOffset, width, height, deltaX}
 use Rattle.pictures.specs.declared.picture.Held.{Held}
 use Rattle.pictures.specs.declared.picture.Held.the-variants.{Whole, Unfinished, Foreign}
-use Rattle.store.specs.Layout.{lastCode, keyOf}
+use Rattle.store.specs.Layout.{lastCode}
 use Rattle.store.specs.Model.{Rec, heldOf}
-use Rattle.store.specs.Order.{find}
+use Rattle.store.specs.Order.{characterAt}
 use Rattle.store.specs.Answer.{checked, onFont}
 use Rattle.store.specs.Calls.{keptOf, dataOf}
 use Rattle.stream.specs.Written.{WriteOut, unwritten, written, writingBytes}
@@ -108,7 +108,7 @@ firstBroken (t ∷ ts) i h at = brokenOr i (lowestBreaking (λ c. t h c (at c)) 
 
 -- of font n with the header h among the records of a store
 unfoldable pub brokenIn : ℕ → List ℕ → List Rec → RuleBroken
-brokenIn n h rs = firstBroken rules 1 h (λ c. find (keyOf n (c + 1)) rs)
+brokenIn n h rs = firstBroken rules 1 h (λ c. characterAt n c rs)
 
 -- ── the calls
 -- "A refusal answers 0 for every other number"
@@ -141,8 +141,8 @@ pub record Simple (h k : List ℕ) : Type 0 where
 pub record Meets (n : ℕ) (h : List ℕ) (rs : List Rec) : Type 0 where
   pub plain : fontType h ≡ 0
   pub fixed : spacing h ≡ 0
-  pub present : (c : ℕ) → firstRequired ≤ c → c ≤ lastRequired → (r : Rec) × (find (keyOf n (c + 1)) rs ≡ some r) × (heldOf (keptOf r) (dataOf r) ≡ Whole)
-  pub simple : (c : ℕ) (r : Rec) → c ≤ lastCode → find (keyOf n (c + 1)) rs ≡ some r → Simple h (keptOf r)
+  pub present : (c : ℕ) → firstRequired ≤ c → c ≤ lastRequired → (r : Rec) × (characterAt n c rs ≡ some r) × (heldOf (keptOf r) (dataOf r) ≡ Whole)
+  pub simple : (c : ℕ) (r : Rec) → c ≤ lastCode → characterAt n c rs ≡ some r → Simple h (keptOf r)
 
 abbrev pub MeetsExactly : Type 0
 MeetsExactly = (n : ℕ) (h : List ℕ) (rs : List Rec) → (meets (brokenIn n h rs) ≡ true → Meets n h rs) × (Meets n h rs → brokenIn n h rs ≡ noneBroken)
@@ -163,4 +163,4 @@ pub record BreaksFirst (ts : List Rule) (i : ℕ) (h : List ℕ) (at : ℕ → O
   pub first : (j c : ℕ) → j < place → c ≤ lastCode → ruleAt ts j h c (at c) ≡ true
 
 abbrev pub FirstAndLowest : Type 0
-FirstAndLowest = (n : ℕ) (h : List ℕ) (rs : List Rec) → meets (brokenIn n h rs) ≡ false → BreaksFirst rules 1 h (λ c. find (keyOf n (c + 1)) rs) (brokenIn n h rs)
+FirstAndLowest = (n : ℕ) (h : List ℕ) (rs : List Rec) → meets (brokenIn n h rs) ≡ false → BreaksFirst rules 1 h (λ c. characterAt n c rs) (brokenIn n h rs)

@@ -7,7 +7,7 @@ ghost use Rattle.blocks.specs.Header.{headerBytes};
 ghost use Rattle.blocks.specs.Character.{descriptorBytes};
 ghost use Rattle.store.specs.Layout.{lastCode};
 ghost use Rattle.store.specs.Model.{Rec, heldOf};
-ghost use Rattle.store.specs.Records.{recordsAt, Place, MetAt, Between};
+ghost use Rattle.store.specs.Records.{recordsAt, RecordPlace, MetAt, Between};
 ghost use Rattle.profile.specs.Profile.{isWhole, noneBroken};
 ghost use Rattle.profile.specs.Pass.{nextWanted, behindCharacter, behindRecord, passedOver, nothingFound, foundBroken, brokenWith, brokenAmong};
 use crate::rules;
@@ -38,7 +38,7 @@ pub struct Findings {
 }
 
 // The findings behind a record, and the place behind it.
-struct Passed {
+struct RecordPassed {
     findings: Findings,
     next: usize,
 }
@@ -82,8 +82,8 @@ fn behind_character(h: &[u8], p: Findings, code: u32, k: &[u8], d: &[u8]) -> Fin
 }
 
 // Behind the record at a place of the run.
-fn pass_record(s: &[u8], h: &[u8], at: usize, p: Findings) -> Passed
-    requires { ⌜ Place (now s) at × (recordsAt (now s) at ≡ [] → ⊥) × (headerBytes ≤ length (now h)) ⌝ }
+fn pass_record(s: &[u8], h: &[u8], at: usize, p: Findings) -> RecordPassed
+    requires { ⌜ RecordPlace (now s) at × (recordsAt (now s) at ≡ [] → ⊥) × (headerBytes ≤ length (now h)) ⌝ }
     ensures { λ x. ⌜ ((r : Rec) × MetAt (now (s .entry)) at r (x .next) × (x .findings ≡ behindRecord (now (h .entry)) p r)) ⌝ }
 {
     match records::next_record(s, at) {
@@ -91,7 +91,7 @@ fn pass_record(s: &[u8], h: &[u8], at: usize, p: Findings) -> Passed
             number: _,
             kept: _,
             next,
-        } => Passed { findings: p, next },
+        } => RecordPassed { findings: p, next },
         Met::Character {
             number: _,
             code,
@@ -101,9 +101,9 @@ fn pass_record(s: &[u8], h: &[u8], at: usize, p: Findings) -> Passed
         } => {
             let end = kept + character::KEPT;
             let findings = behind_character(h, p, code, &s[kept..end], &s[bytes..next]);
-            Passed { findings, next }
+            RecordPassed { findings, next }
         }
-        Met::End => Passed {
+        Met::End => RecordPassed {
             findings: p,
             next: at,
         },

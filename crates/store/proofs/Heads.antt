@@ -16,7 +16,7 @@ use Rattle.blocks.specs.Character.{descriptorBytes}
 use Rattle.store.specs.Layout.{characterKeptAt, characterKind, characterRecord, codeAt, fontKeptAt, fontKind, fontOrientationAt, fontRecord, kindAt, lastCode, lastFont, numberAt}
 use Rattle.store.specs.Num.{_&_, field}
 use Rattle.store.specs.Model.{font, Under, under, allowed, heldOf, heldUnder, isKept, isUnfinished, unfinished, number, place, noCharacters, tallyIn, guard, headRec, sizeOf}
-use Rattle.store.specs.Walk.{headOf, heldIn, seen, Heading}
+use Rattle.store.specs.Walk.{headOf, tallyHeld, seen, Heading}
 use Rattle.store.specs.declared.walk.Head.the-variants.{End, Rec as HeadRec, Bad}
 use Rattle.store.proofs.Fields.{field-drop}
 use Rattle.store.proofs.RecordBytes.{cond-same, guard-none, held-kept}
@@ -64,7 +64,7 @@ module _ (u : Under) (s : List ℕ) (at : ℕ) where
         → headOf u (drop at s)
         ≡ cond (leb (field 2 (at + numberAt) s) lastFont & isKeptHeader (take headerBytes (drop fontKeptAt (drop at s))))
         (HeadRec (record { font = field 2 (at + numberAt) s; place = 0; len = fontRecord; orientation = getD s (at + fontOrientationAt) 0; unfinished = false; held = tallyIn (drop at s) })) Bad
-    unfolding headRec guard seen heldIn allowed number place sizeOf under unfinished
+    unfolding headRec guard seen tallyHeld allowed number place sizeOf under unfinished
     font-is k l =
         let o : getD (take headerBytes (drop fontKeptAt (drop at s))) orientationAt 0 ≡ getD s (at + fontOrientationAt) 0 = getD-take headerBytes (drop fontKeptAt (drop at s)) orientationAt 0 (omega arith) ∙ getD-drop fontKeptAt (drop at s) orientationAt 0 ∙ getD-drop at s fontOrientationAt 0 in
         here ∙ rw (fits, field-drop 2 kindAt at s, k, eq-eqb (field 4 0 (drop at s)) fontRecord (g .is ∙ l), field-drop 2 numberAt at s, o)
@@ -84,7 +84,7 @@ module _ (u : Under) (s : List ℕ) (at : ℕ) where
         → headOf u (drop at s)
         ≡ cond (eqb (u .owner) (field 2 (at + numberAt) s + 1) & leb (field 2 (at + numberAt) s) lastFont & leb (field 2 (at + codeAt) s) lastCode & isKept (heldUnder (u .orientation) descriptor picture))
         (HeadRec (record { font = field 2 (at + numberAt) s; place = field 2 (at + codeAt) s + 1; len = len; orientation = u .orientation; unfinished = isUnfinished (heldOf descriptor picture); held = noCharacters })) Bad
-    unfolding headRec guard seen heldIn allowed number place sizeOf under unfinished
+    unfolding headRec guard seen tallyHeld allowed number place sizeOf under unfinished
     char-is k l =
         let i : field 4 0 (drop at s) ≡ len = g .is in
         let m : characterRecord + length (take (len - characterRecord) (drop characterRecord (drop at s))) ≡ len = simp (length-take, length-drop) (omega (arith, g .fits)) in

@@ -14,7 +14,7 @@ use Rattle.store.specs.Model.{Rec, Mark, alone, sorted, noCharacters, ta
 use Rattle.store.proofs.Counts.{settled-counted}
 use Rattle.store.specs.Walk.{walkStart, queryFor, placesOf, placesFrom, tallied, walkedOver, walked, markSeen, surveyedOver, surveyed, inspected}
 use Rattle.store.specs.declared.walk.Places.{Places}
-use Rattle.store.specs.declared.walk.Walk.the-variants.{Run, Broken}
+use Rattle.store.specs.declared.walk.Walk.the-variants.{Run, NotStore}
 use Rattle.store.specs.declared.walk.MarkSeen.{MarkSeen}
 use Rattle.store.specs.declared.walk.MarkSeen.the-variants.{Shut, Open, Wrong}
 use Rattle.store.specs.declared.walk.Inspected.the-variants.{Found, NotStore}
@@ -72,7 +72,7 @@ module _ (n p m : ℕ) (must : Bool) (s : List ℕ) where
   unfolding walkedOver surveyedOver _&_
   surveyed-some rs w k e = rw (← (settled-counted s rs)) (go (sorted 0 alone rs & tallied noCharacters noCharacters s rs) e)
     where
-      go : (b : Bool) → cond b (Run (placesFrom (queryFor n p m) walkStart rs) (opened m rs)) Broken ≡ Run w k
+      go : (b : Bool) → cond b (Run (placesFrom (queryFor n p m) walkStart rs) (opened m rs)) NotStore ≡ Run w k
           → cond (b & (not must || opened m rs)) (Found (placesOf n p rs)) NotStore ≡ cond (not must || k) (Found w) NotStore
       go true e' =
           let a : placesFrom (queryFor n p m) walkStart rs ≡ w = cc in
@@ -80,11 +80,11 @@ module _ (n p m : ℕ) (must : Bool) (s : List ℕ) where
           rw (← b, ← a)
       go false e' = let z : _≡_ {A = ℕ} 0 1 = cc in absurd (omega arith)
 
-  surveyed-none : (rs : List Rec) → walkedOver (queryFor n p m) walkStart s (some rs) ≡ Broken → surveyedOver n p m must s (some rs) ≡ NotStore
+  surveyed-none : (rs : List Rec) → walkedOver (queryFor n p m) walkStart s (some rs) ≡ NotStore → surveyedOver n p m must s (some rs) ≡ NotStore
   unfolding walkedOver surveyedOver _&_
   surveyed-none rs e = rw (← (settled-counted s rs)) (go (sorted 0 alone rs & tallied noCharacters noCharacters s rs) e)
     where
-      go : (b : Bool) → cond b (Run (placesFrom (queryFor n p m) walkStart rs) (opened m rs)) Broken ≡ Broken → cond (b & (not must || opened m rs)) (Found (placesOf n p rs)) NotStore ≡ NotStore
+      go : (b : Bool) → cond b (Run (placesFrom (queryFor n p m) walkStart rs) (opened m rs)) NotStore ≡ NotStore → cond (b & (not must || opened m rs)) (Found (placesOf n p rs)) NotStore ≡ NotStore
       go true e' = let z : _≡_ {A = ℕ} 0 1 = cc in absurd (omega arith)
       go false e' = refl
 
@@ -95,10 +95,10 @@ module _ (n p m : ℕ) (must : Bool) (s : List ℕ) where
       go none e' = unfold walkedOver in let z : _≡_ {A = ℕ} 0 1 = cc in absurd (omega arith)
       go (some rs) e' = surveyed-some rs w k e'
 
-  pub surveyed-broken : walked (queryFor n p m) walkStart s ≡ Broken → surveyed n p m must s ≡ NotStore
+  pub surveyed-broken : walked (queryFor n p m) walkStart s ≡ NotStore → surveyed n p m must s ≡ NotStore
   surveyed-broken e = go (split s) e
     where
-      go : (o : Option (List Rec)) → walkedOver (queryFor n p m) walkStart s o ≡ Broken → surveyedOver n p m must s o ≡ NotStore
+      go : (o : Option (List Rec)) → walkedOver (queryFor n p m) walkStart s o ≡ NotStore → surveyedOver n p m must s o ≡ NotStore
       go none e' = unfold surveyedOver in refl
       go (some rs) e' = surveyed-none rs e'
 

@@ -10,13 +10,13 @@ use Rattle.blocks.specs.Header.{headerBytes}
 use Rattle.store.specs.Layout.{characterRecord, keysEach}
 use Rattle.store.specs.Num.{field}
 use Rattle.store.specs.Model.{Rec, font, character, Store, Under, under, alone, sorted, number, place, decode}
-use Rattle.store.specs.Records.{recordsIn, Place, Begun, FontMet, CharacterMet}
+use Rattle.store.specs.Records.{recordsIn, RecordPlace, Begun, FontMet, CharacterMet}
 use Rattle.store.specs.Fonts.{fontsIn, fontsOf, fontsAt, RisingFrom}
 use Rattle.store.specs.declared.records.Begin.the-variants.{At}
 use Rattle.store.proofs.Codec.{sorted-inv}
 use Rattle.store.proofs.RecordRuns.{records-short, records-zero, decoded}
 
-module _ (s : List ℕ) (at : ℕ) (p : Place s at) where
+module _ (s : List ℕ) (at : ℕ) (p : RecordPlace s at) where
   pub fonts-short : length s - at < characterRecord → fontsAt s at ≡ []
   unfolding fontsAt fontsIn
   fonts-short l = ap fontsIn (records-short s at p l)

@@ -10,7 +10,7 @@ use lib.Seq.{drop-drop}
 use Rattle.store.specs.Layout.{kindAt, numberAt, markRecord, leastStore, fontKind, fontRecord, fontKeptAt, characterRecord, characterKeptAt, codeAt}
 use Rattle.store.specs.Num.{field, allZero}
 use Rattle.store.specs.Model.{Rec, fontIn, characterIn, Store, under, alone, allowed, sorted, key, headRec, sizeOf, andThen, split, tallyOf, counted, markIn, decode, validOr}
-use Rattle.store.specs.Records.{isStore, recordsIn, recordsAt, Place, Begun, MetAt, fontFrom, FontMet, characterFrom, CharacterMet}
+use Rattle.store.specs.Records.{isStore, recordsIn, recordsAt, RecordPlace, Begun, MetAt, fontFrom, FontMet, characterFrom, CharacterMet}
 use Rattle.store.specs.declared.records.Begin.the-variants.{At}
 use Rattle.store.proofs.Numbers.{zeros-field, both-l, both-r}
 use Rattle.store.proofs.Fields.{field-drop}
@@ -41,7 +41,7 @@ headed-size s r (is-character f k l) =
     omega arith
 
 -- the place behind a record
-place-next : (s : List ℕ) (at : ℕ) (p : Place s at) (r : Rec) (ts : List Rec) → p .recs ≡ r ∷ ts → headRec (drop at s) ≡ some r → split (drop (sizeOf r) (drop at s)) ≡ some ts → Place s (at + sizeOf r)
+place-next : (s : List ℕ) (at : ℕ) (p : RecordPlace s at) (r : Rec) (ts : List Rec) → p .recs ≡ r ∷ ts → headRec (drop at s) ≡ some r → split (drop (sizeOf r) (drop at s)) ≡ some ts → RecordPlace s (at + sizeOf r)
 place-next s at p r ts e h q =
     let w = headed-size (drop at s) r (head-inv (drop at s) r h) in
     let o : sorted (p .least) (p .behind) (r ∷ ts) ≡ true = rw e at (p .order) in
@@ -67,7 +67,7 @@ character-in-at s at =
     let e : at + field 4 at s - (at + characterRecord) ≡ field 4 at s - characterRecord = omega arith in
     rw (drop-drop numberAt at s, drop-drop codeAt at s, drop-drop characterKeptAt at s, drop-drop characterRecord at s, e)
 
-module _ (s : List ℕ) (at : ℕ) (p : Place s at) where
+module _ (s : List ℕ) (at : ℕ) (p : RecordPlace s at) where
   records-are : (rs : List Rec) → p .recs ≡ rs → recordsAt s at ≡ rs
   unfolding recordsAt
   records-are rs e = rw (p .is, e)

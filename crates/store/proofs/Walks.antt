@@ -14,12 +14,12 @@ use Rattle.store.specs.Layout.{keyOf, characterRecord, lastFont}
 use Rattle.store.specs.Num.{_&_, field, allZero}
 use Rattle.store.specs.Model.{Rec, font, character, Under, under, allowed, sorted, unfinished, opened, number, place, key, noCharacters, oneMore, sameTally, headRec, sizeOf, total, consTo, andThen, split}
 use Rattle.store.specs.Order.{keep, below}
-use Rattle.store.specs.Walk.{heldIn, itemOf, seen, headOf, standing, countIf, heldBehind, metBehind, settled, behind, passed, placesFrom, tallied, walkedOver, walked, walkAfter, Within, Ahead}
+use Rattle.store.specs.Walk.{tallyHeld, itemOf, seen, headOf, standing, countIf, tallyBehind, metBehind, settled, behind, passed, placesFrom, tallied, walkedOver, walked, walkAfter, Within, Ahead}
 use Rattle.store.specs.declared.walk.Query.{Query}
 use Rattle.store.specs.declared.walk.Item.{Item}
 use Rattle.store.specs.declared.walk.Pos.{Pos}
 use Rattle.store.specs.declared.walk.Head.the-variants.{End, Rec as HeadRec, Bad}
-use Rattle.store.specs.declared.walk.Walk.the-variants.{Run, Broken}
+use Rattle.store.specs.declared.walk.Walk.the-variants.{Run, NotStore}
 use Rattle.store.specs.declared.walk.Step.the-variants.{Go, Stop}
 use Rattle.store.proofs.Numbers.{zeros-field}
 use Rattle.store.proofs.RecordBytes.{cond-same, shaped, allowed-char, zero-head, head-nonzero, Headed, is-font, is-character, head-inv}
@@ -115,8 +115,8 @@ places-more q p u s r rs =
 
 -- what fonts hold is true, record by record
 tallied-more : (p : Pos) (u : Under) (s : List ℕ) (r : Rec) (rs : List Rec)
-    → tallied (p .held) (p .met) s (r ∷ rs) ≡ settled p (itemOf u s r) & tallied (heldBehind p (itemOf u s r)) (metBehind p (itemOf u s r)) (drop (sizeOf r) s) rs
-unfolding tallied settled heldBehind metBehind heldIn place sizeOf _&_
+    → tallied (p .held) (p .met) s (r ∷ rs) ≡ settled p (itemOf u s r) & tallied (tallyBehind p (itemOf u s r)) (metBehind p (itemOf u s r)) (drop (sizeOf r) s) rs
+unfolding tallied settled tallyBehind metBehind tallyHeld place sizeOf _&_
 tallied-more p u s (font n h) rs = refl
 tallied-more p u s (character n c h d) rs =
     let e : eqb (c + 1) 0 ≡ false = ne-eqb (c + 1) 0 (λ q. omega arith) in
@@ -132,12 +132,12 @@ cond-step true false false e x y = refl
 cond-step false c d e x y = refl
 
 walked-cons : (q : Query) (p : Pos) (s : List ℕ) (r : Rec) (o : Option (List Rec)) → allowed (standing p) r ≡ true
-    → walkedOver q p s (consTo r o) ≡ cond (leb (p .key) (key r) & settled p (itemOf (standing p) s r)) (walkedOver q (behind q p (itemOf (standing p) s r)) (drop (sizeOf r) s) o) Broken
+    → walkedOver q p s (consTo r o) ≡ cond (leb (p .key) (key r) & settled p (itemOf (standing p) s r)) (walkedOver q (behind q p (itemOf (standing p) s r)) (drop (sizeOf r) s) o) NotStore
 unfolding walkedOver consTo sorted
-walked-cons q p s r none a = sym (cond-same (leb (p .key) (key r) & settled p (itemOf (standing p) s r)) Broken)
+walked-cons q p s r none a = sym (cond-same (leb (p .key) (key r) & settled p (itemOf (standing p) s r)) NotStore)
 walked-cons q p s r (some rs) a =
     let i = itemOf (standing p) s r in
-    rw (tallied-more p (standing p) s r rs, a, cond-step (leb (p .key) (key r)) (sorted (key r + 1) (under (standing p) r) rs) (settled p i) (tallied (heldBehind p i) (metBehind p i) (drop (sizeOf r) s) rs), places-more q p (standing p) s r rs, marked-more (p .marked) (q .mark) r rs)
+    rw (tallied-more p (standing p) s r rs, a, cond-step (leb (p .key) (key r)) (sorted (key r + 1) (under (standing p) r) rs) (settled p i) (tallied (tallyBehind p i) (metBehind p i) (drop (sizeOf r) s) rs), places-more q p (standing p) s r rs, marked-more (p .marked) (q .mark) r rs)
     (rw (under-is (standing p) r a))
 
 -- ── the end, a record, or neither
@@ -200,7 +200,7 @@ bad-seen u s e = go (ltb (length s) characterRecord) (eqb (field 4 0 s) 0) e
 
 module _ (q : Query) (p : Pos) where
   pub walked-end : (s : List ℕ) → headOf (standing p) s ≡ End
-      → walked q p s ≡ cond (sameTally (p .held) (p .met) && allZero s) (Run (record { used = p .at; lo = p .lo; from = p .from; to = p .to; hi = p .hi }) (p .marked)) Broken
+      → walked q p s ≡ cond (sameTally (p .held) (p .met) && allZero s) (Run (record { used = p .at; lo = p .lo; from = p .from; to = p .to; hi = p .hi }) (p .marked)) NotStore
   unfolding andThen walkedOver tallied sorted total keep opened
   walked-end s e =
       let w : split s ≡ cond (allZero s) (some []) none = split-eq s ∙ rw (end-none (standing p) s e) in
@@ -211,25 +211,25 @@ module _ (q : Query) (p : Pos) where
       or-false false = refl
 
       go : (t : Bool) → sameTally (p .held) (p .met) ≡ t → (b : Bool)
-          → walkedOver q p s (cond b (some []) none) ≡ cond (t && b) (Run (record { used = p .at; lo = p .lo; from = p .from; to = p .to; hi = p .hi }) (p .marked)) Broken
+          → walkedOver q p s (cond b (some []) none) ≡ cond (t && b) (Run (record { used = p .at; lo = p .lo; from = p .from; to = p .to; hi = p .hi }) (p .marked)) NotStore
       go true i true = unfold _&_ in rw i (simp (add-zero, or-false))
       go false i true = unfold _&_ in rw i
       go true i false = refl
       go false i false = refl
 
-  pub walked-bad : (s : List ℕ) → headOf (standing p) s ≡ Bad → walked q p s ≡ Broken
+  pub walked-bad : (s : List ℕ) → headOf (standing p) s ≡ Bad → walked q p s ≡ NotStore
   unfolding walkedOver seen consTo sorted _&_
   walked-bad s e = go (headRec s) refl
     where
-      refused : (r : Rec) (o : Option (List Rec)) → allowed (standing p) r ≡ false → walkedOver q p s (consTo r o) ≡ Broken
+      refused : (r : Rec) (o : Option (List Rec)) → allowed (standing p) r ≡ false → walkedOver q p s (consTo r o) ≡ NotStore
       refused r none x = refl
       refused r (some rs) x = rw x
 
-      unsound : (r : Rec) → headRec s ≡ some r → (b : Bool) → allowed (standing p) r ≡ b → walked q p s ≡ Broken
+      unsound : (r : Rec) → headRec s ≡ some r → (b : Bool) → allowed (standing p) r ≡ b → walked q p s ≡ NotStore
       unsound r h true x = let y : HeadRec (itemOf (standing p) s r) ≡ Bad = rw (h, x) at (bad-seen (standing p) s e) in cc
       unsound r h false x = ap (walkedOver q p s) (split-cons s r h) ∙ refused r (split (drop (sizeOf r) s)) x
 
-      go : (o : Option Rec) → headRec s ≡ o → walked q p s ≡ Broken
+      go : (o : Option Rec) → headRec s ≡ o → walked q p s ≡ NotStore
       go none h = rw (split-none s h (not-zero (standing p) s (λ x. let z : _≡_ {A = ℕ} 0 1 = cc in omega arith)))
       go (some r) h = unsound r h (allowed (standing p) r) refl
 
@@ -241,8 +241,8 @@ module _ (q : Query) (p : Pos) where
       let i = itemOf (standing p) t r in
       go (leb (p .key) (key r) & settled p i) ∙ sym (walked-cons q p t r (split (drop (sizeOf r) t)) o) ∙ ap (walkedOver q p t) (sym (split-cons t r h))
     where
-      go : (b : Bool) → walkAfter q s (cond b (Go (behind q p (itemOf (standing p) (drop (p .at) s) r))) (Stop Broken))
-          ≡ cond b (walkedOver q (behind q p (itemOf (standing p) (drop (p .at) s) r)) (drop (sizeOf r) (drop (p .at) s)) (split (drop (sizeOf r) (drop (p .at) s)))) Broken
+      go : (b : Bool) → walkAfter q s (cond b (Go (behind q p (itemOf (standing p) (drop (p .at) s) r))) (Stop NotStore))
+          ≡ cond b (walkedOver q (behind q p (itemOf (standing p) (drop (p .at) s) r)) (drop (sizeOf r) (drop (p .at) s)) (split (drop (sizeOf r) (drop (p .at) s)))) NotStore
       go true = rw (drop-drop (sizeOf r) (p .at) s)
       go false = refl
 
@@ -267,7 +267,7 @@ module _ (q : Query) (p : Pos) where
       met true = (omega arith, omega arith)
       met false = (omega arith, omega arith)
 
-      go : (b : Bool) → Ahead (length s) p (cond b (Go (behind q p i)) (Stop Broken))
+      go : (b : Bool) → Ahead (length s) p (cond b (Go (behind q p i)) (Stop NotStore))
       go true = (
         omega (arith, k),
         record {
@@ -283,11 +283,11 @@ module _ (q : Query) (p : Pos) where
       go false = tt
 
 -- ── passing a record, by its numbers
-pub pass-low : (q : Query) (p : Pos) (i : Item) → keyOf (i .font) (i .place) < p .key → passed q p i ≡ Stop Broken
+pub pass-low : (q : Query) (p : Pos) (i : Item) → keyOf (i .font) (i .place) < p .key → passed q p i ≡ Stop NotStore
 unfolding passed _&_
 pass-low q p i h = rw (lt-leb (p .key) (keyOf (i .font) (i .place)) h)
 
-pub pass-unsettled : (q : Query) (p : Pos) (i : Item) → p .key ≤ keyOf (i .font) (i .place) → settled p i ≡ false → passed q p i ≡ Stop Broken
+pub pass-unsettled : (q : Query) (p : Pos) (i : Item) → p .key ≤ keyOf (i .font) (i .place) → settled p i ≡ false → passed q p i ≡ Stop NotStore
 unfolding passed _&_
 pass-unsettled q p i h e = rw (le-leb (p .key) (keyOf (i .font) (i .place)) h, e)
 

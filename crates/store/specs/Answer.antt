@@ -6,9 +6,9 @@ use mathlib.Core.Option.{Option, none, some}
 use Rattle.blocks.specs.declared.Verdict.{Verdict}
 use Rattle.blocks.specs.declared.Verdict.the-variants.{Taken, Refused}
 use lib.Dec.{leb}
-use Rattle.store.specs.Layout.{lastFont, lastCode, keyOf}
+use Rattle.store.specs.Layout.{lastFont, lastCode}
 use Rattle.store.specs.Model.{Rec, Store, encode, decode}
-use Rattle.store.specs.Order.{find}
+use Rattle.store.specs.Order.{fontAt, characterAt}
 use Rattle.store.specs.declared.telling.Told.{Told}
 
 -- a store, else 1, "buffer not a store"
@@ -39,7 +39,7 @@ numbered n c = leb n lastFont && leb c lastCode
 unfoldable pub onFont : {A : Type 0} → (ℕ → A) → ℕ → List ℕ → (Store → Rec → A) → A
 onFont refuse n s f =
     onStore refuse (decode s)
-    (λ st. checked refuse (leb n lastFont) 2 (finding refuse (find (keyOf n 0) (st .recs)) 6 (f st)))
+    (λ st. checked refuse (leb n lastFont) 2 (finding refuse (fontAt n (st .recs)) 6 (f st)))
 
 -- a call on a kept character checks 1, 2, 6, 7
 unfoldable pub onCharacter : {A : Type 0} → (ℕ → A) → ℕ → ℕ → List ℕ → (Store → Rec → A) → A
@@ -47,8 +47,8 @@ onCharacter refuse n c s f =
     onStore refuse (decode s)
     (λ st.
     checked refuse (numbered n c) 2
-    (finding refuse (find (keyOf n 0) (st .recs)) 6
-    (λ r. finding refuse (find (keyOf n (c + 1)) (st .recs)) 7 (f st))))
+    (finding refuse (fontAt n (st .recs)) 6
+    (λ r. finding refuse (characterAt n c (st .recs)) 7 (f st))))
 
 -- what a call on a store answers, and the buffer afterwards
 pub record After : Type 0 where

@@ -14,10 +14,9 @@ use Rattle.blocks.specs.declared.character.Kind.{Kind}
 use Rattle.blocks.specs.declared.character.Kind.the-variants.{First, Continuation, Unknown}
 use Rattle.pictures.specs.declared.picture.Judged.{Judged}
 use Rattle.pictures.specs.declared.picture.Judged.the-variants.{Complete, Incomplete, PastWidth}
-use Rattle.store.specs.Layout.{keyOf}
 use Rattle.store.specs.Num.{_&_}
 use Rattle.store.specs.Model.{character, Mark, Store, heldOf, isUnfinished, encode, decode}
-use Rattle.store.specs.Order.{find}
+use Rattle.store.specs.Order.{fontAt, characterAt}
 use Rattle.store.specs.Answer.{onStore, checked, taking, finding, numbered, After, refuse, done}
 use Rattle.store.specs.Calls.{shut, used, removeFont, withCharacter, keptOf, dataOf}
 
@@ -69,7 +68,7 @@ downloadingCharacter n c b s =
     checked (refuse s) (numbered n c) 2
     -- "Length 2..32767, else 3; font present, else 6; byte 0 is 4, else 4."
     (checked (refuse s) (characterLength b) 3
-    (finding (refuse s) (find (keyOf n 0) (st .recs)) 6
+    (finding (refuse s) (fontAt n (st .recs)) 6
     (λ f.
     byKind (refuse s) (kindOf b)
     -- "Byte 1 zero, a first block": 3, 4, 5, and 9 for its picture
@@ -77,7 +76,7 @@ downloadingCharacter n c b s =
     -- "Byte 1 not zero, a continuation: its font number and code must be those of the open character, else 7. Its data joins what is kept."
     (λ both.
     checked (refuse s) (names n c (st .mark)) 7
-    (finding (refuse s) (find (keyOf n (c + 1)) (st .recs)) 7 (λ r. both (keptOf r) (dataOf r ++ drop continuationBytes b))))
+    (finding (refuse s) (characterAt n c (st .recs)) 7 (λ r. both (keptOf r) (dataOf r ++ drop continuationBytes b))))
     -- "Then, for both: 8 if class 2 data has a run past the width before all rows are drawn;
     (λ h d.
     taking (refuse s) (withinWidth (judgedOf h d))

@@ -8,9 +8,9 @@ use lib.ListN.{length, take, drop}
 use Rattle.blocks.specs.Header.{headerBytes}
 use Rattle.store.specs.Layout.{lastFont}
 use Rattle.store.specs.Model.{Rec, font, character}
-use Rattle.store.specs.Records.{recordsIn, recordsAt, Place}
-use Rattle.store.specs.declared.kept_fonts.Next.{Next}
-use Rattle.store.specs.declared.kept_fonts.Next.the-variants.{Font as found, End}
+use Rattle.store.specs.Records.{recordsIn, recordsAt, RecordPlace}
+use Rattle.store.specs.declared.kept_fonts.NextFont.{NextFont}
+use Rattle.store.specs.declared.kept_fonts.NextFont.the-variants.{Font as found, End}
 
 -- a font: its number and its kept bytes
 pub record Font : Type 0 where
@@ -56,8 +56,8 @@ RisingFrom n [] = Unit {0}
 RisingFrom n (f ∷ l) = (n ≤ f .number) × RisingFrom (suc (f .number)) l
 
 -- none, or the font at a place of the run or after it, and then those from the next place
-abbrev pub Onward : List ℕ → ℕ → Next → Type 0
+abbrev pub Onward : List ℕ → ℕ → NextFont → Type 0
 Onward s at End = fontsAt s at ≡ []
 Onward s at (found n k next) =
     (fontsAt s at ≡ record { number = n; kept = take headerBytes (drop k s) } ∷ fontsAt s next)
-    × Place s next × (at < next) × (next ≤ length s) × (k + headerBytes ≤ length s) × (n ≤ lastFont)
+    × RecordPlace s next × (at < next) × (next ≤ length s) × (k + headerBytes ≤ length s) × (n ≤ lastFont)

@@ -4,6 +4,7 @@ use mathlib.Core.List.{List, [], _∷_, _++_}
 use mathlib.Core.Bool.{Bool, cond}
 use mathlib.Core.Option.{Option, none, some}
 use lib.Dec.{eqb, leb, ltb}
+use Rattle.store.specs.Layout.{keyOf}
 use Rattle.store.specs.Model.{Rec, Under, under, key}
 
 -- the records that a test picks
@@ -31,3 +32,10 @@ after u (r ∷ rs) = after (under u r) rs
 unfoldable pub find : ℕ → List Rec → Option Rec
 find k [] = none
 find k (r ∷ rs) = cond (eqb (key r) k) (some r) (find k rs)
+
+-- the font of a number, and its character of a code, if they are there
+abbrev pub fontAt : ℕ → List Rec → Option Rec
+fontAt n rs = find (keyOf n 0) rs
+
+abbrev pub characterAt : ℕ → ℕ → List Rec → Option Rec
+characterAt n c rs = find (keyOf n (c + 1)) rs

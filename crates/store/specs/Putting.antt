@@ -7,9 +7,8 @@ use lib.ListN.{length, drop}
 use Rattle.blocks.specs.Header.{orientation, keptHeader}
 use Rattle.blocks.specs.Character.{descriptorBytes, continuationBytes, characterLength, kindOf, readFirst, keptFirst}
 use Rattle.pictures.specs.Size.{dataLimit}
-use Rattle.store.specs.Layout.{keyOf}
 use Rattle.store.specs.Model.{Store, decode}
-use Rattle.store.specs.Order.{find}
+use Rattle.store.specs.Order.{fontAt, characterAt}
 use Rattle.store.specs.Answer.{onStore, checked, taking, finding, After, refuse, done}
 use Rattle.store.specs.Calls.{used, putFont, keptOf, dataOf}
 use Rattle.store.specs.Download.{putCharacter, withoutFont, byKind, names, withinWidth, judgedOf, keptOfData}
@@ -41,13 +40,13 @@ receivingFirst n c g b s st = taking (refuse s) (readFirst b (orientation g)) (r
 
 unfoldable pub puttingFirst : ℕ → ℕ → List ℕ → List ℕ → After
 puttingFirst n c b s =
-    onStore (refuse s) (decode s) (λ st. finding (refuse s) (find (keyOf n 0) (st .recs)) 6 (λ r. receivingFirst n c (keptOf r) b s st))
+    onStore (refuse s) (decode s) (λ st. finding (refuse s) (fontAt n (st .recs)) 6 (λ r. receivingFirst n c (keptOf r) b s st))
 
 -- a continuation
 unfoldable pub receivingMore : ℕ → ℕ → List ℕ → List ℕ → Store → After
 receivingMore n c b s st =
     checked (refuse s) (names n c (st .mark)) 7
-    (finding (refuse s) (find (keyOf n (c + 1)) (st .recs)) 7 (λ r. receiving n c (keptOf r) (dataOf r ++ drop continuationBytes b) s st))
+    (finding (refuse s) (characterAt n c (st .recs)) 7 (λ r. receiving n c (keptOf r) (dataOf r ++ drop continuationBytes b) s st))
 
 unfoldable pub puttingMore : ℕ → ℕ → List ℕ → List ℕ → After
 puttingMore n c b s = onStore (refuse s) (decode s) (receivingMore n c b s)
@@ -59,7 +58,7 @@ receivingBlock n c g b s st =
     (λ both. taking (refuse s) (readFirst b (orientation g)) (both (keptFirst b) (drop descriptorBytes b)))
     (λ both.
     checked (refuse s) (names n c (st .mark)) 7
-    (finding (refuse s) (find (keyOf n (c + 1)) (st .recs)) 7 (λ r. both (keptOf r) (dataOf r ++ drop continuationBytes b))))
+    (finding (refuse s) (characterAt n c (st .recs)) 7 (λ r. both (keptOf r) (dataOf r ++ drop continuationBytes b))))
     (λ h d. receiving n c h d s st)
 
 -- a block for a store that is one, with numbers in range: 3, 6 and on
@@ -68,4 +67,4 @@ puttingBlock n c b s =
     onStore (refuse s) (decode s)
     (λ st.
     checked (refuse s) (characterLength b) 3
-    (finding (refuse s) (find (keyOf n 0) (st .recs)) 6 (λ r. receivingBlock n c (keptOf r) b s st)))
+    (finding (refuse s) (fontAt n (st .recs)) 6 (λ r. receivingBlock n c (keptOf r) b s st)))

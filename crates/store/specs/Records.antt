@@ -11,7 +11,7 @@ use Rattle.blocks.specs.Header.{headerBytes, isKeptHeader}
 use Rattle.blocks.specs.Character.{descriptorBytes, width, isKeptFirst}
 use Rattle.store.specs.Layout.{mostStore, lastFont, lastCode, keyOf, markRecord}
 use Rattle.store.specs.Model.{Rec, font, character, tallyOf, tallyIn, Store, Under, heldOf, isKept, sorted, number, sizeOf, total, split, decode}
-use Rattle.store.specs.Order.{keep, below, find}
+use Rattle.store.specs.Order.{keep, below, fontAt}
 use Rattle.store.specs.declared.tally.Tally.{Tally}
 use Rattle.store.specs.declared.records.Begin.{Begin}
 use Rattle.store.specs.declared.records.Begin.the-variants.{At, NotStore}
@@ -47,7 +47,7 @@ unfoldable pub recordsAt : List ℕ → ℕ → List Rec
 recordsAt s at = recordsAmong (split (drop at s))
 
 -- `at` is a place of the run: records that a store may hold stand from there on
-pub record Place (s : List ℕ) (at : ℕ) : Type 0 where
+pub record RecordPlace (s : List ℕ) (at : ℕ) : Type 0 where
   pub within : at ≤ length s
   pub recs : List Rec
   pub is : split (drop at s) ≡ some recs
@@ -58,7 +58,7 @@ pub record Place (s : List ℕ) (at : ℕ) : Type 0 where
 -- where the run begins, if the buffer is a store
 abbrev pub Begun : List ℕ → Begin → Type 0
 Begun s NotStore = isStore s ≡ false
-Begun s (At p) = (isStore s ≡ true) × Place s p × (recordsAt s p ≡ recordsIn s)
+Begun s (At p) = (isStore s ≡ true) × RecordPlace s p × (recordsAt s p ≡ recordsIn s)
 
 -- ── W-205: "Every download, replacement, continuation and removal .. keeps both equal to a fresh count."
 -- the records that stand behind the first one, whatever numbers they hold
@@ -66,18 +66,18 @@ abbrev pub recordsBehind : List ℕ → List Rec
 recordsBehind s = recordsAt s markRecord
 
 -- the numbers that the record of font n holds, in its own bytes, behind the records of lower fonts
-abbrev pub heldByFont : ℕ → List ℕ → Tally
-heldByFont n s = tallyIn (drop (markRecord + total (below (keyOf n 0) (recordsBehind s))) s)
+abbrev pub tallyByFont : ℕ → List ℕ → Tally
+tallyByFont n s = tallyIn (drop (markRecord + total (below (keyOf n 0) (recordsBehind s))) s)
 
 -- each font holds those of a fresh count
 abbrev pub CountsTrue : List ℕ → Type 0
-CountsTrue s = (n : ℕ) (h : List ℕ) → find (keyOf n 0) (recordsBehind s) ≡ some (font n h) → heldByFont n s ≡ tallyOf (recordsBehind s) n
+CountsTrue s = (n : ℕ) (h : List ℕ) → fontAt n (recordsBehind s) ≡ some (font n h) → tallyByFont n s ≡ tallyOf (recordsBehind s) n
 
 -- ── one after the other
 -- the record r stands at a place of the run, and the others from next on
 pub record MetAt (s : List ℕ) (at : ℕ) (r : Rec) (next : ℕ) : Type 0 where
   pub records : recordsAt s at ≡ r ∷ recordsAt s next
-  pub place : Place s next
+  pub place : RecordPlace s next
   pub size : at + sizeOf r ≡ next
   pub ahead : at < next
   pub within : next ≤ length s
@@ -115,7 +115,7 @@ Meeting s at (Character n c kept bytes next) = CharacterMet s at n c kept bytes 
 
 -- the records rs stand from one place of the run up to another
 pub record Between (s : List ℕ) (at hi : ℕ) (rs : List Rec) : Type 0 where
-  pub place : Place s at
+  pub place : RecordPlace s at
   pub are : recordsAt s at ≡ rs ++ recordsAt s hi
   pub sum : at + total rs ≡ hi
   pub within : hi ≤ length s

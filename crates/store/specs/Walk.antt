@@ -14,7 +14,7 @@ use Rattle.pictures.specs.declared.picture.Judged.the-variants.{Complete, Incom
 use Rattle.store.specs.Layout.{lastFont, lastCode, keyOf, characterKeptAt, characterRecord, fontOrientationAt, fontRecord, markRecord}
 use Rattle.store.specs.Num.{_&_, field}
 use Rattle.store.specs.Model.{Rec, font, character, isKept, heldUnder, Mark, Store, Under, under, alone, allowed, sorted, unfinished, opened, number, place, noCharacters, oneMore, tallyOf, tallyIn, sameTally, counted, headRec, sizeOf, total, split, decode}
-use Rattle.store.specs.Order.{below, find}
+use Rattle.store.specs.Order.{below, find, fontAt, characterAt}
 use Rattle.store.specs.Answer.{onFont, onCharacter}
 use Rattle.store.specs.declared.tally.Tally.{Tally}
 use Rattle.store.specs.declared.walk.Query.{Query}
@@ -24,7 +24,7 @@ use Rattle.store.specs.declared.walk.Head.the-variants.{End, Rec as Head
 use Rattle.store.specs.declared.walk.Pos.{Pos}
 use Rattle.store.specs.declared.walk.Places.{Places}
 use Rattle.store.specs.declared.walk.Walk.{Walk}
-use Rattle.store.specs.declared.walk.Walk.the-variants.{Run, Broken}
+use Rattle.store.specs.declared.walk.Walk.the-variants.{Run, NotStore}
 use Rattle.store.specs.declared.walk.Step.{Step}
 use Rattle.store.specs.declared.walk.Step.the-variants.{Go, Stop}
 use Rattle.store.specs.declared.walk.MarkSeen.{MarkSeen}
@@ -39,13 +39,13 @@ use Rattle.store.specs.declared.walk.Inspected.the-variants.{Found, NotS
 -- ── one record
 
 -- the numbers that a record at the front of s holds, if it is a font's
-unfoldable pub heldIn : List ℕ → Rec → Tally
-heldIn s (font n h) = tallyIn s
-heldIn s (character n c h d) = noCharacters
+unfoldable pub tallyHeld : List ℕ → Rec → Tally
+tallyHeld s (font n h) = tallyIn s
+tallyHeld s (character n c h d) = noCharacters
 
 -- the numbers of a record behind the font u
 abbrev pub itemOf : Under → List ℕ → Rec → Item
-itemOf u s r = record { font = number r; place = place r; len = sizeOf r; orientation = under u r .orientation; unfinished = unfinished r; held = heldIn s r }
+itemOf u s r = record { font = number r; place = place r; len = sizeOf r; orientation = under u r .orientation; unfinished = unfinished r; held = tallyHeld s r }
 
 -- the record at the front, if it may stand behind the font u
 unfoldable pub seen : Under → List ℕ → Option Rec → Head
@@ -81,8 +81,8 @@ unfoldable pub countIf : Bool → ℕ → ℕ
 countIf b n = cond b n 0
 
 -- the numbers that a font holds, and those of its characters met so far, behind a record
-unfoldable pub heldBehind : Pos → Item → Tally
-heldBehind p i = cond (eqb (i .place) 0) (i .held) (p .held)
+unfoldable pub tallyBehind : Pos → Item → Tally
+tallyBehind p i = cond (eqb (i .place) 0) (i .held) (p .held)
 
 unfoldable pub metBehind : Pos → Item → Tally
 metBehind p i = cond (eqb (i .place) 0) noCharacters (oneMore true (i .len - characterRecord) (p .met))
@@ -104,13 +104,13 @@ behind q p i =
       key = keyOf (i .font) (i .place) + 1;
       owner = i .font + 1;
       orientation = i .orientation;
-      held = heldBehind p i;
+      held = tallyBehind p i;
       met = metBehind p i;
     }
 
 -- a record's key rises, and the font before it held what is true
 unfoldable pub passed : Query → Pos → Item → Step
-passed q p i = cond (leb (p .key) (keyOf (i .font) (i .place)) & settled p i) (Go (behind q p i)) (Stop Broken)
+passed q p i = cond (leb (p .key) (keyOf (i .font) (i .place)) & settled p i) (Go (behind q p i)) (Stop NotStore)
 
 -- the places of a walk that goes on from p over these records
 abbrev pub placesFrom : Query → Pos → List Rec → Places
@@ -131,9 +131,9 @@ tallied t m s (character n c h d ∷ rs) = tallied t (oneMore true (length d) m)
 
 -- the answer of a walk from p on over these records, which stand in s
 unfoldable pub walkedOver : Query → Pos → List ℕ → Option (List Rec) → Walk
-walkedOver q p s none = Broken
+walkedOver q p s none = NotStore
 walkedOver q p s (some rs) =
-    cond (sorted (p .key) (standing p) rs & tallied (p .held) (p .met) s rs) (Run (placesFrom q p rs) (p .marked || opened (q .mark) rs)) Broken
+    cond (sorted (p .key) (standing p) rs & tallied (p .held) (p .met) s rs) (Run (placesFrom q p rs) (p .marked || opened (q .mark) rs)) NotStore
 
 abbrev pub walked : Query → Pos → List ℕ → Walk
 walked q p s = walkedOver q p s (split s)
@@ -215,7 +215,7 @@ pub record Arriving (n c : ℕ) (s : List ℕ) (w : Places) : Type 0 where
   pub low : n ≤ lastFont
   pub code : c ≤ lastCode
   pub header : List ℕ
-  pub font-there : find (keyOf n 0) (stands .store .recs) ≡ some (font n header)
+  pub font-there : fontAt n (stands .store .recs) ≡ some (font n header)
 
 -- and a character with the descriptor h and the data d may stand behind that font
 pub record Fitting (n c : ℕ) (h d s : List ℕ) (w : Places) : Type 0 where
@@ -232,7 +232,7 @@ dataAt s w = take (w .to - (w .from + characterRecord)) (drop (w .from + charact
 -- the character is there already, and may stand there with t behind its data
 pub record Growing (n c : ℕ) (t s : List ℕ) (w : Places) : Type 0 where
   pub fits : Fitting n c (keptAt s w) (dataAt s w ++ t) s w
-  pub there : find (keyOf n (c + 1)) (fits .arrives .stands .store .recs) ≡ some (character n c (keptAt s w) (dataAt s w))
+  pub there : characterAt n c (fits .arrives .stands .store .recs) ≡ some (character n c (keptAt s w) (dataAt s w))
 
 -- the orientation of the font at its place
 abbrev pub fontOrientation : List ℕ → Places → ℕ

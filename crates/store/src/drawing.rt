@@ -22,7 +22,7 @@ fn draw_row_of(h: &[u8], bytes: &[u8], row: u32, out: &mut [u8]) -> u32
         return 2;
     }
     let width = character::width(h);
-    let n = (width as usize + 7) / 8;
+    let n = size::row_size(width);
     if out.len() < n {
         return 12;
     }

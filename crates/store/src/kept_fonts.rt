@@ -1,6 +1,6 @@
 // The kept fonts of a store one after the other, by rising number, for callers that know nothing of its form.
 ghost use Prim.Native.Nat.{_+_};
-ghost use Rattle.store.specs.Records.{Place};
+ghost use Rattle.store.specs.Records.{RecordPlace};
 ghost use Rattle.store.specs.Fonts.{Onward};
 use crate::layout::CHARACTER_RECORD;
 use crate::layout::FONT_KEPT_AT;
@@ -11,7 +11,7 @@ use crate::layout::NUMBER_AT;
 use crate::number;
 
 // A font met on the run: its number, where its kept bytes stand, and the place behind it.
-pub enum Next {
+pub enum NextFont {
     Font {
         number: u32,
         kept: usize,
@@ -20,19 +20,19 @@ pub enum Next {
     End,
 }
 
-pub fn next_font(s: &[u8], at: usize) -> Next
-    requires { ⌜ Place (now s) at ⌝ }
+pub fn next_font(s: &[u8], at: usize) -> NextFont
+    requires { ⌜ RecordPlace (now s) at ⌝ }
     ensures { λ n. ⌜ Onward (now (s .entry)) at n ⌝ }
 {
     let mut p = at;
     while CHARACTER_RECORD <= s.len() - p {
         let len = number::le32(s, p);
         if len == 0 {
-            return Next::End;
+            return NextFont::End;
         }
         if number::le16(s, p + KIND_AT) == FONT_KIND {
             let n = number::le16(s, p + NUMBER_AT);
-            return Next::Font {
+            return NextFont::Font {
                 number: n as u32,
                 kept: p + FONT_KEPT_AT,
                 next: p + FONT_RECORD,
@@ -40,5 +40,5 @@ pub fn next_font(s: &[u8], at: usize) -> Next
         }
         p += len;
     }
-    Next::End
+    NextFont::End
 }

@@ -1,7 +1,7 @@
 // The records of a store one after the other, for callers that know nothing of its form.
 ghost use mathlib.Core.Path.{_≡_};
 ghost use mathlib.Core.List.{[]};
-ghost use Rattle.store.specs.Records.{Place, Begun, Meeting, recordsAt};
+ghost use Rattle.store.specs.Records.{RecordPlace, Begun, Meeting, recordsAt};
 use crate::layout::CHARACTER_KEPT_AT;
 use crate::layout::CHARACTER_RECORD;
 use crate::layout::CODE_AT;
@@ -51,7 +51,7 @@ pub fn begin_records(s: &[u8]) -> Begin
 
 // The record at a place of the run where one stands.
 pub fn record_at(s: &[u8], at: usize) -> Met
-    requires { ⌜ Place (now s) at × (recordsAt (now s) at ≡ [] → ⊥) ⌝ }
+    requires { ⌜ RecordPlace (now s) at × (recordsAt (now s) at ≡ [] → ⊥) ⌝ }
     ensures { λ m. ⌜ Meeting (now (s .entry)) at m ⌝ }
 {
     let len = number::le32(s, at);
@@ -74,7 +74,7 @@ pub fn record_at(s: &[u8], at: usize) -> Met
 }
 
 pub fn next_record(s: &[u8], at: usize) -> Met
-    requires { ⌜ Place (now s) at ⌝ }
+    requires { ⌜ RecordPlace (now s) at ⌝ }
     ensures { λ m. ⌜ Meeting (now (s .entry)) at m ⌝ }
 {
     if s.len() - at < CHARACTER_RECORD {

@@ -7,7 +7,7 @@ ghost use Rattle.blocks.specs.Character.{descriptorBytes};
 ghost use Rattle.store.specs.Layout.{characterKeptAt, characterRecord, kindAt, lastFont, leastStore, markRecord, mostStore, characterKind, fontKind, lastCode};
 ghost use Rattle.store.specs.Num.{field};
 ghost use Rattle.store.specs.Model.{Under, heldUnder, decode, begins, markIn};
-ghost use Rattle.store.specs.Walk.{headOf, Heading, passed, walked, walkAfter, Ahead, Within, heldBehind, metBehind, settled, walkStart, markSeen, surveyed, inspected, countIf, fontLookup, characterLookup};
+ghost use Rattle.store.specs.Walk.{headOf, Heading, passed, walked, walkAfter, Ahead, Within, tallyBehind, metBehind, settled, walkStart, markSeen, surveyed, inspected, countIf, fontLookup, characterLookup};
 use crate::layout::CHARACTER_KEPT_AT;
 use crate::layout::CHARACTER_KIND;
 use crate::layout::CHARACTER_RECORD;
@@ -91,7 +91,7 @@ pub struct Places {
 
 pub enum Walk {
     Run(Places, bool),
-    Broken,
+    NotStore,
 }
 
 pub enum Step {
@@ -244,8 +244,8 @@ pub(crate) fn add_if(n: usize, test: bool, m: usize) -> usize
 }
 
 // The numbers that the font's record holds, behind a record.
-fn held_behind(p: Pos, i: Item) -> Tally
-    ensures { λ r. ⌜ r ≡ heldBehind p i ⌝ }
+fn tally_behind(p: Pos, i: Item) -> Tally
+    ensures { λ r. ⌜ r ≡ tallyBehind p i ⌝ }
 {
     if i.place == 0 { i.held } else { p.held }
 }
@@ -280,10 +280,10 @@ fn pass(q: Query, p: Pos, i: Item) -> Step
 {
     let key = i.font * KEYS_EACH + i.place;
     if key < p.key {
-        return Step::Stop(Walk::Broken);
+        return Step::Stop(Walk::NotStore);
     }
     if !settles(p, i) {
-        return Step::Stop(Walk::Broken);
+        return Step::Stop(Walk::NotStore);
     }
     Step::Go(Pos {
         at: p.at + i.len,
@@ -295,7 +295,7 @@ fn pass(q: Query, p: Pos, i: Item) -> Step
         key: key + 1,
         owner: i.font + 1,
         orientation: i.orientation,
-        held: held_behind(p, i),
+        held: tally_behind(p, i),
         met: met_behind(p, i),
     })
 }
@@ -317,11 +317,11 @@ fn walk_one(s: &[u8], q: Query, p: Pos) -> Step
                 };
                 Step::Stop(Walk::Run(places, p.marked))
             } else {
-                Step::Stop(Walk::Broken)
+                Step::Stop(Walk::NotStore)
             }
         }
         Head::Rec(i) => pass(q, p, i),
-        Head::Bad => Step::Stop(Walk::Broken),
+        Head::Bad => Step::Stop(Walk::NotStore),
     }
 }
 
@@ -417,7 +417,7 @@ fn inspect_records(s: &[u8], font: usize, place: usize, mark: usize, must: bool)
                 Inspected::NotStore
             }
         }
-        Walk::Broken => Inspected::NotStore,
+        Walk::NotStore => Inspected::NotStore,
     }
 }
 

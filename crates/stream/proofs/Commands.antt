@@ -11,8 +11,8 @@ use lib.Dec.{leb, eqb}
 use lib.ListN.{length, take, drop, drop-of-length-le, List·getD-eq-default, length-drop}
 use lib.Seq.{drop-cons, drop-append-seam, take-all}
 use Rattle.stream.proofs.Tests.{both, either}
-use Rattle.stream.specs.Command.{streamByte, isDigit, digits, spelled, numberOf, startsWith, numberCommand, isBlock, blockOf, command, Ends, movedBy, commandAt}
-use Rattle.stream.specs.declared.command.Number.{Number}
+use Rattle.stream.specs.Command.{streamByte, isDigit, digits, spelled, numberOf, startsWith, numberCommand, isBlock, blockOf, command, CommandEnds, movedBy, commandAt}
+use Rattle.stream.specs.declared.command.NumberRead.{NumberRead}
 use Rattle.stream.specs.declared.command.Command.{Command}
 use Rattle.stream.specs.declared.command.Command.the-variants.{SetFont, SetCode, FontBlock, CharacterBlock, Broken, End}
 
@@ -77,7 +77,7 @@ unfolding numberOf
 number-small b = (omega (arith, digits-most 5 0 0 (drop 3 b) (omega arith)), omega (arith, digits-few 5 (drop 3 b)))
 
 -- the number whose digits are read up to place at and spell n
-unfoldable pub numberFrom : List ℕ → ℕ → ℕ → Number
+unfoldable pub numberFrom : List ℕ → ℕ → ℕ → NumberRead
 numberFrom s n at = record { value = spelled n (digits (8 - at) (drop at s)); next = at + length (digits (8 - at) (drop at s)) }
 
 pub number-start : (s : List ℕ) → numberFrom s 0 3 ≡ numberOf s
@@ -108,8 +108,8 @@ unfolding numberFrom spelled digits
 number-full s n at e = rw e
 
 -- ---- where a command ends
-pub ends-fits : (at m n : ℕ) (c : Command) → m ≤ n → Ends at m c → Ends at n c
-unfolding Ends
+pub ends-fits : (at m n : ℕ) (c : Command) → m ≤ n → CommandEnds at m c → CommandEnds at n c
+unfolding CommandEnds
 ends-fits at m n (SetFont v e) h (p, q) = (p, omega arith)
 ends-fits at m n (SetCode v e) h (p, q) = (p, omega arith)
 ends-fits at m n (FontBlock f e) h (p, q, r) = (p, q, omega arith)
@@ -117,8 +117,8 @@ ends-fits at m n (CharacterBlock f e) h (p, q, r) = (p, q, omega arith)
 ends-fits at m n Broken h p = tt
 ends-fits at m n End h p = tt
 
-ends-moved : (at n : ℕ) (c : Command) → Ends 0 (n - at) c → Ends at n (movedBy at c)
-unfolding Ends movedBy
+ends-moved : (at n : ℕ) (c : Command) → CommandEnds 0 (n - at) c → CommandEnds at n (movedBy at c)
+unfolding CommandEnds movedBy
 ends-moved at n (SetFont v e) (p, q) = (omega arith, omega arith)
 ends-moved at n (SetCode v e) (p, q) = (omega arith, omega arith)
 ends-moved at n (FontBlock f e) (p, q, r) = (omega arith, omega arith, omega arith)
@@ -134,46 +134,46 @@ byte-there b n x h e = go (leb (length b) n) refl
     go true q = absurd (omega (arith, List·getD-eq-default b 0 (leb-true (length b) n q), eqb-true (streamByte b n) x e))
     go false q = leb-false (length b) n q
 
-numbered-ends : (b : List ℕ) (d : Number) → Ends 0 (length b) (numberCommand b d)
-unfolding numberCommand Ends
+numbered-ends : (b : List ℕ) (d : NumberRead) → CommandEnds 0 (length b) (numberCommand b d)
+unfolding numberCommand CommandEnds
 numbered-ends b d =
-    either (Ends 0 (length b)) (leb 4 (d .next)) _ Broken
-    (λ _. either (Ends 0 (length b)) (eqb (streamByte b (d .next)) 68) (SetFont (d .value) (d .next + 1)) _
+    either (CommandEnds 0 (length b)) (leb 4 (d .next)) _ Broken
+    (λ _. either (CommandEnds 0 (length b)) (eqb (streamByte b (d .next)) 68) (SetFont (d .value) (d .next + 1)) _
     (λ e. (omega arith, omega (arith, byte-there b (d .next) 68 (omega arith) e)))
-    (either (Ends 0 (length b)) (eqb (streamByte b (d .next)) 69) (SetCode (d .value) (d .next + 1)) Broken
+    (either (CommandEnds 0 (length b)) (eqb (streamByte b (d .next)) 69) (SetCode (d .value) (d .next + 1)) Broken
     (λ e. (omega arith, omega (arith, byte-there b (d .next) 69 (omega arith) e)))
     tt))
     tt
 
 -- the bytes of a block are there
-block-whole : (b : List ℕ) (d : Number) → isBlock b d ≡ true → d .next + 1 + d .value ≤ length b
+block-whole : (b : List ℕ) (d : NumberRead) → isBlock b d ≡ true → d .next + 1 + d .value ≤ length b
 unfolding isBlock
 block-whole b d e =
     let p = both (leb 4 (d .next)) _ e .1 in
     let q = both (eqb (streamByte b (d .next)) 87) _ p .1 in
     leb-true (d .next + 1 + d .value) (length b) (both (leb (d .value) 32767) _ q .1)
 
-blocks-end : (block : ℕ → ℕ → Command) (b : List ℕ) (d : Number) → ((f e : ℕ) → 0 < f → f ≤ e → e ≤ length b → Ends 0 (length b) (block f e))
-    → Ends 0 (length b) (blockOf block b d)
-unfolding blockOf Ends
+blocks-end : (block : ℕ → ℕ → Command) (b : List ℕ) (d : NumberRead) → ((f e : ℕ) → 0 < f → f ≤ e → e ≤ length b → CommandEnds 0 (length b) (block f e))
+    → CommandEnds 0 (length b) (blockOf block b d)
+unfolding blockOf CommandEnds
 blocks-end block b d f =
-    either (Ends 0 (length b)) (isBlock b d) _ Broken
+    either (CommandEnds 0 (length b)) (isBlock b d) _ Broken
     (λ e. f (d .next + 1) (d .next + 1 + d .value) (omega arith) (omega arith) (block-whole b d e))
     tt
 
-command-ends : (b : List ℕ) → Ends 0 (length b) (command b)
-unfolding command Ends
+command-ends : (b : List ℕ) → CommandEnds 0 (length b) (command b)
+unfolding command CommandEnds
 command-ends b =
-    either (Ends 0 (length b)) (eqb (length b) 0) End _ (λ _. tt)
-    (either (Ends 0 (length b)) (startsWith b 42 99) (numberCommand b (numberOf b)) _ (λ _. numbered-ends b (numberOf b))
-    (either (Ends 0 (length b)) (startsWith b 41 115) (blockOf FontBlock b (numberOf b)) _
+    either (CommandEnds 0 (length b)) (eqb (length b) 0) End _ (λ _. tt)
+    (either (CommandEnds 0 (length b)) (startsWith b 42 99) (numberCommand b (numberOf b)) _ (λ _. numbered-ends b (numberOf b))
+    (either (CommandEnds 0 (length b)) (startsWith b 41 115) (blockOf FontBlock b (numberOf b)) _
     (λ _. blocks-end FontBlock b (numberOf b) (λ f e p q r. (p, q, r)))
-    (either (Ends 0 (length b)) (startsWith b 40 115) (blockOf CharacterBlock b (numberOf b)) Broken
+    (either (CommandEnds 0 (length b)) (startsWith b 40 115) (blockOf CharacterBlock b (numberOf b)) Broken
     (λ _. blocks-end CharacterBlock b (numberOf b) (λ f e p q r. (p, q, r)))
     tt)))
 
 -- a command ends behind its place and within the stream
-pub command-at-ends : (s : List ℕ) (at : ℕ) → Ends at (length s) (commandAt s at)
+pub command-at-ends : (s : List ℕ) (at : ℕ) → CommandEnds at (length s) (commandAt s at)
 unfolding commandAt
 command-at-ends s at = ends-moved at (length s) (command (drop at s)) (rw (← (length-drop at s)) (command-ends (drop at s)))
 

@@ -15,7 +15,7 @@ use Rattle.store.specs.Calls.{downloadingFont}
 use Rattle.store.specs.Download.{downloadingCharacter}
 use Rattle.store.specs.Cursor.{Points}
 use Rattle.store.specs.declared.locate.Cursor.{Cursor}
-use Rattle.stream.specs.Command.{commandAt, Ends}
+use Rattle.stream.specs.Command.{commandAt, CommandEnds}
 use Rattle.stream.specs.Reading.{Download, font-block, character-block, Action, number-set, download, Spelled, spell, part, onward, spelledIn, spelledFrom, firstTarget, rangeAnswer, withNumber, withCode, Progress, noneCounted, countAnswer, making, obey, obeyAll, readFrom, Reading, endAnswer, readingOf, reading}
 use Rattle.stream.specs.Downloads.{downloadsIn, spelledDownloads, madeAll, DownloadsMade, CommandsCounted}
 use Rattle.stream.specs.Underway.{readOn, Underway, stateBehind, readAfter, EndsWithin, Leads}
@@ -31,9 +31,9 @@ use Rattle.stream.specs.declared.reading.Target.{Target}
 use Rattle.stream.proofs.Commands.{command-at-ends, command-past}
 
 -- ── more fuel changes nothing
-same-onward : (b : List ℕ) (f g : ℕ → Target → Spelled) (n at : ℕ) (t : Target) (c : Command) → Ends at n c
+same-onward : (b : List ℕ) (f g : ℕ → Target → Spelled) (n at : ℕ) (t : Target) (c : Command) → CommandEnds at n c
     → ((e : ℕ) (u : Target) → at < e → e ≤ n → f e u ≡ g e u) → onward b f at t c ≡ onward b g at t c
-unfolding onward Ends
+unfolding onward CommandEnds
 same-onward b f g n at t (SetFont v e) h i = ap (spell (number-set (rangeAnswer 32767 v))) (i e (withNumber v t) (h .0) (h .1))
 same-onward b f g n at t (SetCode v e) h i = ap (spell (number-set (rangeAnswer 255 v))) (i e (withCode v t) (h .0) (h .1))
 same-onward b f g n at t (FontBlock a e) h i = ap (spell (download (font-block (t .font) (part b a e)))) (i e t (omega (arith, h .0, h .1)) (h .2))
@@ -198,20 +198,20 @@ Goes End = ⊥
 
 module _ (b : List ℕ) (at : ℕ) where
   pub ends-number : (n e : ℕ) → commandAt b at ≡ SetFont n e → (at < e) × (e ≤ length b)
-  unfolding Ends
-  ends-number n e q = subst (Ends at (length b)) q (command-at-ends b at)
+  unfolding CommandEnds
+  ends-number n e q = subst (CommandEnds at (length b)) q (command-at-ends b at)
 
   pub ends-code : (n e : ℕ) → commandAt b at ≡ SetCode n e → (at < e) × (e ≤ length b)
-  unfolding Ends
-  ends-code n e q = subst (Ends at (length b)) q (command-at-ends b at)
+  unfolding CommandEnds
+  ends-code n e q = subst (CommandEnds at (length b)) q (command-at-ends b at)
 
   pub ends-font : (f e : ℕ) → commandAt b at ≡ FontBlock f e → (at < f) × (f ≤ e) × (e ≤ length b)
-  unfolding Ends
-  ends-font f e q = subst (Ends at (length b)) q (command-at-ends b at)
+  unfolding CommandEnds
+  ends-font f e q = subst (CommandEnds at (length b)) q (command-at-ends b at)
 
   pub ends-character : (f e : ℕ) → commandAt b at ≡ CharacterBlock f e → (at < f) × (f ≤ e) × (e ≤ length b)
-  unfolding Ends
-  ends-character f e q = subst (Ends at (length b)) q (command-at-ends b at)
+  unfolding CommandEnds
+  ends-character f e q = subst (CommandEnds at (length b)) q (command-at-ends b at)
 
   -- a 13 stands before the end
   broken-within : commandAt b at ≡ Broken → at < length b

@@ -7,7 +7,7 @@ use lib.Dec.{leb, eqb}
 use Rattle.blocks.specs.Header.{blockLimit}
 use Rattle.stream.specs.declared.command.Command.{Command}
 use Rattle.stream.specs.declared.command.Command.the-variants.{SetFont, SetCode, FontBlock, CharacterBlock, Broken, End}
-use Rattle.stream.specs.declared.command.Number.{Number}
+use Rattle.stream.specs.declared.command.NumberRead.{NumberRead}
 
 -- the byte at a place; past the end 0, which no command has, so that a command cut by the end has a wrong byte
 abbrev pub streamByte : List ℕ → ℕ → ℕ
@@ -30,10 +30,10 @@ spelled n [] = n
 spelled n (d ∷ ds) = spelled (n * 10 + (d - 48)) ds
 
 -- the number of a command, and the place behind its digits; they stand behind ESC and two bytes
-unfoldable pub numberOf : List ℕ → Number
+unfoldable pub numberOf : List ℕ → NumberRead
 numberOf b = record { value = spelled 0 (digits 5 (drop 3 b)); next = 3 + length (digits 5 (drop 3 b)) }
 
-abbrev pub hasDigit : Number → Bool
+abbrev pub hasDigit : NumberRead → Bool
 hasDigit d = leb 4 (d .next)
 
 -- ---- "ESC *c#D (font number), ESC *c#E (code), ESC )s#W and a font block, ESC (s#W and a character block"
@@ -43,7 +43,7 @@ unfoldable pub startsWith : List ℕ → ℕ → ℕ → Bool
 startsWith b second third = eqb (streamByte b 0) 27 && (eqb (streamByte b 1) second && eqb (streamByte b 2) third)
 
 -- a number, and D or E
-unfoldable pub numberCommand : List ℕ → Number → Command
+unfoldable pub numberCommand : List ℕ → NumberRead → Command
 numberCommand b d =
     cond (hasDigit d)
     (cond (eqb (streamByte b (d .next)) 68) (SetFont (d .value) (d .next + 1))
@@ -51,10 +51,10 @@ numberCommand b d =
     Broken
 
 -- a number and W, "at most 32,767", and as many bytes
-unfoldable pub isBlock : List ℕ → Number → Bool
+unfoldable pub isBlock : List ℕ → NumberRead → Bool
 isBlock b d = hasDigit d && (eqb (streamByte b (d .next)) 87 && (leb (d .value) blockLimit && leb (d .next + 1 + d .value) (length b)))
 
-unfoldable pub blockOf : (ℕ → ℕ → Command) → List ℕ → Number → Command
+unfoldable pub blockOf : (ℕ → ℕ → Command) → List ℕ → NumberRead → Command
 blockOf block b d = cond (isBlock b d) (block (d .next + 1) (d .next + 1 + d .value)) Broken
 
 -- the command that a list of bytes begins with, its places counted from there
@@ -80,10 +80,10 @@ unfoldable pub commandAt : List ℕ → ℕ → Command
 commandAt s at = movedBy at (command (drop at s))
 
 -- the places of a command lie behind at, in order, and within n bytes: so they do, where the command at at is read from n bytes
-unfoldable pub Ends : ℕ → ℕ → Command → Type 0
-Ends at n (SetFont v e) = (at < e) × (e ≤ n)
-Ends at n (SetCode v e) = (at < e) × (e ≤ n)
-Ends at n (FontBlock f e) = (at < f) × (f ≤ e) × (e ≤ n)
-Ends at n (CharacterBlock f e) = (at < f) × (f ≤ e) × (e ≤ n)
-Ends at n Broken = Unit
-Ends at n End = Unit
+unfoldable pub CommandEnds : ℕ → ℕ → Command → Type 0
+CommandEnds at n (SetFont v e) = (at < e) × (e ≤ n)
+CommandEnds at n (SetCode v e) = (at < e) × (e ≤ n)
+CommandEnds at n (FontBlock f e) = (at < f) × (f ≤ e) × (e ≤ n)
+CommandEnds at n (CharacterBlock f e) = (at < f) × (f ≤ e) × (e ≤ n)
+CommandEnds at n Broken = Unit
+CommandEnds at n End = Unit

@@ -6,9 +6,8 @@ use mathlib.Core.Bool.{cond}
 use mathlib.Core.Option.{some}
 use lib.ListN.{length}
 use lib.Dec.{leb}
-use Rattle.store.specs.Layout.{keyOf}
 use Rattle.store.specs.Model.{Rec, font, character, Mark, Store, encode, decode}
-use Rattle.store.specs.Order.{find}
+use Rattle.store.specs.Order.{fontAt}
 use Rattle.store.specs.Records.{recordsOf}
 use Rattle.store.specs.Calls.{shut, fresh}
 use Rattle.store.specs.Download.{markFor}
@@ -41,5 +40,5 @@ restored n st = record { answer = record { refusal = 0; done = commandsIn (recor
 -- for every store and every font in it
 abbrev pub FontComesBack : Type 0
 FontComesBack =
-    (s : List ℕ) (st : Store) → decode s ≡ some st → (n : ℕ) (r : Rec) → find (keyOf n 0) (st .recs) ≡ some r
+    (s : List ℕ) (st : Store) → decode s ≡ some st → (n : ℕ) (r : Rec) → fontAt n (st .recs) ≡ some r
     → (reading (written n (st .recs)) (encode (fresh (st .size))) ≡ restored n st) × (decode (encode (onlyFont n st)) ≡ some (onlyFont n st))

@@ -2,7 +2,7 @@
 ghost use mathlib.Core.Path.{_≡_};
 ghost use mathlib.Core.Bool.{cond};
 ghost use Prim.Native.Nat.{_^_, _-_, _≤_, _<_};
-ghost use Rattle.stream.specs.Command.{streamByte, startsWith, isDigit, numberOf, numberCommand, isBlock, blockOf, command, Ends, movedBy, commandAt};
+ghost use Rattle.stream.specs.Command.{streamByte, startsWith, isDigit, numberOf, numberCommand, isBlock, blockOf, command, CommandEnds, movedBy, commandAt};
 ghost use Rattle.stream.specs.declared.command.Command.the-variants.{FontBlock, CharacterBlock};
 use blocks::header::BLOCK_LIMIT;
 
@@ -17,7 +17,7 @@ pub enum Command {
 }
 
 // The number of a command, and the place behind its digits.
-pub struct Number {
+pub struct NumberRead {
     pub value: u32,
     pub next: usize,
 }
@@ -48,7 +48,7 @@ fn is_digit(b: u8) -> bool
 }
 
 // The number behind the first three bytes: five digits at most.
-fn read_number(s: &[u8]) -> Number
+fn read_number(s: &[u8]) -> NumberRead
     ensures { λ r. ⌜ (r ≡ numberOf (now (s .entry))) × (r .value < 100000) × (r .next ≤ 8) ⌝ }
 {
     let mut value: u32 = 0;
@@ -56,7 +56,7 @@ fn read_number(s: &[u8]) -> Number
     while at < 8 {
         let b = byte_at(s, at);
         if !is_digit(b) {
-            return Number {
+            return NumberRead {
                 value: value,
                 next: at,
             };
@@ -64,7 +64,7 @@ fn read_number(s: &[u8]) -> Number
         value = value * 10 + ((b - b'0') as u32);
         at += 1;
     }
-    Number {
+    NumberRead {
         value: value,
         next: at,
     }
@@ -96,7 +96,7 @@ fn read_numbered(s: &[u8]) -> Command
 }
 
 // Whether a number announces a block, and the whole of it is there.
-fn is_block(s: &[u8], d: Number) -> bool
+fn is_block(s: &[u8], d: NumberRead) -> bool
     requires { ⌜ (d .value < 100000) × (d .next ≤ 8) ⌝ }
     ensures { λ r. ⌜ r ≡ isBlock (now (s .entry)) d ⌝ }
 {
@@ -143,7 +143,7 @@ fn read_front(s: &[u8]) -> Command
 
 // A command whose places count from a place further back.
 fn move_by(at: usize, c: Command) -> Command
-    requires { ⌜ Ends at (2 ^ 64 - 1) (movedBy at c) ⌝ }
+    requires { ⌜ CommandEnds at (2 ^ 64 - 1) (movedBy at c) ⌝ }
     ensures { λ r. ⌜ r ≡ movedBy at c ⌝ }
 {
     match c {

@@ -6,7 +6,7 @@ ghost use lib.ListN.{length};
 ghost use Rattle.blocks.specs.Header.{headerBytes};
 ghost use Rattle.store.specs.Layout.{mostStore, lastFont, lastCode};
 ghost use Rattle.store.specs.Model.{Rec, font, sizeOf};
-ghost use Rattle.store.specs.Records.{recordsAt, Place, MetAt, Between};
+ghost use Rattle.store.specs.Records.{recordsAt, RecordPlace, MetAt, Between};
 ghost use Rattle.stream.specs.Digits.{decimal};
 ghost use Rattle.store.specs.Change.{withBytes};
 ghost use Rattle.stream.specs.Writing.{characterBlock};
@@ -94,7 +94,7 @@ fn character_length(code: usize, n: usize) -> usize
 
 // The record at a place of the run.
 fn measure_record(s: &[u8], at: usize) -> Measured
-    requires { ⌜ Place (now s) at × (recordsAt (now s) at ≡ [] → ⊥) × (length (now s) ≤ mostStore) ⌝ }
+    requires { ⌜ RecordPlace (now s) at × (recordsAt (now s) at ≡ [] → ⊥) × (length (now s) ≤ mostStore) ⌝ }
     ensures { λ m. ⌜ ((r : Rec) × MetAt (now (s .entry)) at r (m .next) × (m .length ≡ length (writtenRecord r)) × (m .length ≤ 2 * sizeOf r)) ⌝ }
 {
     match records::record_at(s, at) {
@@ -181,7 +181,7 @@ fn write_character_record(out: &mut [u8], to: usize, code: usize, b: &[u8]) -> u
 
 // The record at a place of the run.
 fn write_record(s: &[u8], at: usize, out: &mut [u8], to: usize) -> Reached
-    requires { ⌜ Place (now s) at × (recordsAt (now s) at ≡ [] → ⊥) × ((r : Rec) (next : ℕ) → MetAt (now s) at r next → to + length (writtenRecord r) ≤ length (now out)) ⌝ }
+    requires { ⌜ RecordPlace (now s) at × (recordsAt (now s) at ≡ [] → ⊥) × ((r : Rec) (next : ℕ) → MetAt (now s) at r next → to + length (writtenRecord r) ≤ length (now out)) ⌝ }
     ensures { λ p. ⌜ ((r : Rec) × MetAt (now (s .entry)) at r (p .next) × (p .to ≡ to + length (writtenRecord r)) × (now (out .exit) ≡ withBytes (now (out .entry)) to (writtenRecord r))) ⌝ }
 {
     match records::record_at(s, at) {

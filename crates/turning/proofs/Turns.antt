@@ -11,7 +11,7 @@ use lib.Seq.{getD-drop, take-at, take-all}
 use Rattle.pictures.specs.Size.{rowSize, pictureSize}
 use Rattle.pictures.specs.Rows.{bitmapRow}
 use Rattle.pictures.proofs.Bitmaps.{bitmap-take}
-use Rattle.turning.specs.Turn.{each, pictureRows, packRows, turnedWidth, turnedHeight, turned, turnedSize, turnRows, White, TurnsInto, FourQuarters, TwoQuarters, QuarterAndThree}
+use Rattle.turning.specs.Turn.{each, pictureRows, packRows, turnedWidth, turnedHeight, turned, turnedSize, turnRows, WhitePadding, TurnsInto, FourQuarters, TwoQuarters, QuarterAndThree}
 use Rattle.turning.proofs.Answers.{Good, was-done}
 use Rattle.turning.proofs.DotLaws.{dotIn, dot-bits, byte-is, unpack-at}
 use Rattle.turning.proofs.PictureLaws.{dot, each-at, each-past, each-same, length-drawn, drawn-at, dot-at, filled}
@@ -89,7 +89,7 @@ module _ (w h : ℕ) (s : List ℕ) (enough : pictureSize w h ≤ length s) wher
       (λ r c l m. let e : w - 1 - (w - 1 - c) ≡ c = omega arith in turned-dot 3 w h s enough (w - 1 - c) r (omega arith) l ∙ rw e)
 
   -- ---- white padding
-  module _ (p : 0 < w) (white : White w h s) where
+  module _ (p : 0 < w) (white : WhitePadding w h s) where
     byte-dots : (r q i : ℕ) → r < h → q < rowSize w → i < 8
         → dotIn (7 - i) (getD s (r * rowSize w + q) 0) ≡ getD (each w (λ (c : ℕ). dot (pictureRows w h s) r c)) (q * 8 + i) false
     byte-dots r q i l m k = go (ltb (q * 8 + i) w) refl
@@ -148,7 +148,7 @@ made-twice t u w h s p₁ p₂ a b =
     made-of u (turnedWidth t w h) (turnedHeight t w h) (turned t w h s) p₁ p₂ b (front-of (turnedSize t w h) (turned t w h s) p₁ (m .0) (length-turned t w h s (m .1 .enough))) .0
 
 -- a picture that is just its bytes
-own : (w h : ℕ) (s : List ℕ) → White w h s → pictureSize w h ≤ length s
+own : (w h : ℕ) (s : List ℕ) → WhitePadding w h s → pictureSize w h ≤ length s
 own w h s white = omega (arith, white .size)
 
 pub two-quarters-are-half : TwoQuarters

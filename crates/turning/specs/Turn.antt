@@ -78,7 +78,7 @@ turningPicture t w h s out =
 
 -- ---- claims
 -- "a picture with white padding": just its bytes, and no dot beyond the width is black
-pub record White (w h : ℕ) (s : List ℕ) : Type 0 where
+pub record WhitePadding (w h : ℕ) (s : List ℕ) : Type 0 where
   pub size : length s ≡ pictureSize w h
   pub bytes : (i : ℕ) → getD s i 0 < 256
   pub padding : (r c : ℕ) → r < h → w ≤ c → c < rowSize w * 8 → getD (unpack (drop (r * rowSize w) s)) c false ≡ false
@@ -91,7 +91,7 @@ pub record TurnsInto (t w h : ℕ) (s p : List ℕ) : Type 0 where
 
 -- "Turning a picture with white padding four times by a quarter gives it back, every byte."
 abbrev pub FourQuarters : Type 0
-FourQuarters = (w h : ℕ) (s p₁ p₂ p₃ p₄ : List ℕ) → White w h s
+FourQuarters = (w h : ℕ) (s p₁ p₂ p₃ p₄ : List ℕ) → WhitePadding w h s
     → TurnsInto 1 w h s p₁ → TurnsInto 1 h w p₁ p₂ → TurnsInto 1 w h p₂ p₃ → TurnsInto 1 h w p₃ p₄ → take (pictureSize w h) p₄ ≡ s
 
 -- two quarters are a half
@@ -100,5 +100,5 @@ TwoQuarters = (w h : ℕ) (s p₁ p₂ p : List ℕ) → TurnsInto 1 w h s p₁ 
 
 -- a quarter and three quarters, in either order, are none
 abbrev pub QuarterAndThree : Type 0
-QuarterAndThree = (w h : ℕ) (s p₁ p₂ : List ℕ) → White w h s
+QuarterAndThree = (w h : ℕ) (s p₁ p₂ : List ℕ) → WhitePadding w h s
     → (TurnsInto 1 w h s p₁ → TurnsInto 3 h w p₁ p₂ → take (pictureSize w h) p₂ ≡ s) × (TurnsInto 3 w h s p₁ → TurnsInto 1 h w p₁ p₂ → take (pictureSize w h) p₂ ≡ s)

@@ -8,6 +8,7 @@ ghost use lib.ListN.{length, getD, drop};
 ghost use Rattle.pictures.specs.Size.{sideLimit, rowSize, pictureSize};
 ghost use Rattle.turning.specs.Block.{flipped, blockDot, blockByte, swapped, joinBytes, columnByte, Put, TurnedUpTo};
 ghost use Rattle.turning.specs.Turn.{turned};
+use pictures::size::bytes_across;
 
 // A place counted from the other end, where `back` says so.
 pub(crate) fn flip(back: bool, n: usize, i: usize) -> usize
@@ -151,8 +152,8 @@ fn turn_column(picture: &[u8], out: &mut [u8], width: usize, height: usize, up: 
         → TurnedUpTo up width height (rowSize height) (now (picture .entry)) (column * 8 + 8) (now (out .exit)))
         × ((j : ℕ) → pictureSize height width ≤ j → getD (now (out .exit)) j 0 ≡ getD (now (out .entry)) j 0) ⌝ }
 {
-    let n = (width + 7) / 8;
-    let m = (height + 7) / 8;
+    let n = bytes_across(width);
+    let m = bytes_across(height);
     let mut q = 0;
     while q < m {
         let block = transpose(gather_block(picture, n, height, up, column, q * 8));
@@ -167,7 +168,7 @@ pub(crate) fn quarter_turn(picture: &[u8], out: &mut [u8], width: usize, height:
         × (pictureSize width height ≤ length (now picture)) × (pictureSize height width ≤ length (now out)) ⌝ }
     ensures { λ _. ⌜ now (out .exit) ≡ turned (cond up 1 3) width height (now (picture .entry)) ++ drop (pictureSize height width) (now (out .entry)) ⌝ }
 {
-    let n = (width + 7) / 8;
+    let n = bytes_across(width);
     let mut column = 0;
     while column < n {
         turn_column(picture, out, width, height, up, column);

@@ -7,6 +7,7 @@ ghost use Rattle.pictures.specs.Size.{sideLimit, pictureSize};
 ghost use Rattle.turning.specs.Mirror.{mirror, Mirrors, joinedDots, halfByte, MirroredInto, pairBefore};
 ghost use Rattle.turning.specs.Turn.{turned};
 use crate::block;
+use pictures::size::bytes_across;
 
 // The 256 bytes mirrored: the entry of a byte has its dots in reverse.
 const MIRRORED: [u8; 256] = [
@@ -325,7 +326,7 @@ fn mirror_rows(table: &[u8; 256], picture: &[u8], out: &mut [u8], width: usize, 
         × (pictureSize width height ≤ length (now picture)) × (pictureSize width height ≤ length (now out)) ⌝ }
     ensures { λ _. ⌜ now (out .exit) ≡ turned 2 width height (now (picture .entry)) ++ drop (pictureSize width height) (now (out .entry)) ⌝ }
 {
-    let n = (width + 7) / 8;
+    let n = bytes_across(width);
     let scale = power(n * 8 - width);
     let mut row = 0;
     while row < height {
@@ -387,7 +388,7 @@ fn mirror_bytes(table: &[u8; 256], picture: &[u8], out: &mut [u8], width: usize,
         × (pictureSize width height ≤ length (now picture)) × (pictureSize width height ≤ length (now out)) ⌝ }
     ensures { λ _. ⌜ now (out .exit) ≡ turned 2 width height (now (picture .entry)) ++ drop (pictureSize width height) (now (out .entry)) ⌝ }
 {
-    let size = height * ((width + 7) / 8);
+    let size = height * bytes_across(width);
     let mut i = 0;
     let mut from = size;
     while 8 <= from {

@@ -5,15 +5,17 @@ ghost use Rattle.pictures.specs.Size.{sideLimit};
 ghost use Rattle.turning.specs.Turn.{turnable, turnedSize, turningPicture};
 use crate::block;
 use crate::mirror;
+use pictures::size;
+use pictures::size::bytes_across;
 
 // The greatest width and height.
-const SIDE_LIMIT: u32 = 16384;
+const SIDE_LIMIT: u32 = size::SIDE_LIMIT as u32;
 
 // Whether a picture of so many bytes can be turned so.
 fn is_turnable(turn: u32, width: u32, height: u32, size: usize) -> bool
     ensures { λ r. ⌜ r ≡ turnable turn width height size ⌝ }
 {
-    let needed = (height as usize) * (((width as usize) + 7) / 8);
+    let needed = (height as usize) * bytes_across(width as usize);
     ((1 <= turn) & (turn <= 3))
         & (((1 <= width) & (width <= SIDE_LIMIT))
             & (((1 <= height) & (height <= SIDE_LIMIT)) & (needed <= size)))
@@ -25,9 +27,9 @@ fn turned_size(turn: u32, width: usize, height: usize) -> usize
     ensures { λ r. ⌜ r ≡ turnedSize turn width height ⌝ }
 {
     if turn == 2 {
-        height * ((width + 7) / 8)
+        height * bytes_across(width)
     } else {
-        width * ((height + 7) / 8)
+        width * bytes_across(height)
     }
 }
 

@@ -3,7 +3,7 @@ use mathlib.Core.Path.{_≡_, refl}
 use native.Mathlib.Omega.{arith}
 use lib.ListN.{length, length-take, length-drop}
 use borrow.Author.Needs.{needs}
-use Rattle.store.specs.Records.{Place}
+use Rattle.store.specs.Records.{RecordPlace}
 use Rattle.store.specs.Fonts.{fontsAt}
 use Rattle.choice.specs.Scores.{pass, noScore}
 use Rattle.choice.proofs.Walk.{met, again, stops}
@@ -12,7 +12,7 @@ use Rattle.choice.proofs.scan.Tie as tie
 
 -- the pass from here gives what the whole pass gives
 abbrev Inv-loop : tie.InvT-loop
-Inv-loop s from r best₀ at₀ best at = Place s at × (pass r best (fontsAt s at) ≡ pass r noScore (fontsAt s from))
+Inv-loop s from r best₀ at₀ best at = RecordPlace s at × (pass r best (fontsAt s at) ≡ pass r noScore (fontsAt s from))
 
 abbrev μ-loop : tie.MeasureT-loop
 μ-loop s from r best₀ at₀ best at = length s - at

@@ -12,7 +12,7 @@ returns c = (
       let k13 = k12 .before in
       let k17 = k13 .before .before .before .before in
       let k18 = k17 .before in
-      wrote-measures _ _ _ _ _ _ _ _ _ _ _ _ _ _ _ (k18 .word .ensures .0) (k13 .byte .ensures .0) (k8 .word2 .ensures .0) (c .before .before .before .word3 .ensures .0) (k17 .write-short .ensures .0) (k12 .write-short2 .ensures .0) (k7 .write-short3 .ensures .0) (c .before .before .write-short4 .ensures .0),
+      wrote-measures _ _ _ _ _ _ _ _ _ _ _ _ _ _ _ (k18 .word-at .ensures .0) (k13 .byte .ensures .0) (k8 .word-at2 .ensures .0) (c .before .before .before .word-at3 .ensures .0) (k17 .write-short .ensures .0) (k12 .write-short2 .ensures .0) (k7 .write-short3 .ensures .0) (c .before .before .write-short4 .ensures .0),
   omega arith,
 )
 

@@ -1,5 +1,5 @@
 use Rattle.listing.proofs.Listed.{Listed, listed-none, listed-all, met, room-here, listed-more}
-use Rattle.store.specs.Records.{Place}
+use Rattle.store.specs.Records.{RecordPlace}
 use borrow.Author.Needs.{needs}
 use lib.ListN.{length}
 use native.Mathlib.Omega.{arith}
@@ -9,7 +9,7 @@ use Rattle.listing.proofs.lines.write_from.Statement.{statement}
 use Rattle.listing.proofs.lines.write_from.Tie as tie
 
 abbrev Inv-loop : tie.InvT-loop
-Inv-loop out₀ at s from to₀ place₀ out to place = Place s place × (length out ≡ length out₀) × (at + length s ≤ length out) × Listed s from out₀ at place out to
+Inv-loop out₀ at s from to₀ place₀ out to place = RecordPlace s place × (length out ≡ length out₀) × (at + length s ≤ length out) × Listed s from out₀ at place out to
 
 abbrev μ-loop : tie.MeasureT-loop
 μ-loop out₀ at s from to₀ place₀ out to place = length s - place

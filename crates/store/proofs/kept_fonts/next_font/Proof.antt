@@ -2,7 +2,7 @@ use mathlib.Core.Path.{_≡_, refl, sym, _∙_}
 use Prim.Native.Nat.{_-_, _≤_}
 use lib.ListN.{length}
 use denote.Ref.{now}
-use Rattle.store.specs.Records.{Place}
+use Rattle.store.specs.Records.{RecordPlace}
 use Rattle.store.specs.Fonts.{fontsAt}
 use Rattle.store.proofs.RecordRuns.{font-met, character-met}
 use Rattle.store.proofs.KeptFonts.{fonts-short, fonts-zero, font-listed, character-passed}
@@ -12,7 +12,7 @@ use Rattle.store.proofs.kept_fonts.next_font.Statement.{statement}
 use Rattle.store.proofs.kept_fonts.next_font.Tie as tie
 
 abbrev Inv-loop : tie.InvT-loop
-Inv-loop s at p₀ p = Place s p × (fontsAt s p ≡ fontsAt s at) × (at ≤ p)
+Inv-loop s at p₀ p = RecordPlace s p × (fontsAt s p ≡ fontsAt s at) × (at ≤ p)
 
 abbrev μ-loop : tie.MeasureT-loop
 μ-loop s at p₀ p = length s - p

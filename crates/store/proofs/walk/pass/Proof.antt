@@ -34,7 +34,7 @@ returns-3 c =
     let k10 = k8 .before .before in
     let k12 = k10 .before .before in
     let k16 = k12 .before .before .before .before in
-    rw (k12 .add-if .ensures, k10 .add-if2 .ensures, k8 .add-if3 .ensures, k6 .add-if4 .ensures, c .before .held-behind .ensures, c .met-behind .ensures)
+    rw (k12 .add-if .ensures, k10 .add-if2 .ensures, k8 .add-if3 .ensures, k6 .add-if4 .ensures, c .before .tally-behind .ensures, c .met-behind .ensures)
     (sym (pass-go _ _ _ (k16 .before .before .if1 .left) (passed (k16 .before .settles .ensures) (k16 .if2 .left))))
 
 pub pass-spec : {M : Type 1} → statement M

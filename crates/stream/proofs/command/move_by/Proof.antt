@@ -1,31 +1,31 @@
-use Rattle.stream.specs.Command.{movedBy, Ends}
+use Rattle.stream.specs.Command.{movedBy, CommandEnds}
 use borrow.Author.Needs.{needs}
 use native.Mathlib.Omega.{arith}
 use Rattle.stream.proofs.command.move_by.Statement.{statement}
 use Rattle.stream.proofs.command.move_by.Tie as tie
 
 add-t12 : tie.Need-add-t12
-unfolding movedBy Ends
+unfolding movedBy CommandEnds
 add-t12 c = omega (arith, rw (c .before .c .given .1) at (c .before .before .before .pre))
 
 add-t13 : tie.Need-add-t13
-unfolding movedBy Ends
+unfolding movedBy CommandEnds
 add-t13 c = omega (arith, rw (c .before .c2 .given .1) at (c .before .before .before .pre))
 
 add-t14 : tie.Need-add-t14
-unfolding movedBy Ends
+unfolding movedBy CommandEnds
 add-t14 c = omega (arith, rw (c .before .c3 .given .1) at (c .before .before .before .pre))
 
 add-t15 : tie.Need-add-t15
-unfolding movedBy Ends
+unfolding movedBy CommandEnds
 add-t15 c = omega (arith, rw (c .before .c3 .given .1) at (c .before .before .before .pre))
 
 add-t16 : tie.Need-add-t16
-unfolding movedBy Ends
+unfolding movedBy CommandEnds
 add-t16 c = omega (arith, rw (c .before .c4 .given .1) at (c .before .before .before .pre))
 
 add-t17 : tie.Need-add-t17
-unfolding movedBy Ends
+unfolding movedBy CommandEnds
 add-t17 c = omega (arith, rw (c .before .c4 .given .1) at (c .before .before .before .pre))
 
 returns : tie.Need-returns

@@ -19,7 +19,7 @@ abbrev μ-loop : tie.MeasureT-loop
 
 loop-holds : tie.Need-loop-holds Inv-loop μ-loop
 loop-holds c =
-    let a = c .before .before .args in
+    let a = c .before .before .before .args in
     (zero-le, refl, turned-none (a .up) (a .width) (a .height) (now (a .picture)) (now (a .out)), λ j l. refl)
 
 turn-column-requires : tie.Need-turn-column-requires Inv-loop μ-loop
@@ -39,9 +39,9 @@ same-length c = c .before .loop .inv .1
 
 returns : tie.Need-returns Inv-loop μ-loop
 returns c =
-    let a = c .before .before .before .before .args in
+    let a = c .before .before .before .before .before .args in
     let at = c .before .loop in
-    turned-all (a .up) (a .width) (a .height) (now (a .picture)) _ (now (a .out)) (at .column) (c .before .before .before .before .pre .0) (omega arith) (at .inv .1) (search needs) (at .inv .2) (at .inv .3)
+    turned-all (a .up) (a .width) (a .height) (now (a .picture)) _ (now (a .out)) (at .column) (c .before .before .before .before .before .pre .0) (omega arith) (at .inv .1) (search needs) (at .inv .2) (at .inv .3)
 
 pub quarter-turn-spec : {M : Type 1} → statement M
 quarter-turn-spec =

@@ -19,24 +19,25 @@ abbrev μ-loop : tie.MeasureT-loop
 
 loop-holds : tie.Need-loop-holds Inv-loop μ-loop
 loop-holds c =
-    let a = c .before .before .args in
+    let a = c .before .before .before .before .args in
     (zero-le, refl, λ t. columns-none (a .up) (a .width) (a .height) (now (a .picture)) (a .column) (now (a .out)) t, λ j l. refl)
 
 gather-block-requires : tie.Need-gather-block-requires Inv-loop μ-loop
-gather-block-requires c κs = (omega arith, omega arith, search needs)
+gather-block-requires c κs = (omega arith, omega arith, rw (c .before .before .before .bytes-across .ensures) (search needs))
 
 scatter-block-requires : tie.Need-scatter-block-requires Inv-loop μ-loop
-scatter-block-requires c κs = (omega arith, omega arith, omega arith, omega arith)
+scatter-block-requires c κs = (omega arith, omega arith, omega arith, rw (c .before .before .before .before .before .bytes-across2 .ensures) (omega arith))
 
 loop-again : tie.Need-loop-again Inv-loop μ-loop
 loop-again c =
-    let a = c .before .before .before .before .before .before .before .before .before .before .args in
-    let at = c .before .before .before .before .before .before .before .loop in (
+    let a = c .before .before .before .before .before .before .before .before .before .before .before .before .args in
+    let at = c .before .before .before .before .before .before .before .loop in
+    let put = rw (c .before .before .before .before .before .before .before .before .bytes-across2 .ensures) at (c .before .before .scatter-block .ensures) in (
       search needs,
       c .before .before .scatter-block .kept .1 .0 ∙ at .inv .1,
-      λ t. columns-next (a .up) (a .width) (a .height) (now (a .picture)) (a .column) (λ i. c .before .before .before .before .before .before .before .before .before .shared-slice-known .given i .fits) (at .q) (c .before .before .before .before .before .gather-block .result) (c .before .before .before .before .transpose .result) _ _ (c .before .before .before .before .before .before .loop-test .taken)
-          (c .before .before .before .before .before .gather-block .ensures) (c .before .before .before .before .transpose .ensures) (c .before .before .scatter-block .ensures) (at .inv .2 t),
-      λ j l. c .before .before .scatter-block .ensures .behind j l ∙ at .inv .3 j l,
+      λ t. columns-next (a .up) (a .width) (a .height) (now (a .picture)) (a .column) (λ i. c .before .before .before .before .before .before .before .before .before .before .before .shared-slice-known .given i .fits) (at .q) (c .before .before .before .before .before .gather-block .result) (c .before .before .before .before .transpose .result) _ _ (omega arith)
+          (rw (c .before .before .before .before .before .before .before .before .before .bytes-across .ensures) at (c .before .before .before .before .before .gather-block .ensures)) (c .before .before .before .before .transpose .ensures) put (at .inv .2 t),
+      λ j l. put .behind j l ∙ at .inv .3 j l,
     )
 
 same-length : tie.Need-same-length Inv-loop μ-loop
@@ -44,7 +45,7 @@ same-length c = c .before .loop .inv .1
 
 returns : tie.Need-returns Inv-loop μ-loop
 returns c =
-    let a = c .before .before .before .before .args in
+    let a = c .before .before .before .before .before .before .args in
     let at = c .before .loop in
     (λ t. columns-all (a .up) (a .width) (a .height) (now (a .picture)) (a .column) (at .q) _ (omega arith) (at .inv .2 t), at .inv .3)
 
