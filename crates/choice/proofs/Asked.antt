@@ -7,7 +7,7 @@ use native.Mathlib.Omega.{arith}
 use lib.Dec.{leb, ltb, eqb}
 use lib.IntN.{pos}
 use borrow.Author.Tests.{leb-true, leb-false, eq-eqb, ne-eqb}
-use Rattle.store.specs.Fonts.{Font}
+use Rattle.form.specs.Fonts.{Font}
 use Rattle.blocks.specs.Field.{byte, signedWithin}
 use Rattle.blocks.specs.Header.{lastSymbolSet, lastSpacing, lastStyle, weightLimit, lastOrientation}
 use Rattle.choice.specs.Fields.{headerOf, weightOf}

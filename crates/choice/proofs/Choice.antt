@@ -6,7 +6,7 @@ use mathlib.Core.List.{List, [], _∷_}
 use mathlib.Core.Bool.{true, false}
 use native.Mathlib.Nat.{le-antisymm}
 use native.Mathlib.Omega.{arith}
-use Rattle.store.specs.Fonts.{Font, RisingFrom}
+use Rattle.form.specs.Fonts.{Font, RisingFrom}
 use Rattle.choice.specs.Lists.{In}
 use Rattle.choice.specs.Steps.{fontsLeft, firstNumber, choice, takesPart}
 use Rattle.choice.specs.Scores.{scoreOf}

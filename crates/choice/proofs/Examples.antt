@@ -5,7 +5,7 @@ use mathlib.Core.List.{[], _∷_, _++_}
 use mathlib.Core.Bool.{true}
 use lib.ListN.{replicate}
 use Rattle.blocks.specs.Field as Field
-use Rattle.store.specs.Fonts.{Font}
+use Rattle.form.specs.Fonts.{Font}
 use Rattle.choice.specs.Lists as Lists
 use Rattle.choice.specs.Request.{requestOf, askedWeight}
 use Rattle.choice.specs.Fields as Fields

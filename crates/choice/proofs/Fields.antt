@@ -8,7 +8,7 @@ use native.Mathlib.Nat.{mod-eq-of-lt}
 use native.Mathlib.Omega.{arith}
 use Rattle.blocks.specs.Field.{byte}
 use Rattle.blocks.specs.Header.{pitchAt, pitchExtendedAt, pitch, pitchExtended, resolution, fineResolution}
-use Rattle.store.specs.Fonts.{Font}
+use Rattle.form.specs.Fonts.{Font}
 use Rattle.choice.specs.Fields.{asBytes, headerOf, quarterDotParts, in2400ths, comparedPitch}
 use Rattle.choice.specs.Scores.{mostCompared}
 

@@ -7,7 +7,7 @@ use mathlib.Core.Bool.{Bool, true, false, _&&_, _||_}
 use native.Mathlib.Omega.{arith}
 use lib.Dec.{eqb, ltb}
 use borrow.Author.Tests.{ltb-true, ltb-false, eqb-true, eqb-false, eq-eqb, ne-eqb, le-ltb}
-use Rattle.store.specs.Fonts.{Font}
+use Rattle.form.specs.Fonts.{Font}
 use Rattle.choice.specs.Lists.{In}
 use Rattle.choice.specs.Steps.{hasSet, hasSpacing, fontsLeft, choice, takesPart}
 use Rattle.choice.specs.Scores.{majorOf, minorOf, scoreOf, comesBefore, better, noMajor, noScore, weighed, pass, scoreAnswer}

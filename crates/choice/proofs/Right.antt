@@ -5,7 +5,7 @@ use mathlib.Core.Logic.{_⊎_, inl, inr, ⊎-elim}
 use mathlib.Core.List.{List, [], _∷_}
 use native.Mathlib.Omega.{arith}
 use native.Mathlib.Decide.{ℕ-discrete}
-use Rattle.store.specs.Fonts.{Font}
+use Rattle.form.specs.Fonts.{Font}
 use Rattle.choice.specs.Lists.{In, having}
 use Rattle.choice.specs.Steps.{fontsLeft, choice, takesPart, Beats}
 use Rattle.choice.specs.Right.{Keyed, Other, Unused, Best, Right, Reordered, Without, With, Claim}

@@ -6,7 +6,7 @@ use mathlib.Core.Bool.{Bool, true, false, cond}
 use lib.Dec.{leb}
 use lib.IntN.{pos}
 use lib.Signed.{leZ}
-use Rattle.store.specs.Fonts.{Font}
+use Rattle.form.specs.Fonts.{Font}
 use Rattle.choice.specs.Lists.{In, having, every, orElse, prefer, least, greatest}
 use Rattle.choice.specs.Fields.{isFixed, comparedPitch, weightOf}
 use Rattle.choice.specs.Request.{askedWeight}

@@ -10,7 +10,7 @@ use lib.Dec.{leb, eqb}
 use lib.IntN.{ℤ, pos}
 use lib.Signed.{leZ, ltZ}
 use Rattle.blocks.specs.Field.{byte}
-use Rattle.store.specs.Fonts.{Font}
+use Rattle.form.specs.Fonts.{Font}
 use Rattle.choice.specs.Lists.{In, having, every, orElse, least, greatest}
 use Rattle.choice.specs.Fields.{headerOf, isFixed, isFine, comparedPitch, weightOf}
 use Rattle.choice.specs.Request.{askedWeight}

@@ -5,13 +5,13 @@ use mathlib.Core.List.{List}
 use mathlib.Core.Bool.{true, false}
 use native.Mathlib.Omega.{arith}
 use lib.ListN.{take, drop}
-use Rattle.store.specs.Records.{Begun}
-use Rattle.store.specs.Fonts.{fontsAt, fontsOf, Onward}
-use Rattle.store.specs.declared.records.Begin.{Begin}
-use Rattle.store.specs.declared.records.Begin.the-variants.{At, NotStore}
-use Rattle.store.specs.declared.kept_fonts.NextFont.{NextFont}
-use Rattle.store.specs.declared.kept_fonts.NextFont.the-variants.{Font as found, End}
-use Rattle.store.proofs.KeptFonts.{fonts-rise, fonts-begun}
+use Rattle.form.specs.Records.{Begun}
+use Rattle.form.specs.Fonts.{fontsAt, fontsOf, Onward}
+use Rattle.form.specs.declared.records.Begin.{Begin}
+use Rattle.form.specs.declared.records.Begin.the-variants.{At, NotStore}
+use Rattle.form.specs.declared.kept_fonts.NextFont.{NextFont}
+use Rattle.form.specs.declared.kept_fonts.NextFont.the-variants.{Font as found, End}
+use Rattle.form.proofs.KeptFonts.{fonts-rise, fonts-begun}
 use Rattle.blocks.specs.Header.{headerBytes}
 use Rattle.choice.specs.Request.{inRange}
 use Rattle.choice.specs.Choosing.{choosingAmong, choosing}

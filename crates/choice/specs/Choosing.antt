@@ -2,8 +2,8 @@
 use Prim.Native.Nat.{ℕ}
 use mathlib.Core.List.{List}
 use mathlib.Core.Bool.{cond}
-use Rattle.store.specs.Records.{isStore}
-use Rattle.store.specs.Fonts.{Font, fontsOf}
+use Rattle.form.specs.Records.{isStore}
+use Rattle.form.specs.Fonts.{Font, fontsOf}
 use Rattle.choice.specs.Request.{inRange}
 use Rattle.choice.specs.Steps.{choice}
 use Rattle.choice.specs.declared.Request.{Request}

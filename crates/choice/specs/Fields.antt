@@ -6,7 +6,7 @@ use lib.Dec.{eqb}
 use lib.IntN.{ℤ}
 use Rattle.blocks.specs.Field.{signed}
 use Rattle.blocks.specs.Header.{spacing, pitch, height, strokeWeight, pitchExtended, heightExtended, resolution, fineResolution}
-use Rattle.store.specs.Fonts.{Font}
+use Rattle.form.specs.Fonts.{Font}
 
 -- numbers as bytes: those of a buffer are below 256, so that each remainder is the byte itself
 unfoldable pub asBytes : List ℕ → List ℕ

@@ -4,7 +4,7 @@ use mathlib.Core.Path.{_≡_}
 use mathlib.Core.Logic.{_↔_, _⊎_}
 use mathlib.Core.List.{List}
 use mathlib.Core.Bool.{false}
-use Rattle.store.specs.Fonts.{Font}
+use Rattle.form.specs.Fonts.{Font}
 use Rattle.choice.specs.Lists.{In}
 use Rattle.choice.specs.Steps.{takesPart, Beats, choice}
 use Rattle.choice.specs.declared.Request.{Request}

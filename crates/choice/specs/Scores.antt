@@ -8,7 +8,7 @@ use lib.Dec.{ltb, eqb}
 use lib.IntN.{pos}
 use lib.Signed.{leZ}
 use Rattle.blocks.specs.Header.{strokeWeight}
-use Rattle.store.specs.Fonts.{Font}
+use Rattle.form.specs.Fonts.{Font}
 use Rattle.choice.specs.Request.{askedWeight}
 use Rattle.choice.specs.Fields.{headerOf, isFixed, isFine, comparedPitch}
 use Rattle.choice.specs.Steps.{hasSet, hasSpacing, qualifies, heightOff, hasStyle, exact, isThicker, isThinner, hasTypeface, hasOrientation, takesPart}

@@ -7,7 +7,7 @@ use lib.Dec.{leb, eqb}
 use lib.IntN.{pos}
 use lib.Signed.{leZ, ltZ}
 use Rattle.blocks.specs.Header.{symbolSet, style, typeface, orientation, coarseResolution}
-use Rattle.store.specs.Fonts.{Font}
+use Rattle.form.specs.Fonts.{Font}
 use Rattle.choice.specs.Lists.{having, every, orElse, prefer, least, greatest}
 use Rattle.choice.specs.Request.{askedWeight}
 use Rattle.choice.specs.Fields.{headerOf, isFixed, isFine, quarterDotParts, comparedPitch, comparedHeight, weightOf}

@@ -1,8 +1,8 @@
 // The choice of a font.
 use blocks::field;
 use blocks::header;
-use store::kept_fonts::NextFont;
-use store::records::Begin;
+use form::kept_fonts::NextFont;
+use form::records::Begin;
 ghost use Prim.Native.Nat.{ℕ, _+_, _*_, _%_, _^_, _<_, _≤_};
 ghost use mathlib.Core.Path.{_≡_};
 ghost use mathlib.Core.Bool.{true};
@@ -10,9 +10,9 @@ ghost use lib.Dec.{eqb, leb, ltb};
 ghost use lib.ListN.{length};
 ghost use Rattle.blocks.specs.Field.{byte, word, join as joinOf};
 ghost use Rattle.blocks.specs.Header.{headerBytes, style, typeface, resolution};
-ghost use Rattle.store.specs.Records.{RecordPlace, Begun};
-ghost use Rattle.store.specs.Fonts.{fontsAt, fontsOf};
-ghost use Rattle.store.specs.declared.records.Begin.the-variants.{At};
+ghost use Rattle.form.specs.Records.{RecordPlace, Begun};
+ghost use Rattle.form.specs.Fonts.{fontsAt, fontsOf};
+ghost use Rattle.form.specs.declared.records.Begin.the-variants.{At};
 ghost use Rattle.choice.specs.Request.{inRange};
 ghost use Rattle.choice.specs.Fields.{asBytes, isFine, compared as comparedOf, comparedPitch, comparedHeight};
 ghost use Rattle.choice.specs.Steps.{pitchTestLimit, heightDistance, inMode, takesPart};
@@ -329,7 +329,7 @@ fn scan(s: &[u8], from: usize, r: Request) -> Score
     };
     let mut at = from;
     loop {
-        let NextFont::Font { number, kept, next } = store::kept_fonts::next_font(s, at) else {
+        let NextFont::Font { number, kept, next } = form::kept_fonts::next_font(s, at) else {
             return best;
         };
         let end = kept + header::KEPT;
@@ -382,7 +382,7 @@ pub fn choose_among(s: &[u8], from: usize, r: Request) -> Chosen
 pub fn choose(s: &[u8], r: Request) -> Chosen
     ensures { λ a. ⌜ a ≡ choosing (now (s .entry)) r ⌝ }
 {
-    let Begin::At(from) = store::records::begin_records(s) else {
+    let Begin::At(from) = form::records::begin_records(s) else {
         return Chosen::NotStore;
     };
     choose_among(s, from, r)

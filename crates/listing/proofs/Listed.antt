@@ -8,20 +8,20 @@ use native.Mathlib.Omega.{arith}
 use borrow.Author.Tests.{lt-ltb, le-ltb}
 use lib.ListN.{length, drop, replicate, length-drop}
 use Rattle.blocks.specs.Header.{headerBytes}
-use Rattle.store.specs.Layout.{fontRecord}
-use Rattle.store.specs.Model.{Rec, Store, font, character, split, sizeOf, total, decode}
+use Rattle.form.specs.Layout.{fontRecord}
+use Rattle.form.specs.Model.{Rec, Store, font, character, split, sizeOf, total, decode}
 use Rattle.store.specs.Answer.{toldOf}
 use Rattle.store.specs.Calls.{tellingFont}
-use Rattle.store.specs.Records.{isStore, isSome, recordsIn, recordsAt, recordsBy, RecordPlace, Begun}
-use Rattle.store.specs.Fonts.{fontsIn, fontsAt, fontsOf, Onward}
+use Rattle.form.specs.Records.{isStore, isSome, recordsIn, recordsAt, recordsBy, RecordPlace, Begun}
+use Rattle.form.specs.Fonts.{fontsIn, fontsAt, fontsOf, Onward}
 use Rattle.store.specs.declared.telling.Told.{Told}
-use Rattle.store.specs.declared.records.Begin.{Begin}
-use Rattle.store.specs.declared.records.Begin.the-variants.{At, NotStore}
-use Rattle.store.specs.declared.kept_fonts.NextFont.{NextFont}
-use Rattle.store.specs.declared.kept_fonts.NextFont.the-variants.{Font as found, End}
-use Rattle.store.proofs.RecordBytes.{head-inv}
-use Rattle.store.proofs.RecordRuns.{Standing, at-end, at-record, stands-at, headed-size}
-use Rattle.store.proofs.KeptFonts.{fonts-begun}
+use Rattle.form.specs.declared.records.Begin.{Begin}
+use Rattle.form.specs.declared.records.Begin.the-variants.{At, NotStore}
+use Rattle.form.specs.declared.kept_fonts.NextFont.{NextFont}
+use Rattle.form.specs.declared.kept_fonts.NextFont.the-variants.{Font as found, End}
+use Rattle.form.proofs.RecordBytes.{head-inv}
+use Rattle.form.proofs.RecordRuns.{Standing, at-end, at-record, stands-at, headed-size}
+use Rattle.form.proofs.KeptFonts.{fonts-begun}
 use Rattle.listing.specs.Wrote.{Wrote}
 use Rattle.listing.specs.Column.{column, signedColumn}
 use Rattle.blocks.specs.Field.{byte}

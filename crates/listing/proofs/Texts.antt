@@ -6,7 +6,7 @@ use native.Mathlib.Omega.{arith}
 use borrow.Author.Tests.{le-leb, lt-leb, eq-eqb, ne-eqb}
 use lib.ListN.{length, replicate}
 use Rattle.store.specs.Calls.{makingFresh}
-use Rattle.store.specs.Fonts.{fontsOf}
+use Rattle.form.specs.Fonts.{fontsOf}
 use Rattle.stream.specs.Digits.{decimal}
 use Rattle.store.specs.Change.{withBytes}
 use Rattle.stream.specs.Reading.{reading}

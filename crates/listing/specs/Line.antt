@@ -6,7 +6,7 @@ use Rattle.blocks.specs.Field.{byte, join}
 use Rattle.blocks.specs.Header.{headerBytes, symbolSet, spacing, pitch, height, style, strokeWeight, typeface}
 use Rattle.store.specs.Answer.{Telling}
 use Rattle.store.specs.Calls.{tellingFont}
-use Rattle.store.specs.Fonts.{Font}
+use Rattle.form.specs.Fonts.{Font}
 use Rattle.listing.specs.Column.{column, signedColumn}
 
 -- ' ' and the end of a line

@@ -6,7 +6,7 @@ use mathlib.Core.Bool.{cond}
 use lib.Dec.{leb}
 use lib.ListN.{length, replicate}
 use Rattle.store.specs.Calls.{makingFresh}
-use Rattle.store.specs.Fonts.{fontsOf}
+use Rattle.form.specs.Fonts.{fontsOf}
 use Rattle.stream.specs.Reading.{Reading, reading}
 use Rattle.listing.specs.Line.{lines}
 use Rattle.listing.specs.Summary.{summary}

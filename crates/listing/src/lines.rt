@@ -1,15 +1,15 @@
 // The lines of a store's fonts, by rising number.
 ghost use Prim.Native.Nat.{_+_, _≤_};
 ghost use lib.ListN.{length};
-ghost use Rattle.store.specs.Records.{RecordPlace};
-ghost use Rattle.store.specs.Fonts.{fontsAt, fontsOf};
+ghost use Rattle.form.specs.Records.{RecordPlace};
+ghost use Rattle.form.specs.Fonts.{fontsAt, fontsOf};
 ghost use Rattle.listing.specs.Wrote.{Wrote};
 ghost use Rattle.listing.specs.Line.{lines};
 use crate::line::write_font;
-use store::kept_fonts;
-use store::kept_fonts::NextFont;
-use store::records;
-use store::records::Begin;
+use form::kept_fonts;
+use form::kept_fonts::NextFont;
+use form::records;
+use form::records::Begin;
 
 // Those from a place of the store on. A line is shorter than the record of its font, so that the store's length is room enough.
 fn write_from(out: &mut [u8], at: usize, s: &[u8], from: usize) -> usize

@@ -16,12 +16,13 @@ use Rattle.blocks.specs.declared.character.Kind.{Kind}
 use Rattle.blocks.specs.declared.character.Kind.the-variants.{First, Continuation, Unknown}
 use Rattle.pictures.specs.declared.picture.Judged.{Judged}
 use Rattle.pictures.specs.declared.picture.Judged.the-variants.{Complete, Incomplete, PastWidth}
-use Rattle.store.specs.Layout.{leastStore, mostStore, lastFont}
-use Rattle.store.specs.Num.{_&_}
-use Rattle.store.specs.Model.{Rec, Store, decode}
-use Rattle.store.specs.Order.{fontAt, characterAt}
-use Rattle.store.specs.Answer.{onStore, checked, taking, finding, numbered, onFont, onCharacter, After, refuse, done, Telling, untold}
-use Rattle.store.specs.Records.{isStore}
+use Rattle.form.specs.Layout.{leastStore, mostStore, lastFont}
+use Rattle.form.specs.Num.{_&_}
+use Rattle.form.specs.Model.{Rec, Store, decode}
+use Rattle.form.specs.Order.{fontAt, characterAt}
+use Rattle.form.specs.Checks.{onStore, checked, taking, finding, numbered, onFont, onCharacter}
+use Rattle.store.specs.Answer.{After, refuse, done, Telling, untold}
+use Rattle.form.specs.Records.{isStore}
 use Rattle.store.specs.Calls.{used, makingFresh, putFont, removingFont, downloadingFont, removingCharacter, keptOf, dataOf, tellingFont, tellingCharacter}
 use Rattle.store.specs.Download.{putCharacter, withoutFont, byKind, names, withinWidth, judgedOf, keptOfData, downloadingCharacter}
 use Rattle.store.specs.Drawing.{drawingRow, rowOf, drawingPicture, pictureOf}

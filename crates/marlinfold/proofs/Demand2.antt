@@ -9,24 +9,25 @@ use borrow.Author.Tests.{le-leb, leb-true, eqb-true, eqb-false}
 use lib.Dec.{leb, eqb}
 use lib.ListN.{length, take, drop, getD}
 use lib.Seq.{take-append-seam}
-use Rattle.store.specs.Layout.{keyOf}
-use Rattle.store.specs.Num.{_&_}
-use Rattle.store.specs.Model.{Rec, Store, Under, number, place, key, under, alone, sorted, encode, split, markIn, validOr, decode}
-use Rattle.store.specs.Order.{keep, find}
-use Rattle.store.specs.Answer.{onStore, checked, finding, onFont, onCharacter, After, refuse, Telling, untold}
-use Rattle.store.specs.Records.{recordsOf}
+use Rattle.form.specs.Layout.{keyOf}
+use Rattle.form.specs.Num.{_&_}
+use Rattle.form.specs.Model.{Rec, Store, Under, number, place, key, under, alone, sorted, encode, split, markIn, validOr, decode}
+use Rattle.form.specs.Order.{keep, find}
+use Rattle.form.specs.Checks.{onStore, checked, finding, onFont, onCharacter}
+use Rattle.store.specs.Answer.{After, refuse, Telling, untold}
+use Rattle.form.specs.Records.{recordsOf}
 use Rattle.store.specs.Calls.{fresh, keptOf, onto, makingFresh, charactersOf, tellingFont, tellingCharacter}
 use Rattle.store.specs.Drawing.{drawingRow, drawingPicture}
-use Rattle.store.proofs.Numbers.{both}
-use Rattle.store.proofs.RecordBytes.{guard-is}
-use Rattle.store.proofs.Codec.{storeOf, sorted-inv}
-use Rattle.store.proofs.Order.{place-small}
-use Rattle.store.proofs.Lookup.{find-other}
+use Rattle.form.proofs.Numbers.{both}
+use Rattle.form.proofs.RecordBytes.{guard-is}
+use Rattle.form.proofs.Codec.{storeOf, sorted-inv}
+use Rattle.form.proofs.Order.{place-small}
+use Rattle.form.proofs.Lookup.{find-other}
 use Rattle.store.proofs.Holds.{valid-decode}
 use Rattle.stream.specs.Reading.{Reading, reading}
 use Rattle.stream.specs.Written.{WriteOut, unwritten, written, writingFont}
 use Rattle.stream.specs.RoundTrip.{onlyFont, restored}
-use Rattle.store.proofs.FontRecords.{of-in, of-out}
+use Rattle.form.proofs.FontRecords.{of-in, of-out}
 use Rattle.stream.proofs.RoundTrip.{round-trip}
 use Rattle.profile.specs.Profile.{rules, brokenIn, unchecked, checkingProfile, writingProfiled}
 use Rattle.profile.specs.declared.check.ProfileChecked.{ProfileChecked}

@@ -9,16 +9,17 @@ use lib.ListN.{length}
 use lib.Dec.{eqb, leb, ltb}
 use borrow.Author.Tests.{ltb-true, ltb-false, lt-ltb, eqb-true, eqb-false, eq-eqb}
 use Rattle.blocks.specs.Header.{keptHeader}
-use Rattle.store.specs.Answer.{checked, refuse, done}
-use Rattle.store.specs.Num.{_&_}
+use Rattle.form.specs.Checks.{checked}
+use Rattle.store.specs.Answer.{refuse, done}
+use Rattle.form.specs.Num.{_&_}
 use mathlib.Core.Option.{Option, none, some}
-use Rattle.store.specs.Model.{Store, decode}
-use Rattle.store.specs.Records.{isStore, isSome, CountsTrue}
-use Rattle.store.proofs.Counts.{counts-true}
-use Rattle.store.specs.Fonts.{Font, fontsOf, fontsBelow, fontsAbove, fontsWith, fontsAfter}
+use Rattle.form.specs.Model.{Store, decode}
+use Rattle.form.specs.Records.{isStore, isSome, CountsTrue}
+use Rattle.form.proofs.Counts.{counts-true}
+use Rattle.form.specs.Fonts.{Font, fontsOf, fontsBelow, fontsAbove, fontsWith, fontsAfter}
 use Rattle.store.specs.Calls.{fresh, makingFresh, downloadingFont, removingFont}
 use Rattle.store.specs.Download.{downloadingCharacter}
-use Rattle.store.proofs.KeptFonts.{fonts-rise}
+use Rattle.form.proofs.KeptFonts.{fonts-rise}
 use Rattle.store.proofs.Again.{fresh-leaves, font-leaves, character-leaves, removed-leaves, cut-leaves}
 use Rattle.choice.specs.Lists.{In, having}
 use Rattle.choice.specs.Request.{inRange}

@@ -5,7 +5,7 @@ use mathlib.Core.List.{List, [], _∷_, _++_}
 use mathlib.Core.Bool.{cond}
 use lib.Dec.{eqb}
 use Rattle.blocks.specs.Header.{keptHeader}
-use Rattle.store.specs.Fonts.{Font, fontsAfter}
+use Rattle.form.specs.Fonts.{Font, fontsAfter}
 use Rattle.stream.specs.Reading.{Download, font-block, character-block}
 use Rattle.stream.specs.Downloads.{spelledDownloads}
 use Rattle.marlinfold.specs.Calls.{Call, make-fresh, download-font, download-character, remove-font, remove-character, choose-font, tell-font, tell-character, draw-row, draw-picture, write-font, read-stream, choose-sheet, turn-picture, check-profile, write-profiled, outcome, leaves, ran}

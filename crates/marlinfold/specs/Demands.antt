@@ -8,10 +8,10 @@ use mathlib.Core.Bool.{Bool, true, false, _||_}
 use mathlib.Core.Option.{some}
 use lib.Dec.{eqb}
 use lib.ListN.{length, take, getD, replicate}
-use Rattle.store.specs.Model.{Rec, Store, encode, decode}
-use Rattle.store.specs.Order.{fontAt}
-use Rattle.store.specs.Records.{isStore, CountsTrue}
-use Rattle.store.specs.Fonts.{Font}
+use Rattle.form.specs.Model.{Rec, Store, encode, decode}
+use Rattle.form.specs.Order.{fontAt}
+use Rattle.form.specs.Records.{isStore, CountsTrue}
+use Rattle.form.specs.Fonts.{Font}
 use Rattle.store.specs.Calls.{removeFont}
 use Rattle.choice.specs.Request.{inRange}
 use Rattle.choice.specs.Right.{Keyed, Unused, Right}

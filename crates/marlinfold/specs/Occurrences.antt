@@ -5,7 +5,7 @@ use mathlib.Core.List.{List, [], _∷_}
 use mathlib.Core.Bool.{Bool, true, false}
 use lib.Dec.{eqb}
 use lib.ListN.{replicate}
-use Rattle.store.specs.Layout.{leastStore, markRecord, fontRecord, characterRecord}
+use Rattle.form.specs.Layout.{leastStore, markRecord, fontRecord, characterRecord}
 use Rattle.marlinfold.specs.Calls.{Call, make-fresh, download-font, download-character, remove-font, remove-character, choose-font, tell-font, tell-character, draw-row, draw-picture, write-font, read-stream, choose-sheet, turn-picture, check-profile, write-profiled, outcome}
 use Rattle.marlinfold.specs.Demands.{listed}
 use Rattle.marlinfold.specs.Trials.{A, requestWith, asks, storeAfter}

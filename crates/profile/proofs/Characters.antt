@@ -15,9 +15,9 @@ use Rattle.blocks.specs.Character.{descriptorBytes, class, leftOffset, width, h
 use Rattle.blocks.proofs.Signed.{leb-iff, negative-by}
 use Rattle.pictures.specs.Picture.{held}
 use Rattle.pictures.specs.declared.picture.Held.{Held}
-use Rattle.store.specs.Model.{Rec, heldOf}
-use Rattle.store.specs.Records.{MetAt, Between, fontFrom, FontMet, characterFrom, CharacterMet}
-use Rattle.store.proofs.FontRecords.{between-none, between-next}
+use Rattle.form.specs.Model.{Rec, heldOf}
+use Rattle.form.specs.Records.{MetAt, Between, fontFrom, FontMet, characterFrom, CharacterMet}
+use Rattle.form.proofs.FontRecords.{between-none, between-next}
 use Rattle.profile.specs.Profile.{isWhole, rightInside}
 use Rattle.profile.specs.Pass.{brokenBy, nextWanted, behindCharacter, behindRecord, passedOver, nothingFound}
 use Rattle.profile.specs.declared.pass.Findings.{Findings}

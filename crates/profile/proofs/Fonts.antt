@@ -6,12 +6,12 @@ use native.Mathlib.Omega.{arith}
 use borrow.Author.Tests.{eq-eqb, ne-eqb}
 use lib.ListN.{length, take, drop, length-take, length-drop}
 use Rattle.blocks.specs.Header.{headerBytes}
-use Rattle.store.specs.Model.{Rec, font, total}
-use Rattle.store.specs.Records.{recordsOf, Between, fontFrom, FontMet, characterFrom, CharacterMet}
-use Rattle.store.specs.declared.walk.Places.{Places}
-use Rattle.store.proofs.Seeks.{KeptFont, font-call}
-use Rattle.store.proofs.RecordBytes.{size-pos}
-use Rattle.store.proofs.FontRecords.{between-next, font-records}
+use Rattle.form.specs.Model.{Rec, font, total}
+use Rattle.form.specs.Records.{recordsOf, Between, fontFrom, FontMet, characterFrom, CharacterMet}
+use Rattle.form.specs.declared.walk.Places.{Places}
+use Rattle.form.proofs.Seeks.{KeptFont, font-call}
+use Rattle.form.proofs.RecordBytes.{size-pos}
+use Rattle.form.proofs.FontRecords.{between-next, font-records}
 use Rattle.stream.specs.Written.{WriteOut, unwritten, writtenRun, written, writingBytes}
 use Rattle.stream.proofs.RoundTrip.{kept-of}
 use Rattle.profile.specs.Profile.{noneBroken, brokenIn, unchecked, checkedAs, checkingProfile, writingProfiled}

@@ -9,15 +9,15 @@ use native.Mathlib.Omega.{arith}
 use borrow.Author.Tests.{eqb-true, eqb-false, ltb-true, ltb-false, leb-true, leb-false, le-leb, lt-leb}
 use lib.Dec.{eqb, ltb, leb}
 use Rattle.blocks.specs.Header.{fontType, spacing}
-use Rattle.store.specs.Layout.{lastCode, keyOf}
-use Rattle.store.specs.Model.{Rec, font, character, Under, alone, under, sorted, number, place, key, heldOf}
-use Rattle.store.specs.Order.{keep, find}
-use Rattle.store.specs.Records.{recordsOf}
+use Rattle.form.specs.Layout.{lastCode, keyOf}
+use Rattle.form.specs.Model.{Rec, font, character, Under, alone, under, sorted, number, place, key, heldOf}
+use Rattle.form.specs.Order.{keep, find}
+use Rattle.form.specs.Records.{recordsOf}
 use Rattle.store.specs.Calls.{keptOf}
-use Rattle.store.proofs.RecordBytes.{allowed-char}
-use Rattle.store.proofs.Codec.{Sorted, sorted-inv}
-use Rattle.store.proofs.Lookup.{find-here, find-other, find-behind}
-use Rattle.store.proofs.FontRecords.{of-in, of-out}
+use Rattle.form.proofs.RecordBytes.{allowed-char}
+use Rattle.form.proofs.Codec.{Sorted, sorted-inv}
+use Rattle.form.proofs.Lookup.{find-here, find-other, find-behind}
+use Rattle.form.proofs.FontRecords.{of-in, of-out}
 use Rattle.stream.proofs.RoundTrip.{kept-of}
 use Rattle.profile.specs.Profile.{ruleAt, firstRequired, lastRequired, isWhole, complete, leftInside, rightInside, heightInside, advancesByPitch, ofEach, characterRules, rules, hasCharacter, noneBroken, firstBroken, brokenIn}
 use Rattle.profile.specs.Pass.{brokenBy, nextWanted, behindCharacter, behindRecord, passedOver, nothingFound, foundBroken, brokenWith, brokenAmong}

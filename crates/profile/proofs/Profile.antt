@@ -11,10 +11,10 @@ use Rattle.blocks.specs.Header.{fontType, spacing}
 use Rattle.pictures.specs.Size.{within}
 use Rattle.pictures.specs.declared.picture.Held.{Held}
 use Rattle.pictures.specs.declared.picture.Held.the-variants.{Whole, Unfinished, Foreign}
-use Rattle.store.specs.Layout.{lastFont, lastCode, keyOf}
-use Rattle.store.specs.Model.{Rec, Store, heldOf, decode}
-use Rattle.store.specs.Answer.{onStore, checked, finding, onFont}
-use Rattle.store.specs.Order.{find}
+use Rattle.form.specs.Layout.{lastFont, lastCode, keyOf}
+use Rattle.form.specs.Model.{Rec, Store, heldOf, decode}
+use Rattle.form.specs.Checks.{onStore, checked, finding, onFont}
+use Rattle.form.specs.Order.{find}
 use Rattle.store.specs.Calls.{keptOf, dataOf}
 use Rattle.stream.specs.Written.{WriteOut, unwritten, writingFont}
 use Rattle.profile.specs.declared.pass.RuleBroken.{RuleBroken}

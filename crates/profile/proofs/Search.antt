@@ -7,8 +7,8 @@ use mathlib.Core.Option.{Option, none, some}
 use native.Mathlib.Omega.{arith}
 use borrow.Author.Tests.{eqb-true, eqb-false}
 use lib.Dec.{eqb}
-use Rattle.store.specs.Layout.{lastCode}
-use Rattle.store.specs.Model.{Rec}
+use Rattle.form.specs.Layout.{lastCode}
+use Rattle.form.specs.Model.{Rec}
 use Rattle.profile.specs.declared.pass.RuleBroken.{RuleBroken}
 use Rattle.profile.specs.Profile.{Rule, ruleAt, lowestBreaking, noneBroken, brokenOr, firstBroken, BreaksFirst}
 

@@ -4,7 +4,7 @@ use mathlib.Core.List.{List, [], _∷_}
 use mathlib.Core.Bool.{Bool, not, _||_, cond}
 use lib.Dec.{eqb, leb, ltb}
 use Rattle.blocks.specs.Header.{fontType, spacing}
-use Rattle.store.specs.Model.{Rec, font, character, heldOf}
+use Rattle.form.specs.Model.{Rec, font, character, heldOf}
 use Rattle.profile.specs.Profile.{firstRequired, lastRequired, isWhole, leftInside, rightInside, heightInside, advancesByPitch, noneBroken}
 use Rattle.profile.specs.declared.pass.RuleBroken.{RuleBroken}
 use Rattle.profile.specs.declared.pass.Findings.{Findings}

@@ -13,10 +13,10 @@ use Rattle.blocks.specs.Header.{fontType, spacing, cellWidth, cellHeight, pitch
 use Rattle.blocks.specs.Character.{leftOffset, width, height, deltaX}
 use Rattle.pictures.specs.declared.picture.Held.{Held}
 use Rattle.pictures.specs.declared.picture.Held.the-variants.{Whole, Unfinished, Foreign}
-use Rattle.store.specs.Layout.{lastCode}
-use Rattle.store.specs.Model.{Rec, heldOf}
-use Rattle.store.specs.Order.{characterAt}
-use Rattle.store.specs.Answer.{checked, onFont}
+use Rattle.form.specs.Layout.{lastCode}
+use Rattle.form.specs.Model.{Rec, heldOf}
+use Rattle.form.specs.Order.{characterAt}
+use Rattle.form.specs.Checks.{checked, onFont}
 use Rattle.store.specs.Calls.{keptOf, dataOf}
 use Rattle.stream.specs.Written.{WriteOut, unwritten, written, writingBytes}
 use Rattle.profile.specs.declared.pass.RuleBroken.{RuleBroken}

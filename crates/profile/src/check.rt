@@ -3,8 +3,8 @@ ghost use mathlib.Core.Path.{_≡_};
 ghost use Rattle.stream.specs.Written.{writtenOf};
 ghost use Rattle.profile.specs.Profile.{unchecked, checkingProfile, writingProfiled};
 use crate::pass::broken_among;
-use store::seek;
-use store::seek::Sought;
+use form::seek;
+use form::seek::Sought;
 use stream::write;
 use stream::write::Written;
 

@@ -5,16 +5,16 @@ ghost use Prim.Native.Nat.{_≤_, _<_};
 ghost use lib.ListN.{length};
 ghost use Rattle.blocks.specs.Header.{headerBytes};
 ghost use Rattle.blocks.specs.Character.{descriptorBytes};
-ghost use Rattle.store.specs.Layout.{lastCode};
-ghost use Rattle.store.specs.Model.{Rec, heldOf};
-ghost use Rattle.store.specs.Records.{recordsAt, RecordPlace, MetAt, Between};
+ghost use Rattle.form.specs.Layout.{lastCode};
+ghost use Rattle.form.specs.Model.{Rec, heldOf};
+ghost use Rattle.form.specs.Records.{recordsAt, RecordPlace, MetAt, Between};
 ghost use Rattle.profile.specs.Profile.{isWhole, noneBroken};
 ghost use Rattle.profile.specs.Pass.{nextWanted, behindCharacter, behindRecord, passedOver, nothingFound, foundBroken, brokenWith, brokenAmong};
 use crate::rules;
 use blocks::character;
 use blocks::header;
-use store::records;
-use store::records::Met;
+use form::records;
+use form::records::Met;
 
 // The codes that a font must have.
 const FIRST_REQUIRED: u32 = 32;

@@ -4,7 +4,7 @@ ghost use Prim.Native.Nat.{_≤_};
 ghost use lib.ListN.{length};
 ghost use Rattle.blocks.specs.Header.{headerBytes};
 ghost use Rattle.blocks.specs.Character.{descriptorBytes};
-ghost use Rattle.store.specs.Model.{heldOf};
+ghost use Rattle.form.specs.Model.{heldOf};
 ghost use Rattle.profile.specs.Profile.{isWhole, leftInside, rightInside, heightInside, advancesByPitch};
 ghost use Rattle.profile.specs.Pass.{brokenBy};
 use blocks::character;

@@ -8,11 +8,11 @@ use native.Mathlib.Omega.{arith}
 use lib.ListN.{length, getD, drop, set}
 use lib.Dec.{leb}
 use borrow.Author.Tests.{le-leb, lt-leb, leb-true}
-use Rattle.store.specs.Answer.{checked}
-use Rattle.store.specs.Records.{isStore, Begun}
-use Rattle.store.specs.Fonts.{fontsOf}
-use Rattle.store.specs.declared.records.Begin.{Begin}
-use Rattle.store.specs.declared.records.Begin.the-variants.{At, NotStore}
+use Rattle.form.specs.Checks.{checked}
+use Rattle.form.specs.Records.{isStore, Begun}
+use Rattle.form.specs.Fonts.{fontsOf}
+use Rattle.form.specs.declared.records.Begin.{Begin}
+use Rattle.form.specs.declared.records.Begin.the-variants.{At, NotStore}
 use Rattle.choice.specs.Choosing.{choosingAmong, choosing}
 use Rattle.choice.specs.declared.Request.{Request}
 use Rattle.choice.specs.declared.Chosen.{Chosen}

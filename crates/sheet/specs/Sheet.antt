@@ -4,8 +4,8 @@ use mathlib.Core.Path.{_≡_}
 use mathlib.Core.List.{List, [], _∷_, _++_}
 use lib.Dec.{leb}
 use lib.ListN.{length, drop, getD}
-use Rattle.store.specs.Answer.{checked}
-use Rattle.store.specs.Records.{isStore}
+use Rattle.form.specs.Checks.{checked}
+use Rattle.form.specs.Records.{isStore}
 use Rattle.choice.specs.Choosing.{choosing, refusalOf, fontOf}
 use Rattle.choice.specs.declared.Request.{Request}
 use Rattle.choice.specs.declared.Chosen.{Chosen}

@@ -1,13 +1,13 @@
 // W-201, one sheet, one call: what is done once for a sheet of requests, and what is done for each.
 ghost use mathlib.Core.Path.{_≡_};
-ghost use Rattle.store.specs.Records.{Begun};
-ghost use Rattle.store.specs.declared.records.Begin.the-variants.{At};
+ghost use Rattle.form.specs.Records.{Begun};
+ghost use Rattle.form.specs.declared.records.Begin.the-variants.{At};
 ghost use Rattle.choice.specs.Choosing.{choosing};
 ghost use Rattle.sheet.specs.Sheet.{answerOf, sheetRefusal};
 use choice::Chosen;
 use choice::Request;
-use store::records;
-use store::records::Begin;
+use form::records;
+use form::records::Begin;
 
 const MOST_REQUESTS: usize = 64;
 

@@ -21,26 +21,27 @@ use Rattle.pictures.specs.declared.picture.Judged.the-variants.{Complete, Incom
 use Rattle.blocks.proofs.KeptHeader.{kept-header}
 use Rattle.blocks.proofs.KeptFirst.{kept-first}
 use Rattle.pictures.proofs.KeptData.{held-whole, held-unfinished}
-use Rattle.store.specs.Layout.{keyOf, lastCode, lastFont, leastStore, markRecord, mostStore}
-use Rattle.store.specs.Num.{_&_}
-use Rattle.store.specs.Model.{Rec, font, character, Store, alone, sorted, markOk, heldUnder, isKept, run, encode, decode, total}
-use Rattle.store.specs.Order.{find}
-use Rattle.store.specs.Records.{isStore, recordsIn}
-use Rattle.store.specs.Fonts.{Font, fontsIn, fontsOf, fontsWith, fontsAfter}
-use Rattle.store.specs.Answer.{onStore, checked, taking, finding, numbered, onFont, onCharacter, After, refuse, done}
+use Rattle.form.specs.Layout.{keyOf, lastCode, lastFont, leastStore, markRecord, mostStore}
+use Rattle.form.specs.Num.{_&_}
+use Rattle.form.specs.Model.{Rec, font, character, Store, alone, sorted, markOk, heldUnder, isKept, run, encode, decode, total}
+use Rattle.form.specs.Order.{find}
+use Rattle.form.specs.Records.{isStore, recordsIn}
+use Rattle.form.specs.Fonts.{Font, fontsIn, fontsOf, fontsWith, fontsAfter}
+use Rattle.form.specs.Checks.{onStore, checked, taking, finding, numbered, onFont, onCharacter}
+use Rattle.store.specs.Answer.{After, refuse, done}
 use Rattle.store.specs.Calls.{fresh, makingFresh, used, withFont, putFont, removingFont, removeCharacter, removingCharacter, removeFont, downloadingFont, withCharacter, keptOf, dataOf}
 use Rattle.store.specs.Download.{names, withinWidth, withoutFont, byKind, markFor, putCharacter, downloadingCharacter}
 use Rattle.store.specs.Putting.{puttingFont, placing, receiving, receivingFirst, receivingMore, receivingBlock, puttingBlock}
-use Rattle.store.proofs.Numbers.{both-l, both-r}
-use Rattle.store.proofs.Codec.{Valid, decode-encode}
+use Rattle.form.proofs.Numbers.{both-l, both-r}
+use Rattle.form.proofs.Codec.{Valid, decode-encode}
 use Rattle.store.proofs.Holds.{valid-decode}
-use Rattle.store.proofs.Lookup.{found, font-at, char-at, kept-under}
+use Rattle.form.proofs.Lookup.{found, font-at, char-at, kept-under}
 use Rattle.store.proofs.Replaced.{no-font, new-font, new-char}
 use Rattle.store.proofs.Changed.{total-replaced, valid-font, valid-char, valid-cut}
 use Rattle.store.proofs.Downloads.{new-allowed, mark-new}
 use Rattle.store.proofs.Receives.{in-range}
 use Rattle.store.proofs.Leaves.{fonts-font, fonts-char}
-use Rattle.store.proofs.Locates.{is-store, store-is}
+use Rattle.form.proofs.Locates.{is-store, store-is}
 
 encoded : (st : Store) → Valid st → isStore (encode st) ≡ true
 encoded st v = store-is (encode st) st (decode-encode st v)

@@ -19,19 +19,20 @@ use Rattle.pictures.specs.declared.picture.Held.the-variants.{Whole, Unfinished
 use Rattle.blocks.proofs.KeptHeader.{is-kept-header}
 use Rattle.blocks.proofs.KeptFirst.{is-kept-block, is-kept-length}
 use Rattle.pictures.proofs.KeptData.{whole-judged, unfinished-judged, kept-complete, kept-incomplete, incomplete-prefix, complete-prefix}
-use Rattle.store.specs.Layout.{keyOf, characterRecord, lastCode, lastFont, markRecord, mostStore, fontRecord}
-use Rattle.store.specs.Num.{_&_}
-use Rattle.store.specs.Model.{Rec, font, character, Store, key, number, place, heldOf, heldUnder, isKept, isUnfinished, sorted, markOk, encode, total, sizeOf}
-use Rattle.store.specs.Order.{keep, below, from, replaced, find}
-use Rattle.store.specs.Answer.{onStore, finding, done}
+use Rattle.form.specs.Layout.{keyOf, characterRecord, lastCode, lastFont, markRecord, mostStore, fontRecord}
+use Rattle.form.specs.Num.{_&_}
+use Rattle.form.specs.Model.{Rec, font, character, Store, key, number, place, heldOf, heldUnder, isKept, isUnfinished, sorted, markOk, encode, total, sizeOf}
+use Rattle.form.specs.Order.{keep, below, from, replaced, find}
+use Rattle.form.specs.Checks.{onStore, finding}
+use Rattle.store.specs.Answer.{done}
 use Rattle.store.specs.Calls.{shut, fresh, used, closedFor, putFont, downloadingFont, withCharacter}
 use Rattle.store.specs.Download.{names, markFor, putCharacter, downloadingCharacter}
 use Rattle.store.specs.Putting.{placing, receiving, receivingFirst, receivingMore}
-use Rattle.store.proofs.RecordBytes.{held-kept}
-use Rattle.store.proofs.Codec.{Valid, decode-encode}
-use Rattle.store.proofs.Totals.{total-append}
-use Rattle.store.proofs.Order.{below-in, below-out, from-out}
-use Rattle.store.proofs.Lookup.{find-here, find-other}
+use Rattle.form.proofs.RecordBytes.{held-kept}
+use Rattle.form.proofs.Codec.{Valid, decode-encode}
+use Rattle.form.proofs.Totals.{total-append}
+use Rattle.form.proofs.Order.{below-in, below-out, from-out}
+use Rattle.form.proofs.Lookup.{find-here, find-other}
 use Rattle.store.proofs.Changed.{changed}
 use Rattle.store.proofs.Again.{put-valid, placed-valid}
 

@@ -7,17 +7,17 @@ use Prim.Native.Nat.{ℕ, _+_, _-_, _≤_}
 use native.Mathlib.Omega.{arith}
 use lib.ListN.{length, drop, replicate, length-append, length-replicate}
 use lib.Dec.{eqb}
-use Rattle.store.specs.Layout.{keyOf, lastCode, fontCharactersAt, fontRecord, markRecord}
-use Rattle.store.specs.Model.{Rec, font, Mark, Store, noCharacters, tallyOf, tallyBytes, tallyIn, bytesOf, run, markBytes, encode, alone, sorted, opened, unfinished, markOk, sizeOf, total}
-use Rattle.store.specs.Num.{_&_}
-use Rattle.store.specs.Order.{below, from, find, replaced}
+use Rattle.form.specs.Layout.{keyOf, lastCode, fontCharactersAt, fontRecord, markRecord}
+use Rattle.form.specs.Model.{Rec, font, Mark, Store, noCharacters, tallyOf, tallyBytes, tallyIn, bytesOf, run, markBytes, encode, alone, sorted, opened, unfinished, markOk, sizeOf, total}
+use Rattle.form.specs.Num.{_&_}
+use Rattle.form.specs.Order.{below, from, find, replaced}
 use Rattle.store.specs.Change.{splicedAt, withBytes, tallyBy, recount, Recounting, recounted, unmarkedFor}
 use Rattle.store.specs.Calls.{closedFor, closedAt, withFont, used, withCharacter, removeCharacter}
-use Rattle.store.proofs.Codec.{Valid, spare, encode-parts, mark-length, mark-fits, length-run, tally-total, tally-fits}
-use Rattle.store.proofs.Totals.{run-append, total-append, total-at}
+use Rattle.form.proofs.Codec.{Valid, spare, encode-parts, mark-length, mark-fits, length-run, tally-total, tally-fits}
+use Rattle.form.proofs.Totals.{run-append, total-append, total-at}
 use Rattle.store.proofs.Tallies.{no-font-below, no-font-from, font-off, font-fresh, Apart, retally, tally-there, Gone, gone, new-one, char-apart, char-had, char-off, char-recount}
-use Rattle.store.specs.declared.tally.Tally.{Tally}
-use Rattle.store.proofs.Lookup.{below-mono}
+use Rattle.form.specs.declared.tally.Tally.{Tally}
+use Rattle.form.proofs.Lookup.{below-mono}
 use Rattle.store.proofs.Replaced.{NewFont, no-font, new-font, font-replaced, NewChar, no-char, char-replaced}
 use Rattle.store.proofs.Splices.{replace-bytes}
 use Rattle.store.proofs.Marks.{Small, markKey, closed-for, closed-at, unmark-for}
@@ -68,7 +68,7 @@ module _ (lo hi : ℕ) (new : List Rec) (st : Store) (v : Valid st) (m : lo ≤ 
 new-closed : (n k : ℕ) (new : List Rec) → NewFont n new → opened k new ≡ false
 unfolding opened unfinished
 new-closed n k new no-font = refl
-new-closed n k new (new-font h a b) = and-false (lib.Dec.eqb (Rattle.store.specs.Model.key (font n h)) k)
+new-closed n k new (new-font h a b) = and-false (lib.Dec.eqb (Rattle.form.specs.Model.key (font n h)) k)
   where
     and-false : (a : Bool) → mathlib.Core.Bool._||_ (a & false) false ≡ false
     and-false true = unfold _&_ in refl

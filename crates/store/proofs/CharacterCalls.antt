@@ -4,17 +4,17 @@ use mathlib.Core.List.{List, [], _++_}
 use Prim.Native.Nat.{ℕ, _+_, _-_, _≤_}
 use native.Mathlib.Omega.{arith}
 use lib.ListN.{replicate}
-use Rattle.store.specs.Layout.{keyOf, markRecord}
-use Rattle.store.specs.Model.{tallyOf, run, encode, total}
-use Rattle.store.specs.Order.{below}
+use Rattle.form.specs.Layout.{keyOf, markRecord}
+use Rattle.form.specs.Model.{tallyOf, run, encode, total}
+use Rattle.form.specs.Order.{below}
 use Rattle.store.specs.Change.{splicedAt, Recounting, recounted, unmarkedAt}
 use Rattle.store.specs.Calls.{closedAt, withCharacter, removeCharacter}
-use Rattle.store.specs.declared.walk.Places.{Places}
+use Rattle.form.specs.declared.walk.Places.{Places}
 use Rattle.store.proofs.Puts.{put-nil}
 use Rattle.store.proofs.Marks.{unmark-at}
 use Rattle.store.proofs.Replaced.{no-char}
 use Rattle.store.proofs.Changed.{small-mark, encode-changed, total-replaced, order-char, bytes-char, bytes-counted, recounting, uncounted}
-use Rattle.store.proofs.Seeks.{KeptChar}
+use Rattle.form.proofs.Seeks.{KeptChar}
 
 module _ (n c : ℕ) (s : List ℕ) (w : Places) (x : KeptChar n c s w) where
   lo : w .lo ≡ markRecord + total (below (keyOf n 0) (x .ready .store .recs))

@@ -20,21 +20,22 @@ use Rattle.pictures.specs.declared.picture.Held.the-variants.{Whole, Unfinished
 use Rattle.pictures.specs.declared.picture.Judged.{Judged}
 use Rattle.pictures.specs.declared.picture.Judged.the-variants.{Complete, Incomplete, PastWidth}
 use Rattle.pictures.proofs.KeptData.{complete-within, kept-complete, kept-incomplete, kept-judged, held-whole, held-unfinished, unfinished-judged, incomplete-prefix}
-use Rattle.store.specs.Layout.{keyOf, characterKeptAt, characterRecord, markCodeAt, markFontAt, markOnAt}
-use Rattle.store.specs.Num.{_&_, field}
-use Rattle.store.specs.Model.{Rec, character, Under, under, alone, sorted, heldOf, heldUnder, isKept, isUnfinished, unfinished, opened, markOk, markIn, key}
-use Rattle.store.specs.Order.{find}
-use Rattle.store.specs.Answer.{onStore, checked, finding, refuse}
+use Rattle.form.specs.Layout.{keyOf, characterKeptAt, characterRecord, markCodeAt, markFontAt, markOnAt}
+use Rattle.form.specs.Num.{_&_, field}
+use Rattle.form.specs.Model.{Rec, character, Under, under, alone, sorted, heldOf, heldUnder, isKept, isUnfinished, unfinished, opened, markOk, markIn, key}
+use Rattle.form.specs.Order.{find}
+use Rattle.form.specs.Checks.{onStore, checked, finding}
+use Rattle.store.specs.Answer.{refuse}
 use Rattle.store.specs.Download.{names, withinWidth}
 use Rattle.store.specs.Putting.{placing, placed, receiving, receivingMore, puttingMore}
-use Rattle.store.specs.Walk.{Growing, Continued, keptAt, dataAt}
-use Rattle.store.specs.declared.walk.Places.{Places}
-use Rattle.store.proofs.Numbers.{both-l, both-r, less-or}
-use Rattle.store.proofs.Codec.{Sorted, sorted-inv, mark-fits, mark-back, encode-parts}
-use Rattle.store.proofs.Lookup.{find-here, find-other, find-behind, found, char-at, kept-under}
+use Rattle.form.specs.Walk.{Growing, Continued, keptAt, dataAt}
+use Rattle.form.specs.declared.walk.Places.{Places}
+use Rattle.form.proofs.Numbers.{both-l, both-r, less-or}
+use Rattle.form.proofs.Codec.{Sorted, sorted-inv, mark-fits, mark-back, encode-parts}
+use Rattle.form.proofs.Lookup.{find-here, find-other, find-behind, found, char-at, kept-under}
 use Rattle.store.proofs.Marks.{Shut, Open, markKey, mark-inv}
-use Rattle.store.proofs.Ready.{Ready, font-there}
-use Rattle.store.proofs.Seeks.{KeptChar}
+use Rattle.form.proofs.Ready.{Ready, font-there}
+use Rattle.form.proofs.Seeks.{KeptChar}
 use Rattle.store.proofs.Spots.{char-span, char-kept, char-bytes}
 use Rattle.store.proofs.Host.{Host, fitting}
 

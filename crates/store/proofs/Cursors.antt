@@ -10,28 +10,29 @@ use lib.Seq.{drop-drop}
 use lib.Dec.{eqb, leb, ltb}
 use borrow.Author.Tests.{eqb-false}
 use Rattle.blocks.specs.Header.{keptHeader}
-use Rattle.store.specs.Layout.{keyOf, lastCode, lastFont, markRecord, mostStore}
-use Rattle.store.specs.Model.{Rec, font, character, Store, Under, under, alone, sorted, number, place, key, sizeOf, total, split, encode, decode}
-use Rattle.store.specs.Order.{keep, below, from, replaced}
+use Rattle.form.specs.Layout.{keyOf, lastCode, lastFont, markRecord, mostStore}
+use Rattle.form.specs.Model.{Rec, font, character, Store, Under, under, alone, sorted, number, place, key, sizeOf, total, split, encode, decode}
+use Rattle.form.specs.Order.{keep, below, from, replaced}
 use Rattle.store.specs.Answer.{After}
 use Rattle.store.specs.Calls.{putFont, removeFont, withCharacter, downloadingFont}
 use Rattle.store.specs.Download.{putCharacter, downloadingCharacter}
-use Rattle.store.specs.Walk.{inspected, Stands}
-use Rattle.store.specs.Cursor.{Points, Opening, fontEnd, Ordered, Came}
-use Rattle.store.specs.declared.walk.Places.{Places}
-use Rattle.store.specs.declared.locate.Cursor.{Cursor}
-use Rattle.store.specs.declared.walk.Inspected.the-variants.{Found}
+use Rattle.form.specs.Walk.{inspected, Stands}
+use Rattle.form.specs.Cursor.{Points}
+use Rattle.store.specs.Known.{Opening, fontEnd, Ordered, Came}
+use Rattle.form.specs.declared.walk.Places.{Places}
+use Rattle.form.specs.declared.locate.Cursor.{Cursor}
+use Rattle.form.specs.declared.walk.Inspected.the-variants.{Found}
 use Rattle.store.specs.declared.known.Opened.{Opened}
 use Rattle.store.specs.declared.known.Opened.the-variants.{At, NotStore}
-use Rattle.store.proofs.Codec.{Valid, sorted-inv, decode-encode}
-use Rattle.store.proofs.Order.{below-in, below-out, from-in, from-out, none-below, sorted-from, Side, before, behind, side}
-use Rattle.store.proofs.Totals.{total-at}
-use Rattle.store.proofs.Lookup.{below-mono}
+use Rattle.form.proofs.Codec.{Valid, sorted-inv, decode-encode}
+use Rattle.form.proofs.Order.{below-in, below-out, from-in, from-out, none-below, sorted-from, Side, before, behind, side}
+use Rattle.form.proofs.Totals.{total-at}
+use Rattle.form.proofs.Lookup.{below-mono}
 use Rattle.store.proofs.Changed.{total-replaced}
 use Rattle.store.proofs.Holds.{valid-decode}
-use Rattle.store.proofs.RecordRuns.{decoded}
-use Rattle.store.proofs.Locates.{store-is, from-key, Told, told-first}
-use Rattle.store.proofs.Ready.{same-store}
+use Rattle.form.proofs.RecordRuns.{decoded}
+use Rattle.form.proofs.Locates.{store-is, from-key, Told, told-first}
+use Rattle.form.proofs.Ready.{same-store}
 use Rattle.store.proofs.Again.{Guest, font-answers, character-answers}
 
 -- ── what is replaced behind a key leaves what is below it
@@ -120,7 +121,7 @@ opened-points s w e = go (decode s) refl e
     go : (o : Option Store) → decode s ≡ o → inspected 0 0 o ≡ Found w → Points s (record { used = w .used; font = 0; lo = w .lo; key = 0; at = w .lo })
     go none q e' = let z : _≡_ {A = ℕ} 0 1 = cc in absurd (omega arith)
     go (some st) q e' =
-        let i : Rattle.store.specs.Walk.placesOf 0 0 (st .recs) ≡ w = cc in
+        let i : Rattle.form.specs.Walk.placesOf 0 0 (st .recs) ≡ w = cc in
         record {
           store = st;
           is = q;

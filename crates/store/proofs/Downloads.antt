@@ -11,26 +11,26 @@ use borrow.Author.Tests.{le-leb, lt-leb, eq-eqb}
 use Rattle.blocks.specs.Header.{orientation}
 use Rattle.blocks.specs.Character.{descriptorBytes}
 use Rattle.pictures.specs.Size.{dataLimit}
-use Rattle.store.specs.Layout.{keyOf, characterRecord, lastCode, lastFont, markRecord}
-use Rattle.store.specs.Num.{_&_, le, Bytes}
-use Rattle.store.specs.Model.{Rec, font, character, under, alone, tallyOf, characterBytes, bytesOf, run, markBytes, encode, allowed, heldOf, heldUnder, isKept, isUnfinished, unfinished, opened, markOk, number, place, sizeOf, total}
-use Rattle.store.specs.Order.{below, from, find}
+use Rattle.form.specs.Layout.{keyOf, characterRecord, lastCode, lastFont, markRecord}
+use Rattle.form.specs.Num.{_&_, le, Bytes}
+use Rattle.form.specs.Model.{Rec, font, character, under, alone, tallyOf, characterBytes, bytesOf, run, markBytes, encode, allowed, heldOf, heldUnder, isKept, isUnfinished, unfinished, opened, markOk, number, place, sizeOf, total}
+use Rattle.form.specs.Order.{below, from, find}
 use Rattle.store.specs.Change.{splicedAt, withBytes, Recounting, recounted, remarked, unmarkedFor}
-use Rattle.store.specs.Answer.{onStore}
+use Rattle.form.specs.Checks.{onStore}
 use Rattle.store.specs.Calls.{shut, used, withCharacter}
 use Rattle.store.specs.Download.{markFor, putCharacter}
 use Rattle.store.specs.Putting.{placing, placed}
-use Rattle.store.specs.Walk.{Fitting, Growing, keptAt, dataAt}
-use Rattle.store.specs.declared.walk.Places.{Places}
-use Rattle.store.proofs.Numbers.{both}
-use Rattle.store.proofs.RecordBytes.{Shaped, shaped}
-use Rattle.store.proofs.Codec.{size-bytes}
+use Rattle.form.specs.Walk.{Fitting, Growing, keptAt, dataAt}
+use Rattle.form.specs.declared.walk.Places.{Places}
+use Rattle.form.proofs.Numbers.{both}
+use Rattle.form.proofs.RecordBytes.{Shaped, shaped}
+use Rattle.form.proofs.Codec.{size-bytes}
 use Rattle.store.proofs.Replaced.{new-char, opened-append}
 use Rattle.store.proofs.Marks.{mark-open, shut-ok, remark-bytes}
 use Rattle.store.proofs.Changed.{encode-changed, total-replaced, order-char, uncounted, bytes-char, bytes-counted, recounting}
-use Rattle.store.specs.declared.tally.Tally.{Tally}
-use Rattle.store.proofs.Ready.{Ready, standing, record-bytes, same-store}
-use Rattle.store.proofs.Seeks.{KeptChar}
+use Rattle.form.specs.declared.tally.Tally.{Tally}
+use Rattle.form.proofs.Ready.{Ready, standing, record-bytes, same-store}
+use Rattle.form.proofs.Seeks.{KeptChar}
 use Rattle.store.proofs.Spots.{char-span, char-shape}
 use Rattle.store.proofs.Extends.{extended}
 use Rattle.store.proofs.FontCalls.{cut-done}

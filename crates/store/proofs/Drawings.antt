@@ -11,13 +11,13 @@ use Rattle.blocks.specs.Character.{class, width, height, isKeptFirst, descripto
 use Rattle.pictures.specs.Size.{rowSize, pictureSize}
 use Rattle.pictures.specs.Rows.{rowBytes, picture}
 use Rattle.pictures.proofs.Pictures.{length-row, length-picture}
-use Rattle.store.specs.Layout.{characterKeptAt, characterRecord}
+use Rattle.form.specs.Layout.{characterKeptAt, characterRecord}
 use Rattle.store.specs.Answer.{refuse}
 use Rattle.store.specs.Drawing.{rowOf, pictureOf, drawingRow, drawingPicture}
-use Rattle.store.specs.declared.walk.Places.{Places}
-use Rattle.store.proofs.RecordBytes.{kept-width}
-use Rattle.store.proofs.Lookup.{kept-under}
-use Rattle.store.proofs.Seeks.{KeptChar, char-call}
+use Rattle.form.specs.declared.walk.Places.{Places}
+use Rattle.form.proofs.RecordBytes.{kept-width}
+use Rattle.form.proofs.Lookup.{kept-under}
+use Rattle.form.proofs.Seeks.{KeptChar, char-call}
 use Rattle.store.proofs.Spots.{char-span, char-kept, char-bytes}
 
 module _ (n c : ℕ) (s : List ℕ) (w : Places) (x : KeptChar n c s w) where

@@ -6,11 +6,11 @@ use native.Mathlib.Omega.{arith}
 use lib.ListN.{length, take, drop, replicate, length-append, length-drop}
 use lib.Seq.{take-add, take-append-add, length-take-le}
 use Rattle.blocks.specs.Character.{descriptorBytes}
-use Rattle.store.specs.Layout.{characterKind, characterRecord}
-use Rattle.store.specs.Num.{le, wordEnd}
-use Rattle.store.proofs.Numbers.{length-le}
-use Rattle.store.proofs.RecordBytes.{char-size}
-use Rattle.store.specs.Model.{noCharacters, characterHead, characterBytes, bytesOf}
+use Rattle.form.specs.Layout.{characterKind, characterRecord}
+use Rattle.form.specs.Num.{le, wordEnd}
+use Rattle.form.proofs.Numbers.{length-le}
+use Rattle.form.proofs.RecordBytes.{char-size}
+use Rattle.form.specs.Model.{noCharacters, characterHead, characterBytes, bytesOf}
 use Rattle.store.proofs.Puts.{put-mid}
 use Rattle.store.specs.Change.{splicedAt, withBytes}
 

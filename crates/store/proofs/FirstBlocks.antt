@@ -20,12 +20,13 @@ use Rattle.pictures.specs.declared.picture.Judged.the-variants.{Complete, Incom
 use Rattle.pictures.proofs.Tests.{both}
 use Rattle.blocks.proofs.KeptFirst.{first-long, kept-first, kept-other}
 use Rattle.pictures.proofs.KeptData.{complete-within, kept-complete, kept-incomplete, kept-length, held-whole, held-unfinished}
-use Rattle.store.specs.Model.{heldOf, heldUnder, isKept}
-use Rattle.store.specs.Answer.{onStore, finding, refuse}
+use Rattle.form.specs.Model.{heldOf, heldUnder, isKept}
+use Rattle.form.specs.Checks.{onStore, finding}
+use Rattle.store.specs.Answer.{refuse}
 use Rattle.store.specs.Download.{withinWidth}
 use Rattle.store.specs.Putting.{placed, receiving, receivingFirst, puttingFirst}
-use Rattle.store.specs.Walk.{Fitting, fontOrientation}
-use Rattle.store.specs.declared.walk.Places.{Places}
+use Rattle.form.specs.Walk.{Fitting, fontOrientation}
+use Rattle.form.specs.declared.walk.Places.{Places}
 use Rattle.store.proofs.Host.{Host, fitting, host-orientation}
 
 -- the fields that say what the data means are kept as they are

@@ -12,20 +12,21 @@ use borrow.Author.Tests.{le-leb, lt-leb}
 use Rattle.blocks.specs.Header.{readHeader, keptHeader, headerBytes}
 use Rattle.blocks.specs.declared.Verdict.the-variants.{Taken, Refused}
 use Rattle.blocks.proofs.KeptHeader.{kept-header, kept-length, header-long}
-use Rattle.store.specs.Layout.{keyOf, fontRecord, lastFont, leastStore, markKind, markRecord, mostStore}
-use Rattle.store.specs.Num.{_&_, le}
-use Rattle.store.specs.Model.{font, noCharacters, fontHead, bytesOf, run, markBytes, encode, decode, sorted, sizeOf, total}
-use Rattle.store.specs.Order.{below, replaced}
+use Rattle.form.specs.Layout.{keyOf, fontRecord, lastFont, leastStore, markKind, markRecord, mostStore}
+use Rattle.form.specs.Num.{_&_, le}
+use Rattle.form.specs.Model.{font, noCharacters, fontHead, bytesOf, run, markBytes, encode, decode, sorted, sizeOf, total}
+use Rattle.form.specs.Order.{below, replaced}
 use Rattle.store.specs.Change.{splicedAt, withBytes, unmarkedFor}
-use Rattle.store.specs.Answer.{onStore, After, refuse, done}
+use Rattle.form.specs.Checks.{onStore}
+use Rattle.store.specs.Answer.{After, refuse, done}
 use Rattle.store.specs.Calls.{shut, fresh, makingFresh, used, removeFont, putFont, downloadingFont}
 use Rattle.store.specs.Putting.{puttingFont}
-use Rattle.store.specs.declared.walk.Places.{Places}
+use Rattle.form.specs.declared.walk.Places.{Places}
 use Rattle.store.proofs.Puts.{put-nil}
 use Rattle.store.proofs.Replaced.{no-font, new-font}
 use Rattle.store.proofs.Changed.{spare-is, total-replaced, newBytes, bytes-font}
-use Rattle.store.proofs.Codec.{size-bytes, encode-parts}
-use Rattle.store.proofs.Ready.{Ready}
+use Rattle.form.proofs.Codec.{size-bytes, encode-parts}
+use Rattle.form.proofs.Ready.{Ready}
 
 -- an answer, and the bytes
 pub answered : {a b : After} → a ≡ b → (b .answer ≡ a .answer) × (b .bytes ≡ a .bytes)

@@ -6,12 +6,12 @@ use mathlib.Core.Option.{Option, none, some}
 use Prim.Native.Nat.{ℕ, zero, suc, _-_, _≤_}
 use native.Mathlib.Omega.{arith}
 use lib.ListN.{length, drop, length-take, length-drop}
-use Rattle.store.specs.Layout.{markRecord}
-use Rattle.store.specs.Num.{_&_, allZero}
-use Rattle.store.specs.Model.{Rec, Store, alone, sorted, tallyOf, counted, markOk, headRec, sizeOf, consTo, andThen, splitIn, split, markIn, begins, validOr, decode, total}
-use Rattle.store.proofs.Numbers.{both-l, both-r}
-use Rattle.store.proofs.RecordBytes.{guard-test, guard-is, Headed, is-font, is-character, head-inv}
-use Rattle.store.proofs.Codec.{Valid, consTo-some, begins-parts, storeOf}
+use Rattle.form.specs.Layout.{markRecord}
+use Rattle.form.specs.Num.{_&_, allZero}
+use Rattle.form.specs.Model.{Rec, Store, alone, sorted, tallyOf, counted, markOk, headRec, sizeOf, consTo, andThen, splitIn, split, markIn, begins, validOr, decode, total}
+use Rattle.form.proofs.Numbers.{both-l, both-r}
+use Rattle.form.proofs.RecordBytes.{guard-test, guard-is, Headed, is-font, is-character, head-inv}
+use Rattle.form.proofs.Codec.{Valid, consTo-some, begins-parts, storeOf}
 
 headed-size : (s : List ℕ) (r : Rec) → Headed s r → sizeOf r ≤ length s
 unfolding sizeOf

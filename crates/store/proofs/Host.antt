@@ -8,14 +8,14 @@ use native.Mathlib.Omega.{arith}
 use lib.ListN.{getD, take, drop}
 use lib.Seq.{getD-take, getD-drop}
 use Rattle.blocks.specs.Header.{orientation, headerBytes, orientationAt}
-use Rattle.store.specs.Layout.{keyOf, fontKeptAt, fontOrientationAt, fontRecord, lastCode, lastFont}
-use Rattle.store.specs.Num.{Bytes}
-use Rattle.store.specs.Model.{font, heldUnder, isKept}
-use Rattle.store.specs.Order.{find}
-use Rattle.store.specs.Walk.{Stands, Arriving, Fitting, fontOrientation}
-use Rattle.store.specs.declared.walk.Places.{Places}
-use Rattle.store.proofs.Ready.{Ready, standing, font-there, same-store}
-use Rattle.store.proofs.Seeks.{KeptFont}
+use Rattle.form.specs.Layout.{keyOf, fontKeptAt, fontOrientationAt, fontRecord, lastCode, lastFont}
+use Rattle.form.specs.Num.{Bytes}
+use Rattle.form.specs.Model.{font, heldUnder, isKept}
+use Rattle.form.specs.Order.{find}
+use Rattle.form.specs.Walk.{Stands, Arriving, Fitting, fontOrientation}
+use Rattle.form.specs.declared.walk.Places.{Places}
+use Rattle.form.proofs.Ready.{Ready, standing, font-there, same-store}
+use Rattle.form.proofs.Seeks.{KeptFont}
 use Rattle.store.proofs.Spots.{font-kept, font-span}
 
 pub record Host (n c : ℕ) (s : List ℕ) (w : Places) : Type 0 where

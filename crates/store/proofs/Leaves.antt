@@ -7,12 +7,12 @@ use Prim.Native.Nat.{ℕ, _+_, _-_, _<_, _≤_}
 use native.Mathlib.Omega.{arith}
 use lib.Dec.{leb, ltb}
 use borrow.Author.Tests.{ltb-true, ltb-false}
-use Rattle.store.specs.Layout.{keyOf, lastCode}
-use Rattle.store.specs.Model.{Rec, font, character, alone, sorted, number, place, key}
-use Rattle.store.specs.Order.{keep, below, from, replaced}
-use Rattle.store.specs.Fonts.{Font, fontsIn, fontsBelow, fontsAbove, fontsWith}
-use Rattle.store.proofs.Order.{split-at, below-in, below-out, from-in, from-out}
-use Rattle.store.proofs.Numbers.{less-or}
+use Rattle.form.specs.Layout.{keyOf, lastCode}
+use Rattle.form.specs.Model.{Rec, font, character, alone, sorted, number, place, key}
+use Rattle.form.specs.Order.{keep, below, from, replaced}
+use Rattle.form.specs.Fonts.{Font, fontsIn, fontsBelow, fontsAbove, fontsWith}
+use Rattle.form.proofs.Order.{split-at, below-in, below-out, from-in, from-out}
+use Rattle.form.proofs.Numbers.{less-or}
 
 -- ── among records
 pub fonts-append : (a b : List Rec) → fontsIn (a ++ b) ≡ fontsIn a ++ fontsIn b

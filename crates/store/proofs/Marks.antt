@@ -7,14 +7,14 @@ use Prim.Native.Nat.{ℕ, _+_, _<_, _≤_}
 use native.Mathlib.Omega.{arith}
 use lib.Dec.{eqb, leb}
 use borrow.Author.Tests.{eqb-true, eqb-false, leb-true, le-leb, eq-eqb, ne-eqb}
-use Rattle.store.specs.Layout.{keyOf, lastCode, lastFont, markCodeAt, markFontAt, markOnAt}
-use Rattle.store.specs.Num.{_&_, le, field, wordEnd}
-use Rattle.store.specs.Model.{Rec, Mark, markBytes, alone, sorted, opened, markOk}
-use Rattle.store.specs.Order.{replaced}
+use Rattle.form.specs.Layout.{keyOf, lastCode, lastFont, markCodeAt, markFontAt, markOnAt}
+use Rattle.form.specs.Num.{_&_, le, field, wordEnd}
+use Rattle.form.specs.Model.{Rec, Mark, markBytes, alone, sorted, opened, markOk}
+use Rattle.form.specs.Order.{replaced}
 use Rattle.store.specs.Calls.{shut, closedFor, closedAt}
 use Rattle.store.specs.Change.{withBytes, remarked, unmarkedFor, unmarkedAt}
-use Rattle.store.proofs.Numbers.{both-l, both-r, both, less-or}
-use Rattle.store.proofs.Codec.{mark-back}
+use Rattle.form.proofs.Numbers.{both-l, both-r, both, less-or}
+use Rattle.form.proofs.Codec.{mark-back}
 use Rattle.store.proofs.Replaced.{Outside, opened-replaced}
 
 pub record Shut (m : Mark) : Type 0 where

@@ -6,7 +6,7 @@ use native.Mathlib.Omega.{arith}
 use native.Mathlib.Numerals.{add-one}
 use lib.ListN.{length, getD, take, drop, set, length-append, length-take, length-drop, take-append-drop}
 use lib.Seq.{paste, paste-suc, sets-eq, take-at, drop-at, drop-drop, drop-append-add, length-take-le}
-use Rattle.store.specs.Num.{le, wordEnd}
+use Rattle.form.specs.Num.{le, wordEnd}
 use Rattle.store.specs.Change.{withBytes}
 
 pub take-whole : (b : List ℕ) → take (length b) b ≡ b

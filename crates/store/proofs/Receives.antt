@@ -10,13 +10,14 @@ use borrow.Author.Tests.{leb-true}
 use Rattle.blocks.specs.Character.{characterLength, kindOf}
 use Rattle.blocks.specs.declared.character.Kind.the-variants.{First, Continuation, Unknown}
 use Rattle.pictures.proofs.Tests.{both}
-use Rattle.store.specs.Layout.{lastCode, lastFont}
-use Rattle.store.specs.Model.{decode}
-use Rattle.store.specs.Answer.{onStore, finding, numbered, refuse}
+use Rattle.form.specs.Layout.{lastCode, lastFont}
+use Rattle.form.specs.Model.{decode}
+use Rattle.form.specs.Checks.{onStore, finding, numbered}
+use Rattle.store.specs.Answer.{refuse}
 use Rattle.store.specs.Download.{downloadingCharacter}
 use Rattle.store.specs.Putting.{placing, receiving, receivingFirst, puttingFirst, receivingMore, puttingMore, receivingBlock, puttingBlock}
-use Rattle.store.specs.declared.walk.Places.{Places}
-use Rattle.store.proofs.Ready.{Ready, font-there, font-missing}
+use Rattle.form.specs.declared.walk.Places.{Places}
+use Rattle.form.proofs.Ready.{Ready, font-there, font-missing}
 use Rattle.store.proofs.Host.{Host}
 
 -- ── a block, by its length, its font and its kind

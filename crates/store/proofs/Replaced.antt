@@ -9,14 +9,14 @@ use native.Mathlib.Omega.{arith}
 use lib.Dec.{eqb}
 use borrow.Author.Tests.{le-leb, ne-eqb}
 use Rattle.blocks.specs.Header.{isKeptHeader}
-use Rattle.store.specs.Layout.{keyOf, lastCode, lastFont, keysEach}
-use Rattle.store.specs.Num.{_&_}
-use Rattle.store.specs.Model.{Rec, font, character, Under, under, alone, allowed, sorted, number, place, key, unfinished, opened}
-use Rattle.store.specs.Order.{keep, below, from, find, replaced, after}
-use Rattle.store.proofs.Numbers.{both}
-use Rattle.store.proofs.Codec.{Sorted, sorted-inv, sorted-cons}
-use Rattle.store.proofs.Order.{below-in, below-out, Side, before, behind, side, split-at, weaken, sorted-from, sorted-behind, sorted-anywhere, after-low}
-use Rattle.store.proofs.Lookup.{from-from, after-font}
+use Rattle.form.specs.Layout.{keyOf, lastCode, lastFont, keysEach}
+use Rattle.form.specs.Num.{_&_}
+use Rattle.form.specs.Model.{Rec, font, character, Under, under, alone, allowed, sorted, number, place, key, unfinished, opened}
+use Rattle.form.specs.Order.{keep, below, from, find, replaced, after}
+use Rattle.form.proofs.Numbers.{both}
+use Rattle.form.proofs.Codec.{Sorted, sorted-inv, sorted-cons}
+use Rattle.form.proofs.Order.{below-in, below-out, Side, before, behind, side, split-at, weaken, sorted-from, sorted-behind, sorted-anywhere, after-low}
+use Rattle.form.proofs.Lookup.{from-from, after-font}
 
 -- what replaces a font with its characters: nothing, or that font
 pub data NewFont (n : ℕ) : List Rec → Type 0 where

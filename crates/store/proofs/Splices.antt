@@ -7,16 +7,16 @@ use native.Mathlib.Omega.{arith}
 use lib.Dec.{ltb}
 use lib.ListN.{length, take, drop, replicate, length-append, length-replicate, replicate-append-replicate}
 use lib.Seq.{paste, take-at, drop-at, drop-drop, take-take, drop-append-add, take-append-le, length-take-le}
-use Rattle.store.specs.Layout.{markRecord}
-use Rattle.store.specs.Model.{Rec, alone, sorted, key, run, total}
-use Rattle.store.specs.Order.{below, from}
+use Rattle.form.specs.Layout.{markRecord}
+use Rattle.form.specs.Model.{Rec, alone, sorted, key, run, total}
+use Rattle.form.specs.Order.{below, from}
 use Rattle.store.specs.Change.{splicedAt, withBytes}
 use Rattle.store.proofs.Puts.{put-paste}
-use Rattle.store.proofs.Order.{split-at}
-use Rattle.store.proofs.Lookup.{below-mono}
-use Rattle.store.proofs.Codec.{length-run}
-use Rattle.store.proofs.Totals.{run-append, length-keep}
-use Rattle.store.specs.declared.tally.Tally.{Tally}
+use Rattle.form.proofs.Order.{split-at}
+use Rattle.form.proofs.Lookup.{below-mono}
+use Rattle.form.proofs.Codec.{length-run}
+use Rattle.form.proofs.Totals.{run-append, length-keep}
+use Rattle.form.specs.declared.tally.Tally.{Tally}
 
 -- ── the law of splice: at a place where S falls apart
 module _ (S A R A2 C Z : List ℕ) (at old used new : ℕ) (a : S ≡ A ++ R) (la : length A ≡ at) (b : S ≡ A2 ++ (C ++ Z)) (lb : length A2 ≡ at + old) (lc : at + old + length C ≡ used) where

@@ -8,21 +8,21 @@ use lib.Seq.{drop-drop}
 use Rattle.blocks.specs.Header.{headerBytes}
 use Rattle.blocks.specs.Character.{descriptorBytes}
 use Rattle.pictures.specs.Size.{dataLimit}
-use Rattle.store.specs.Layout.{keyOf, characterKeptAt, characterRecord, fontCharactersAt, fontKeptAt, fontRecord, lastCode, lastFont, markRecord}
-use Rattle.store.specs.Model.{font, character, alone, tallyOf, tallyIn, bytesOf, sizeOf, total}
-use Rattle.store.specs.Num.{field}
-use Rattle.store.specs.Order.{below, after}
+use Rattle.form.specs.Layout.{keyOf, characterKeptAt, characterRecord, fontCharactersAt, fontKeptAt, fontRecord, lastCode, lastFont, markRecord}
+use Rattle.form.specs.Model.{font, character, alone, tallyOf, tallyIn, bytesOf, sizeOf, total}
+use Rattle.form.specs.Num.{field}
+use Rattle.form.specs.Order.{below, after}
 use Rattle.store.specs.Change.{withBytes}
 use Rattle.store.specs.Calls.{charactersOf, onto}
-use Rattle.store.specs.declared.walk.Places.{Places}
-use Rattle.store.specs.declared.tally.Tally.{Tally}
-use Rattle.store.proofs.Fields.{field-drop}
-use Rattle.store.proofs.Codec.{font-tally, tally-fits}
+use Rattle.form.specs.declared.walk.Places.{Places}
+use Rattle.form.specs.declared.tally.Tally.{Tally}
+use Rattle.form.proofs.Fields.{field-drop}
+use Rattle.form.proofs.Codec.{font-tally, tally-fits}
 use Rattle.store.proofs.Tallies.{tally-count}
-use Rattle.store.proofs.RecordBytes.{shaped, font-kept-in, character-kept-in, character-data-in}
-use Rattle.store.proofs.Lookup.{Found, found, below-mono}
-use Rattle.store.proofs.Ready.{record-bytes}
-use Rattle.store.proofs.Seeks.{KeptFont, KeptChar}
+use Rattle.form.proofs.RecordBytes.{shaped, font-kept-in, character-kept-in, character-data-in}
+use Rattle.form.proofs.Lookup.{Found, found, below-mono}
+use Rattle.form.proofs.Ready.{record-bytes}
+use Rattle.form.proofs.Seeks.{KeptFont, KeptChar}
 
 -- ── a font
 module _ (n p : ℕ) (s : List ℕ) (w : Places) (x : KeptFont n p s w) where

@@ -10,24 +10,21 @@ use lib.ListN.{length, drop, length-append}
 use lib.Seq.{drop-at}
 use lib.Dec.{eqb, leb, ltb}
 use borrow.Author.Tests.{eq-eqb, ne-eqb, leb-true, ltb-true}
-use Rattle.store.specs.Layout.{keyOf, fontCharactersAt, fontKind, fontRecord, characterRecord, lastCode, markRecord}
-use Rattle.store.specs.Num.{_&_, le}
-use Rattle.store.specs.Model.{Rec, font, character, Under, under, alone, sorted, number, place, key, noCharacters, oneMore, tallyOf, tallyBytes, tallyIn, fontHead, bytesOf, run, sizeOf, total}
-use Rattle.store.specs.Order.{keep, below, from, find, replaced, after}
+use Rattle.form.specs.Layout.{keyOf, fontCharactersAt, fontKind, fontRecord, characterRecord, lastCode, markRecord}
+use Rattle.form.specs.Num.{_&_, le}
+use Rattle.form.specs.Model.{Rec, font, character, Under, under, alone, sorted, number, place, key, noCharacters, oneMore, tallyOf, tallyBytes, tallyIn, fontHead, bytesOf, run, sizeOf, total}
+use Rattle.form.specs.Order.{keep, below, from, find, replaced, after}
 use Rattle.store.specs.Calls.{charactersOf, withCharacter}
 use Rattle.store.specs.Change.{withBytes, tallyBy, recount}
-use Rattle.store.specs.declared.tally.Tally.{Tally}
-use Rattle.store.proofs.RecordBytes.{Shaped, shaped}
-use Rattle.store.proofs.Codec.{sorted-inv, Fits, font-tally}
-use Rattle.store.proofs.Order.{split-at, sorted-from, below-in}
-use Rattle.store.proofs.Totals.{run-append, length-keep}
-use Rattle.store.proofs.Lookup.{found, missing, char-at, from-from, below-below}
+use Rattle.form.specs.declared.tally.Tally.{Tally}
+use Rattle.form.proofs.RecordBytes.{Shaped, shaped}
+use Rattle.form.proofs.Codec.{sorted-inv, Fits, font-tally}
+use Rattle.form.proofs.Order.{split-at, sorted-from, below-in}
+use Rattle.form.proofs.Totals.{run-append, length-keep}
+use Rattle.form.proofs.Counts.{plus, Off}
+use Rattle.form.proofs.Lookup.{found, missing, char-at, from-from, below-below}
 use Rattle.store.proofs.Puts.{put-mid}
 use Rattle.store.proofs.Replaced.{NewFont, no-font, new-font, NewChar, no-char, new-char}
-
--- two numbers each added
-abbrev pub plus : Tally → Tally → Tally
-plus t u = record { characters = t .characters + u .characters; bytes = t .bytes + u .bytes }
 
 pub tally-append : (a b : List Rec) (n : ℕ) → tallyOf (a ++ b) n ≡ plus (tallyOf a n) (tallyOf b n)
 unfolding tallyOf
@@ -74,10 +71,6 @@ tally-none t m lo k u (r ∷ rs) e l f =
     step (font n h) so g true q ih = ih
     step (character n c h d) so g true q ih = rw (ne-eqb n m (f (character n c h d) so g q)) ih
     step r so g false q ih = ih
-
--- ── numbers that differ for one font alone
-abbrev pub Off : ℕ → (ℕ → Tally) → (ℕ → Tally) → Type 0
-Off n T S = (m : ℕ) → (m ≡ n → ⊥) → T m ≡ S m
 
 bytes-off : (n : ℕ) (T S : ℕ → Tally) → Off n T S → (r : Rec) → (key r ≡ keyOf n 0 → ⊥) → bytesOf T r ≡ bytesOf S r
 unfolding bytesOf number place

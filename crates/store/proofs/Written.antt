@@ -7,12 +7,12 @@ use lib.ListN.{length}
 use borrow.Rule.Slice.PartMut.{putMid, post-is}
 use Rattle.blocks.specs.Header.{headerBytes}
 use Rattle.blocks.specs.Character.{descriptorBytes}
-use Rattle.store.specs.Layout.{characterKeptAt, characterKind, characterRecord, codeAt, fontCharactersAt, fontBytesAt, fontKeptAt, fontKind, fontRecord, kindAt, leastStore, markCodeAt, markFontAt, markOnAt, numberAt}
-use Rattle.store.specs.Num.{le, wordEnd, doubleEnd}
-use Rattle.store.specs.Model.{Mark, tallyBytes, fontHead, characterHead, characterBytes}
-use Rattle.store.specs.declared.tally.Tally.{Tally}
+use Rattle.form.specs.Layout.{characterKeptAt, characterKind, characterRecord, codeAt, fontCharactersAt, fontBytesAt, fontKeptAt, fontKind, fontRecord, kindAt, leastStore, markCodeAt, markFontAt, markOnAt, numberAt}
+use Rattle.form.specs.Num.{le, wordEnd, doubleEnd}
+use Rattle.form.specs.Model.{Mark, tallyBytes, fontHead, characterHead, characterBytes}
+use Rattle.form.specs.declared.tally.Tally.{Tally}
 use Rattle.store.specs.Change.{withBytes, remarked}
-use Rattle.store.proofs.Numbers.{low, high}
+use Rattle.form.proofs.Numbers.{low, high}
 use Rattle.store.proofs.Puts.{put-put}
 
 pub remark-put : (s : List ℕ) (m : Mark) → leastStore ≤ length s → withBytes (withBytes (withBytes s markOnAt (le 2 (m .on))) markFontAt (le 2 (m .fontOf))) markCodeAt (le 2 (m .codeOf)) ≡ remarked m s

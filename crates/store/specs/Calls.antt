@@ -6,11 +6,12 @@ use lib.Dec.{eqb, leb}
 use lib.ListN.{length, drop}
 use Rattle.blocks.specs.Header.{headerBytes, readHeader, keptHeader}
 use Rattle.blocks.specs.Character.{descriptorBytes}
-use Rattle.store.specs.Layout.{leastStore, mostStore, markRecord, lastFont, keyOf}
-use Rattle.store.specs.Num.{_&_}
-use Rattle.store.specs.Model.{Rec, font, character, Mark, Store, number, place, total, decode}
-use Rattle.store.specs.Order.{keep, replaced}
-use Rattle.store.specs.Answer.{onStore, checked, taking, onFont, onCharacter, After, refuse, done, Telling, untold}
+use Rattle.form.specs.Layout.{leastStore, mostStore, markRecord, lastFont, keyOf}
+use Rattle.form.specs.Num.{_&_}
+use Rattle.form.specs.Model.{Rec, font, character, Mark, Store, number, place, total, decode}
+use Rattle.form.specs.Order.{keep, replaced}
+use Rattle.form.specs.Checks.{onStore, checked, taking, onFont, onCharacter}
+use Rattle.store.specs.Answer.{After, refuse, done, Telling, untold}
 
 -- ── make fresh: "A fresh store is the kind 1 record with none open, then zeros."
 abbrev pub shut : Mark

@@ -5,10 +5,10 @@ use mathlib.Core.List.{List, _++_}
 use mathlib.Core.Bool.{cond}
 use lib.Dec.{eqb}
 use lib.ListN.{length, take, drop, replicate}
-use Rattle.store.specs.Layout.{mostStore, fontCharactersAt, fontKeptAt, characterRecord, markCodeAt, markFontAt, markOnAt}
-use Rattle.store.specs.Num.{_&_, wordEnd, doubleEnd, le, field}
-use Rattle.store.specs.Model.{Mark, tallyBytes, tallyIn}
-use Rattle.store.specs.declared.tally.Tally.{Tally}
+use Rattle.form.specs.Layout.{mostStore, fontCharactersAt, fontKeptAt, characterRecord, markCodeAt, markFontAt, markOnAt}
+use Rattle.form.specs.Num.{_&_, wordEnd, doubleEnd, le, field}
+use Rattle.form.specs.Model.{Mark, tallyBytes, tallyIn}
+use Rattle.form.specs.declared.tally.Tally.{Tally}
 use Rattle.store.specs.Calls.{shut}
 
 -- the old bytes at `at` given the length new: what is behind them, up to used, moves, and what that frees is 0

@@ -14,10 +14,11 @@ use Rattle.blocks.specs.declared.character.Kind.{Kind}
 use Rattle.blocks.specs.declared.character.Kind.the-variants.{First, Continuation, Unknown}
 use Rattle.pictures.specs.declared.picture.Judged.{Judged}
 use Rattle.pictures.specs.declared.picture.Judged.the-variants.{Complete, Incomplete, PastWidth}
-use Rattle.store.specs.Num.{_&_}
-use Rattle.store.specs.Model.{character, Mark, Store, heldOf, isUnfinished, encode, decode}
-use Rattle.store.specs.Order.{fontAt, characterAt}
-use Rattle.store.specs.Answer.{onStore, checked, taking, finding, numbered, After, refuse, done}
+use Rattle.form.specs.Num.{_&_}
+use Rattle.form.specs.Model.{character, Mark, Store, heldOf, isUnfinished, encode, decode}
+use Rattle.form.specs.Order.{fontAt, characterAt}
+use Rattle.form.specs.Checks.{onStore, checked, taking, finding, numbered}
+use Rattle.store.specs.Answer.{After, refuse, done}
 use Rattle.store.specs.Calls.{shut, used, removeFont, withCharacter, keptOf, dataOf}
 
 -- ── what is kept

@@ -6,7 +6,8 @@ use lib.ListN.{length}
 use Rattle.blocks.specs.Character.{class, width, height}
 use Rattle.pictures.specs.Size.{rowSize, pictureSize}
 use Rattle.pictures.specs.Rows.{rowBytes, picture}
-use Rattle.store.specs.Answer.{checked, onCharacter, After, refuse}
+use Rattle.form.specs.Checks.{checked, onCharacter}
+use Rattle.store.specs.Answer.{After, refuse}
 use Rattle.store.specs.Calls.{keptOf, dataOf, onto}
 
 -- an output that must hold n bytes, else 12; its later bytes stay

@@ -1,14 +1,7 @@
-pub mod Num
-pub mod Layout
-pub mod Model
-pub mod Order
 pub mod Answer
 pub mod Calls
 pub mod Download
 pub mod Putting
 pub mod Drawing
 pub mod Change
-pub mod Walk
-pub mod Cursor
-pub mod Records
-pub mod Fonts
+pub mod Known

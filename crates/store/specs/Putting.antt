@@ -7,9 +7,10 @@ use lib.ListN.{length, drop}
 use Rattle.blocks.specs.Header.{orientation, keptHeader}
 use Rattle.blocks.specs.Character.{descriptorBytes, continuationBytes, characterLength, kindOf, readFirst, keptFirst}
 use Rattle.pictures.specs.Size.{dataLimit}
-use Rattle.store.specs.Model.{Store, decode}
-use Rattle.store.specs.Order.{fontAt, characterAt}
-use Rattle.store.specs.Answer.{onStore, checked, taking, finding, After, refuse, done}
+use Rattle.form.specs.Model.{Store, decode}
+use Rattle.form.specs.Order.{fontAt, characterAt}
+use Rattle.form.specs.Checks.{onStore, checked, taking, finding}
+use Rattle.store.specs.Answer.{After, refuse, done}
 use Rattle.store.specs.Calls.{used, putFont, keptOf, dataOf}
 use Rattle.store.specs.Download.{putCharacter, withoutFont, byKind, names, withinWidth, judgedOf, keptOfData}
 

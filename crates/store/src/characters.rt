@@ -3,13 +3,13 @@ ghost use mathlib.Core.Path.{_≡_};
 ghost use Rattle.store.specs.Answer.{toldOf};
 ghost use Rattle.store.specs.Calls.{removingCharacter, tellingCharacter};
 use crate::change;
-use crate::layout::CHARACTER_KEPT_AT;
-use crate::layout::CHARACTER_RECORD;
-use crate::layout::DESCRIPTOR_BYTES;
-use crate::seek;
-use crate::seek::Sought;
 use crate::telling;
 use crate::telling::Told;
+use form::layout::CHARACTER_KEPT_AT;
+use form::layout::CHARACTER_RECORD;
+use form::layout::DESCRIPTOR_BYTES;
+use form::seek;
+use form::seek::Sought;
 
 // Removes a character.
 pub fn remove_character(s: &mut [u8], font: u32, code: u32) -> u32

@@ -4,11 +4,11 @@ ghost use Prim.Native.Nat.{_<_};
 ghost use lib.ListN.{length};
 ghost use Rattle.blocks.specs.Character.{width, descriptorBytes};
 ghost use Rattle.store.specs.Drawing.{rowOf, pictureOf, drawingRow, drawingPicture};
-use crate::layout::CHARACTER_KEPT_AT;
-use crate::layout::CHARACTER_RECORD;
-use crate::seek;
-use crate::seek::Sought;
 use blocks::character;
+use form::layout::CHARACTER_KEPT_AT;
+use form::layout::CHARACTER_RECORD;
+use form::seek;
+use form::seek::Sought;
 use pictures::picture;
 use pictures::size;
 

@@ -2,22 +2,23 @@
 // one ended.
 ghost use mathlib.Core.Path.{_≡_};
 ghost use Prim.Native.Nat.{_+_, _≤_};
-ghost use Rattle.store.specs.Layout.{lastCode, lastFont, mostStore};
+ghost use Rattle.form.specs.Layout.{lastCode, lastFont, mostStore};
 ghost use Rattle.store.specs.Calls.{downloadingFont};
 ghost use Rattle.store.specs.Download.{downloadingCharacter};
-ghost use Rattle.store.specs.Cursor.{Points, Opening, fontEnd, Came};
+ghost use Rattle.form.specs.Cursor.{Points};
+ghost use Rattle.store.specs.Known.{Opening, fontEnd, Came};
 use crate::download;
 use crate::fonts;
-use crate::layout::FONT_RECORD;
-use crate::layout::KEYS_EACH;
-use crate::locate;
-use crate::locate::Cursor;
-use crate::number;
-use crate::walk;
-use crate::walk::Inspected;
-use crate::walk::Places;
 use blocks::Verdict;
 use blocks::header;
+use form::layout::FONT_RECORD;
+use form::layout::KEYS_EACH;
+use form::locate;
+use form::locate::Cursor;
+use form::number;
+use form::walk;
+use form::walk::Inspected;
+use form::walk::Places;
 
 // A buffer that is a store, with a cursor at its front.
 pub enum Opened {

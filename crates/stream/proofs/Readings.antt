@@ -9,12 +9,12 @@ use native.Mathlib.Nat.{zero-add}
 use lib.ListN.{length}
 use lib.Dec.{leb}
 use borrow.Author.Tests.{le-leb, lt-leb, leb-true, leb-false}
-use Rattle.store.specs.Model.{Store, decode}
-use Rattle.store.specs.Answer.{onStore}
+use Rattle.form.specs.Model.{Store, decode}
+use Rattle.form.specs.Checks.{onStore}
 use Rattle.store.specs.Calls.{downloadingFont}
 use Rattle.store.specs.Download.{downloadingCharacter}
-use Rattle.store.specs.Cursor.{Points}
-use Rattle.store.specs.declared.locate.Cursor.{Cursor}
+use Rattle.form.specs.Cursor.{Points}
+use Rattle.form.specs.declared.locate.Cursor.{Cursor}
 use Rattle.stream.specs.Command.{commandAt, CommandEnds}
 use Rattle.stream.specs.Reading.{Download, font-block, character-block, Action, number-set, download, Spelled, spell, part, onward, spelledIn, spelledFrom, firstTarget, rangeAnswer, withNumber, withCode, Progress, noneCounted, countAnswer, making, obey, obeyAll, readFrom, Reading, endAnswer, readingOf, reading}
 use Rattle.stream.specs.Downloads.{downloadsIn, spelledDownloads, madeAll, DownloadsMade, CommandsCounted}

@@ -11,25 +11,25 @@ use Rattle.blocks.specs.Header.{orientation, isKeptHeader, ownHeader}
 use Rattle.blocks.specs.Character.{isKeptFirst}
 use Rattle.blocks.proofs.HeaderBytes.{own-length, own-within}
 use Rattle.blocks.proofs.KeptHeader.{is-kept-length as header-length}
-use Rattle.store.specs.Layout.{fontRecord, keyOf, markRecord}
-use Rattle.store.specs.Model.{Rec, font, character, Store, Under, number, place, key, under, alone, sorted, heldOf, heldUnder, isKept, allowed, encode, decode, total, sizeOf}
-use Rattle.store.specs.Answer.{onStore}
-use Rattle.store.specs.Order.{keep, below, from, after, find}
-use Rattle.store.specs.Records.{recordsOf}
+use Rattle.form.specs.Layout.{fontRecord, keyOf, markRecord}
+use Rattle.form.specs.Model.{Rec, font, character, Store, Under, number, place, key, under, alone, sorted, heldOf, heldUnder, isKept, allowed, encode, decode, total, sizeOf}
+use Rattle.form.specs.Checks.{onStore}
+use Rattle.form.specs.Order.{keep, below, from, after, find}
+use Rattle.form.specs.Records.{recordsOf}
 use Rattle.store.specs.Calls.{fresh}
 use Rattle.store.proofs.Holds.{valid-decode}
-use Rattle.store.proofs.RecordBytes.{allowed-char, allowed-font}
+use Rattle.form.proofs.RecordBytes.{allowed-char, allowed-font}
 use Rattle.store.proofs.Appends.{fresh-valid, first-store, font-laid}
-use Rattle.store.proofs.Codec.{Valid, decode-encode, sorted-inv}
-use Rattle.store.proofs.Order.{sorted-from}
-use Rattle.store.proofs.Lookup.{found, font-at}
+use Rattle.form.proofs.Codec.{Valid, decode-encode, sorted-inv}
+use Rattle.form.proofs.Order.{sorted-from}
+use Rattle.form.proofs.Lookup.{found, font-at}
 use Rattle.stream.specs.RoundTrip.{commandsOf, commandsIn, markAfter, onlyFont, restored, FontComesBack}
 use Rattle.stream.specs.Written.{writtenRecord, writtenRun, written}
 use Rattle.stream.specs.Writing.{setFont, fontBlock}
 use Rattle.stream.specs.Reading.{Ended, readingOf, endAnswer, reading}
 use Rattle.stream.proofs.Words.{reads, target, allDone, on-number, on-font}
 use Rattle.stream.proofs.Refills.{Chars, finished, filled, run-read}
-use Rattle.store.proofs.FontRecords.{of-in, of-out, none-of}
+use Rattle.form.proofs.FontRecords.{of-in, of-out, none-of}
 
 -- ── the records of a font in a store
 kept-at : (t o : ℕ) → t ≡ o → (h d : List ℕ) → isKeptFirst h t ≡ true → isKept (heldOf h d) ≡ true → isKept (heldUnder o h d) ≡ true

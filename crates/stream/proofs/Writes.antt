@@ -11,14 +11,14 @@ use borrow.Author.Tests.{le-leb, lt-leb, leb-true, leb-false}
 use Rattle.blocks.specs.Header.{blockLimit, headerBytes, ownBytes, ownHeader}
 use Rattle.blocks.specs.Character.{descriptorBytes}
 use Rattle.blocks.proofs.HeaderBytes.{own-length}
-use Rattle.store.specs.Model.{Rec, font, sizeOf}
-use Rattle.store.specs.Records.{recordsOf, recordsAt, MetAt, fontFrom, FontMet, characterFrom, CharacterMet, Meeting, Between}
-use Rattle.store.specs.declared.records.Met.{Met}
-use Rattle.store.specs.declared.records.Met.the-variants.{Font, Character, End}
+use Rattle.form.specs.Model.{Rec, font, sizeOf}
+use Rattle.form.specs.Records.{recordsOf, recordsAt, MetAt, fontFrom, FontMet, characterFrom, CharacterMet, Meeting, Between}
+use Rattle.form.specs.declared.records.Met.{Met}
+use Rattle.form.specs.declared.records.Met.the-variants.{Font, Character, End}
 use Rattle.store.specs.Calls.{onto}
-use Rattle.store.specs.declared.walk.Places.{Places}
-use Rattle.store.proofs.Seeks.{KeptFont, font-call}
-use Rattle.store.proofs.FontRecords.{between-none, between-next, font-records}
+use Rattle.form.specs.declared.walk.Places.{Places}
+use Rattle.form.proofs.Seeks.{KeptFont, font-call}
+use Rattle.form.proofs.FontRecords.{between-none, between-next, font-records}
 use Rattle.stream.specs.Digits.{decimal}
 use Rattle.store.specs.Change.{withBytes}
 use Rattle.stream.specs.Writing.{spelling, setFont, setCode, fontBlockHead, fontBlock, characterBlockHead, characterBlock}

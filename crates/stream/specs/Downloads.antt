@@ -4,7 +4,7 @@ use mathlib.Core.Path.{_≡_}
 use mathlib.Core.List.{List, [], _∷_}
 use mathlib.Core.Option.{some}
 use lib.ListN.{length}
-use Rattle.store.specs.Model.{Store, decode}
+use Rattle.form.specs.Model.{Store, decode}
 use Rattle.stream.specs.Reading.{Download, Action, number-set, download, firstTarget, spelledFrom, making, reading}
 
 unfoldable pub downloadsIn : List Action → List Download

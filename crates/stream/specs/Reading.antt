@@ -5,9 +5,10 @@ use mathlib.Core.List.{List, [], _∷_}
 use mathlib.Core.Bool.{cond}
 use lib.ListN.{length, take, drop}
 use lib.Dec.{leb}
-use Rattle.store.specs.Layout.{lastFont, lastCode}
-use Rattle.store.specs.Model.{decode}
-use Rattle.store.specs.Answer.{onStore, After}
+use Rattle.form.specs.Layout.{lastFont, lastCode}
+use Rattle.form.specs.Model.{decode}
+use Rattle.form.specs.Checks.{onStore}
+use Rattle.store.specs.Answer.{After}
 use Rattle.store.specs.Calls.{downloadingFont}
 use Rattle.store.specs.Download.{downloadingCharacter}
 use Rattle.stream.specs.Command.{commandAt}

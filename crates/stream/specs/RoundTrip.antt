@@ -6,9 +6,9 @@ use mathlib.Core.Bool.{cond}
 use mathlib.Core.Option.{some}
 use lib.ListN.{length}
 use lib.Dec.{leb}
-use Rattle.store.specs.Model.{Rec, font, character, Mark, Store, encode, decode}
-use Rattle.store.specs.Order.{fontAt}
-use Rattle.store.specs.Records.{recordsOf}
+use Rattle.form.specs.Model.{Rec, font, character, Mark, Store, encode, decode}
+use Rattle.form.specs.Order.{fontAt}
+use Rattle.form.specs.Records.{recordsOf}
 use Rattle.store.specs.Calls.{shut, fresh}
 use Rattle.store.specs.Download.{markFor}
 use Rattle.stream.specs.Written.{firstData, written}

@@ -1,9 +1,9 @@
 -- For the code alone: a reading under way, step by step.
 use Prim.Native.Nat.{ℕ, _+_, _≤_, _<_}
 use mathlib.Core.List.{List}
-use Rattle.store.specs.Layout.{lastFont, lastCode}
-use Rattle.store.specs.Cursor.{Points}
-use Rattle.store.specs.declared.locate.Cursor.{Cursor}
+use Rattle.form.specs.Layout.{lastFont, lastCode}
+use Rattle.form.specs.Cursor.{Points}
+use Rattle.form.specs.declared.locate.Cursor.{Cursor}
 use Rattle.stream.specs.Reading.{countAnswer, Ended, readFrom}
 use Rattle.stream.specs.declared.reading.CommandCounts.{CommandCounts}
 use Rattle.stream.specs.declared.reading.Ending.{Ending}

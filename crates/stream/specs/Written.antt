@@ -4,9 +4,9 @@ use mathlib.Core.List.{List, [], _∷_, _++_}
 use lib.Dec.{leb}
 use lib.ListN.{length, take, drop}
 use Rattle.blocks.specs.Header.{ownHeader}
-use Rattle.store.specs.Model.{Rec, font, character}
-use Rattle.store.specs.Records.{recordsOf}
-use Rattle.store.specs.Answer.{checked, onFont}
+use Rattle.form.specs.Model.{Rec, font, character}
+use Rattle.form.specs.Records.{recordsOf}
+use Rattle.form.specs.Checks.{checked, onFont}
 use Rattle.store.specs.Calls.{onto}
 use Rattle.stream.specs.Writing.{setFont, setCode, fontBlock, characterBlock}
 use Rattle.stream.specs.declared.write.Written.{Written}

@@ -3,19 +3,19 @@
 ghost use mathlib.Core.Path.{_≡_};
 ghost use Prim.Native.Nat.{_+_, _≤_, _<_};
 ghost use lib.ListN.{length};
-ghost use Rattle.store.specs.Layout.{lastFont, lastCode};
+ghost use Rattle.form.specs.Layout.{lastFont, lastCode};
 ghost use Rattle.store.specs.Calls.{downloadingFont};
 ghost use Rattle.store.specs.Download.{downloadingCharacter};
-ghost use Rattle.store.specs.Cursor.{Points};
+ghost use Rattle.form.specs.Cursor.{Points};
 ghost use Rattle.stream.specs.Reading.{rangeAnswer, withNumber, withCode, countAnswer, endAnswer, reading};
 ghost use Rattle.stream.specs.Underway.{readOn, stateBehind, Underway, readAfter, endedOf, EndsWithin, Leads};
 use crate::command;
 use crate::command::Command;
+use form::layout::LAST_CODE_ASKED;
+use form::layout::LAST_FONT_ASKED;
+use form::locate::Cursor;
 use store::known;
 use store::known::Opened;
-use store::layout::LAST_CODE_ASKED;
-use store::layout::LAST_FONT_ASKED;
-use store::locate::Cursor;
 
 // The font number and the code that the next block is for.
 pub struct Target {

@@ -4,9 +4,9 @@ ghost use mathlib.Core.List.{List, [], _∷_};
 ghost use Prim.Native.Nat.{ℕ, _+_, _*_, _≤_, _<_};
 ghost use lib.ListN.{length};
 ghost use Rattle.blocks.specs.Header.{headerBytes};
-ghost use Rattle.store.specs.Layout.{mostStore, lastFont, lastCode};
-ghost use Rattle.store.specs.Model.{Rec, font, sizeOf};
-ghost use Rattle.store.specs.Records.{recordsAt, RecordPlace, MetAt, Between};
+ghost use Rattle.form.specs.Layout.{mostStore, lastFont, lastCode};
+ghost use Rattle.form.specs.Model.{Rec, font, sizeOf};
+ghost use Rattle.form.specs.Records.{recordsAt, RecordPlace, MetAt, Between};
 ghost use Rattle.stream.specs.Digits.{decimal};
 ghost use Rattle.store.specs.Change.{withBytes};
 ghost use Rattle.stream.specs.Writing.{characterBlock};
@@ -18,10 +18,10 @@ use blocks::character::CONTINUATION;
 use blocks::header;
 use blocks::header::BLOCK_LIMIT;
 use blocks::header::KEPT;
-use store::records;
-use store::records::Met;
-use store::seek;
-use store::seek::Sought;
+use form::records;
+use form::records::Met;
+use form::seek;
+use form::seek::Sought;
 
 // What writing answers: document 01's refusal number, and the length.
 #[repr(C)]

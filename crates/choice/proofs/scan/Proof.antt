@@ -3,8 +3,8 @@ use mathlib.Core.Path.{_≡_, refl}
 use native.Mathlib.Omega.{arith}
 use lib.ListN.{length, length-take, length-drop}
 use borrow.Author.Needs.{needs}
-use Rattle.store.specs.Records.{RecordPlace}
-use Rattle.store.specs.Fonts.{fontsAt}
+use Rattle.form.specs.Records.{RecordPlace}
+use Rattle.form.specs.Fonts.{fontsAt}
 use Rattle.choice.specs.Scores.{pass, noScore}
 use Rattle.choice.proofs.Walk.{met, again, stops}
 use Rattle.choice.proofs.scan.Statement.{statement}

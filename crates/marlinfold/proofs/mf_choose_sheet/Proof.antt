@@ -25,8 +25,8 @@ use borrow.Fn.Run.{Over}
 use borrow.Fn.World.{World}
 use borrow.Fn.Written as written
 use borrow.Author.Tests.{ltb-true, ltb-false, eqb-true, eqb-false, not-true, not-false}
-use Rattle.store.specs.Records.{Begun}
-use Rattle.store.specs.declared.records.Begin.the-variants.{At}
+use Rattle.form.specs.Records.{Begun}
+use Rattle.form.specs.declared.records.Begin.the-variants.{At}
 use Rattle.choice.specs.declared.Request.{Request}
 use Rattle.sheet.specs.Sheet.{sheetRefusal}
 use Rattle.sheet.specs.declared.SheetAnswer.{SheetAnswer}

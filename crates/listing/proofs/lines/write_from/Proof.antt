@@ -1,5 +1,5 @@
 use Rattle.listing.proofs.Listed.{Listed, listed-none, listed-all, met, room-here, listed-more}
-use Rattle.store.specs.Records.{RecordPlace}
+use Rattle.form.specs.Records.{RecordPlace}
 use borrow.Author.Needs.{needs}
 use lib.ListN.{length}
 use native.Mathlib.Omega.{arith}

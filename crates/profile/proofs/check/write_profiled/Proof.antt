@@ -1,8 +1,8 @@
 use denote.Ref.{now}
 use mathlib.Core.Path.{sym, _∙_}
 use borrow.Author.Needs.{needs}
-use Rattle.store.proofs.Seeks.{KeptFont, font-sought, font-refused}
-use Rattle.store.proofs.FontRecords.{font-records}
+use Rattle.form.proofs.Seeks.{KeptFont, font-sought, font-refused}
+use Rattle.form.proofs.FontRecords.{font-records}
 use Rattle.profile.specs.Profile.{writingProfiled}
 use Rattle.profile.proofs.Fonts.{places-rise, outside, inside}
 use Rattle.profile.proofs.check.write_profiled.Statement.{statement}

@@ -2,8 +2,8 @@ use denote.Ref.{now}
 use mathlib.Core.Path.{_∙_}
 use borrow.Author.Needs.{needs}
 use native.Mathlib.Omega.{arith}
-use Rattle.store.specs.Records.{FontMet}
-use Rattle.store.proofs.FontRecords.{between-some}
+use Rattle.form.specs.Records.{FontMet}
+use Rattle.form.proofs.FontRecords.{between-some}
 use Rattle.stream.proofs.Writes.{met-font, met-character, met-end}
 use Rattle.profile.proofs.Fonts.{header-long, behind-font, among-font, among-character}
 use Rattle.profile.proofs.pass.broken_among.Statement.{statement}

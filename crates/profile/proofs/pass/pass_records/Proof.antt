@@ -1,7 +1,7 @@
 use Prim.Native.Nat.{_-_}
 use mathlib.Core.Path.{refl}
 use native.Mathlib.Omega.{arith}
-use Rattle.store.proofs.FontRecords.{between-some}
+use Rattle.form.proofs.FontRecords.{between-some}
 use Rattle.profile.proofs.Characters.{Passing, pass-next, pass-ended}
 use Rattle.profile.proofs.pass.pass_records.Statement.{statement}
 use Rattle.profile.proofs.pass.pass_records.Tie as tie

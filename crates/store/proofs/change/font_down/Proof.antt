@@ -4,7 +4,7 @@ use native.Mathlib.Omega.{arith}
 use borrow.Author.Needs.{needs}
 use lib.ListN.{length, drop, length-set}
 use lib.Seq.{paste, paste-zero}
-use Rattle.store.specs.Layout.{fontRecord}
+use Rattle.form.specs.Layout.{fontRecord}
 use Rattle.store.proofs.Moves.{down-turn, paste-end}
 use Rattle.store.proofs.change.font_down.Statement.{statement}
 use Rattle.store.proofs.change.font_down.Tie as tie

@@ -4,7 +4,7 @@ use native.Mathlib.Omega.{arith}
 use borrow.Author.Needs.{needs}
 use lib.ListN.{length, drop, length-set}
 use lib.Seq.{paste}
-use Rattle.store.specs.Layout.{fontRecord}
+use Rattle.form.specs.Layout.{fontRecord}
 use Rattle.store.proofs.Moves.{up-turn, up-start, up-end}
 use Rattle.store.proofs.change.font_up.Statement.{statement}
 use Rattle.store.proofs.change.font_up.Tie as tie

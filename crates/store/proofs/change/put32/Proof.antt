@@ -2,7 +2,7 @@ use mathlib.Core.Path.{ap, _∙_}
 use mathlib.Core.List.{List}
 use Prim.Native.Nat.{ℕ, _+_, _/_}
 use denote.Ref.{now}
-use Rattle.store.specs.Num.{le, wordEnd}
+use Rattle.form.specs.Num.{le, wordEnd}
 use Rattle.store.specs.Change.{withBytes}
 use Rattle.store.proofs.Written.{four-put}
 use borrow.Author.Needs.{needs}

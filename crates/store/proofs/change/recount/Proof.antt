@@ -2,10 +2,10 @@ use native.Mathlib.Omega.{arith}
 use mathlib.Core.Path.{_≡_, ap, _∙_}
 use Prim.Native.Nat.{_+_, _-_}
 use denote.Ref.{now}
-use Rattle.store.specs.Layout.{fontCharactersAt}
-use Rattle.store.specs.Model.{tallyBytes}
+use Rattle.form.specs.Layout.{fontCharactersAt}
+use Rattle.form.specs.Model.{tallyBytes}
 use Rattle.store.specs.Change.{withBytes, recounted}
-use Rattle.store.specs.declared.tally.Tally.{Tally}
+use Rattle.form.specs.declared.tally.Tally.{Tally}
 use borrow.Author.Needs.{needs}
 use Rattle.store.proofs.change.recount.Statement.{statement}
 use Rattle.store.proofs.change.recount.Tie as tie
@@ -13,7 +13,7 @@ use Rattle.store.proofs.change.recount.Reads as reads
 use Rattle.store.proofs.change.recount.Lts as lts
 use Rattle.store.proofs.change.put_tally.Reads as put-tally-reads
 use Rattle.store.proofs.change.tally_by.Reads as tally-by-reads
-use Rattle.store.proofs.tally.tally_at.Reads as tally-at-reads
+use Rattle.form.proofs.tally.tally_at.Reads as tally-at-reads
 
 changed : {h o n x y z : Tally} → h ≡ x → o ≡ y → n ≡ z
     → _≡_ {A = Tally} (record { characters = h .characters + n .characters - o .characters; bytes = h .bytes + n .bytes - o .bytes }) (record { characters = x .characters + z .characters - y .characters; bytes = x .bytes + z .bytes - y .bytes })

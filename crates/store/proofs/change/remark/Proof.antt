@@ -2,8 +2,8 @@ use mathlib.Core.Path.{ap, _∙_}
 use mathlib.Core.List.{List}
 use Prim.Native.Nat.{ℕ}
 use denote.Ref.{now}
-use Rattle.store.specs.Layout.{markCodeAt, markFontAt}
-use Rattle.store.specs.Num.{le}
+use Rattle.form.specs.Layout.{markCodeAt, markFontAt}
+use Rattle.form.specs.Num.{le}
 use Rattle.store.specs.Change.{withBytes}
 use Rattle.store.proofs.Written.{remark-put}
 use borrow.Author.Needs.{needs}

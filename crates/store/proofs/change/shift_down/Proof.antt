@@ -5,7 +5,7 @@ use native.Mathlib.Omega.{arith}
 use Prim.Native.Nat.{ℕ, _+_}
 use mathlib.Core.Path.{_≡_, ap, _∙_}
 use borrow.Author.Needs.{needs}
-use Rattle.store.specs.Layout.{fontRecord}
+use Rattle.form.specs.Layout.{fontRecord}
 use Rattle.store.proofs.change.shift_down.Statement.{statement}
 use Rattle.store.proofs.change.shift_down.Tie as tie
 

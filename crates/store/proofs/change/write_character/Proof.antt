@@ -5,8 +5,8 @@ use lib.ListN.{length, take, drop, length-take, length-drop}
 use denote.Ref.{now}
 use Rattle.blocks.specs.Character.{keptFirst, descriptorBytes}
 use Rattle.blocks.proofs.KeptFirst.{kept-length}
-use Rattle.store.specs.Layout.{characterKeptAt, characterRecord}
-use Rattle.store.specs.Model.{characterHead}
+use Rattle.form.specs.Layout.{characterKeptAt, characterRecord}
+use Rattle.form.specs.Model.{characterHead}
 use Rattle.store.specs.Change.{withBytes}
 use Rattle.store.proofs.Written.{char-put}
 use borrow.Author.Needs.{needs}

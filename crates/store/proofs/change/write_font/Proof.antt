@@ -5,9 +5,9 @@ use lib.ListN.{length}
 use denote.Ref.{now}
 use Rattle.blocks.specs.Header.{keptHeader, headerBytes}
 use Rattle.blocks.proofs.KeptHeader.{kept-length}
-use Rattle.store.specs.Layout.{fontCharactersAt, fontKeptAt, fontKind, fontRecord, kindAt, numberAt}
-use Rattle.store.specs.Num.{le}
-use Rattle.store.specs.Model.{noCharacters, tallyBytes}
+use Rattle.form.specs.Layout.{fontCharactersAt, fontKeptAt, fontKind, fontRecord, kindAt, numberAt}
+use Rattle.form.specs.Num.{le}
+use Rattle.form.specs.Model.{noCharacters, tallyBytes}
 use Rattle.store.specs.Change.{withBytes}
 use Rattle.store.proofs.Written.{mid-put, font-put}
 use borrow.Author.Needs.{needs}

@@ -4,7 +4,7 @@ use denote.Ref.{now}
 use Rattle.store.specs.Change.{recounted, unmarkedAt}
 use Rattle.store.specs.Calls.{removingCharacter, removeCharacter}
 use Rattle.store.specs.Answer.{refuse, done}
-use Rattle.store.proofs.Seeks.{KeptChar, char-sought, char-refused, char-call}
+use Rattle.form.proofs.Seeks.{KeptChar, char-sought, char-refused, char-call}
 use Rattle.store.proofs.FontCalls.{answered}
 use Rattle.store.proofs.CharacterCalls.{cut-ready, cut-done}
 use borrow.Author.Needs.{needs}

@@ -6,11 +6,12 @@ use lib.Dec.{leb}
 use borrow.Author.Tests.{le-leb, lt-leb}
 use denote.Ref.{now}
 use Rattle.blocks.specs.Character.{descriptorBytes}
-use Rattle.store.specs.Layout.{characterRecord}
-use Rattle.store.specs.Answer.{checked, untold}
+use Rattle.form.specs.Layout.{characterRecord}
+use Rattle.form.specs.Checks.{checked}
+use Rattle.store.specs.Answer.{untold}
 use Rattle.store.specs.Calls.{tellingCharacter, onto}
-use Rattle.store.specs.declared.walk.Places.{Places}
-use Rattle.store.proofs.Seeks.{KeptChar, char-sought, char-refused, char-call}
+use Rattle.form.specs.declared.walk.Places.{Places}
+use Rattle.form.proofs.Seeks.{KeptChar, char-sought, char-refused, char-call}
 use Rattle.store.proofs.Spots.{char-span, char-kept, char-shape}
 use borrow.Author.Needs.{needs}
 use native.Mathlib.Omega.{arith}

@@ -3,7 +3,7 @@ use Prim.Native.Nat.{_+_}
 use denote.Ref.{now}
 use Rattle.pictures.proofs.Tests.{failed, passed}
 use Rattle.store.proofs.FontCalls.{answered}
-use Rattle.store.proofs.Ready.{Ready, ready, stands, not-store}
+use Rattle.form.proofs.Ready.{Ready, ready, stands, not-store}
 use Rattle.store.proofs.Receives.{download-not, download-range, download-block, in-range}
 use borrow.Author.Needs.{needs}
 use Rattle.store.proofs.download.download_character.Statement.{statement}

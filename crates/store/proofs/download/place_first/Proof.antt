@@ -5,8 +5,8 @@ use Prim.Native.Nat.{ℕ, _+_, _-_}
 use lib.ListN.{length, take, drop, length-take, length-drop}
 use denote.Ref.{now}
 use Rattle.blocks.specs.Character.{keptFirst, descriptorBytes}
-use Rattle.store.specs.Layout.{characterRecord}
-use Rattle.store.specs.Model.{characterBytes}
+use Rattle.form.specs.Layout.{characterRecord}
+use Rattle.form.specs.Model.{characterBytes}
 use Rattle.store.specs.Change.{splicedAt, withBytes, Recounting, recounted, remarked}
 use Rattle.store.specs.Calls.{shut}
 use Rattle.store.specs.Download.{markFor}

@@ -6,12 +6,12 @@ use lib.ListN.{length, take, drop, length-take, length-drop, length-append}
 use denote.Ref.{now}
 use Rattle.blocks.specs.Character.{continuationBytes}
 use Rattle.pictures.specs.Size.{dataLimit}
-use Rattle.store.specs.Layout.{characterRecord}
-use Rattle.store.specs.Num.{Bytes, le}
-use Rattle.store.specs.Model.{characterBytes}
+use Rattle.form.specs.Layout.{characterRecord}
+use Rattle.form.specs.Num.{Bytes, le}
+use Rattle.form.specs.Model.{characterBytes}
 use Rattle.store.specs.Change.{splicedAt, withBytes, Recounting, recounted, remarked}
 use Rattle.store.specs.Calls.{shut}
-use Rattle.store.specs.Walk.{keptAt, dataAt}
+use Rattle.form.specs.Walk.{keptAt, dataAt}
 use Rattle.store.specs.Download.{markFor}
 use Rattle.store.proofs.Downloads.{Space, growing, grow-span, grow-small, grow-put, place-full, place-ready, place-done}
 use Rattle.store.proofs.FontCalls.{answered}

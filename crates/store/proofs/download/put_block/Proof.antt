@@ -2,9 +2,9 @@ use Prim.Native.Nat.{_+_}
 use mathlib.Core.Path.{sym, _∙_, subst}
 use denote.Ref.{now}
 use Rattle.pictures.proofs.Tests.{failed, passed}
-use Rattle.store.specs.declared.walk.Places.{Places}
+use Rattle.form.specs.declared.walk.Places.{Places}
 use Rattle.store.proofs.FontCalls.{answered}
-use Rattle.store.proofs.Ready.{Ready, standing, looked-at, looked-not}
+use Rattle.form.proofs.Ready.{Ready, standing, looked-at, looked-not}
 use Rattle.store.proofs.Host.{Host, arriving}
 use Rattle.store.proofs.FirstBlocks.{block-short}
 use Rattle.store.proofs.Receives.{block-length, block-no-font, block-host, block-unknown, block-first, block-more}

@@ -6,7 +6,7 @@ use denote.Ref.{now}
 use Rattle.pictures.specs.declared.picture.Judged.the-variants.{Complete}
 use Rattle.pictures.proofs.Tests.{failed, passed}
 use Rattle.blocks.specs.Character.{continuationBytes}
-use Rattle.store.specs.Model.{markIn}
+use Rattle.form.specs.Model.{markIn}
 use Rattle.store.specs.Download.{names}
 use Rattle.store.proofs.FontCalls.{answered}
 use Rattle.store.proofs.Host.{Host, host}

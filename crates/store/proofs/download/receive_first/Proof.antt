@@ -1,7 +1,7 @@
 use mathlib.Core.Path.{sym, ap, _∙_}
 use denote.Ref.{now}
 use Rattle.blocks.proofs.KeptFirst.{first-long}
-use Rattle.store.specs.Model.{isUnfinished}
+use Rattle.form.specs.Model.{isUnfinished}
 use Rattle.store.proofs.FontCalls.{answered}
 use Rattle.store.proofs.Host.{Host, host}
 use Rattle.store.proofs.FirstBlocks.{first-past, complete-small, complete-held, complete-fits, first-complete, incomplete-small, incomplete-held, incomplete-fits, first-incomplete}

@@ -4,8 +4,8 @@ use lib.ListN.{length, take, drop, length-take, length-drop}
 use denote.Ref.{now}
 use Rattle.blocks.specs.Character.{continuationBytes}
 use Rattle.pictures.specs.Size.{dataLimit}
-use Rattle.store.specs.Layout.{characterRecord}
-use Rattle.store.specs.Walk.{dataAt}
+use Rattle.form.specs.Layout.{characterRecord}
+use Rattle.form.specs.Walk.{dataAt}
 use Rattle.store.proofs.FontCalls.{answered}
 use Rattle.store.proofs.Host.{Host, host}
 use Rattle.store.proofs.Continuations.{Opened, opened-there, more-large, more-marked, more-grows, more-placed}

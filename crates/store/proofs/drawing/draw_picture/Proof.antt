@@ -3,7 +3,7 @@ use Prim.Native.Nat.{_-_}
 use denote.Ref.{now}
 use Rattle.store.proofs.FontCalls.{answered}
 use Rattle.store.specs.Drawing.{drawingPicture}
-use Rattle.store.proofs.Seeks.{KeptChar, char-sought, char-refused}
+use Rattle.form.proofs.Seeks.{KeptChar, char-sought, char-refused}
 use Rattle.store.proofs.Spots.{char-span, char-shape}
 use Rattle.store.proofs.Drawings.{char-width, kept-cut, data-cut, picture-call}
 use borrow.Author.Needs.{needs}

@@ -1,6 +1,6 @@
 use mathlib.Core.Path.{sym, _∙_}
 use denote.Ref.{now}
-use Rattle.store.proofs.Ready.{Ready, ready, stands, not-store}
+use Rattle.form.proofs.Ready.{Ready, ready, stands, not-store}
 use Rattle.store.proofs.FontCalls.{answered, download-not, download-range, download-refused, download-taken}
 use borrow.Author.Needs.{needs}
 use Rattle.store.proofs.fonts.download_font.Statement.{statement}

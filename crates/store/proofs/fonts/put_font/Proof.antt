@@ -4,9 +4,9 @@ use Prim.Native.Nat.{ℕ, _-_}
 use denote.Ref.{now}
 use Rattle.blocks.specs.Header.{keptHeader}
 use Rattle.blocks.proofs.KeptHeader.{header-long}
-use Rattle.store.specs.Model.{noCharacters, fontHead}
+use Rattle.form.specs.Model.{noCharacters, fontHead}
 use Rattle.store.specs.Change.{withBytes, unmarkedFor}
-use Rattle.store.proofs.Ready.{Ready, standing}
+use Rattle.form.proofs.Ready.{Ready, standing}
 use Rattle.store.proofs.FontCalls.{answered, put-full, put-done}
 use borrow.Author.Needs.{needs}
 use native.Mathlib.Omega.{arith}

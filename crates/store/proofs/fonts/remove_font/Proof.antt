@@ -2,7 +2,7 @@ use mathlib.Core.Path.{sym, _∙_}
 use denote.Ref.{now}
 use Rattle.store.specs.Calls.{removingFont, removeFont}
 use Rattle.store.specs.Answer.{refuse, done}
-use Rattle.store.proofs.Seeks.{KeptFont, font-sought, font-refused, font-call}
+use Rattle.form.proofs.Seeks.{KeptFont, font-sought, font-refused, font-call}
 use Rattle.store.proofs.FontCalls.{answered, cut-done}
 use borrow.Author.Needs.{needs}
 use Rattle.store.proofs.fonts.remove_font.Statement.{statement}

@@ -6,11 +6,12 @@ use lib.Dec.{leb}
 use borrow.Author.Tests.{le-leb, lt-leb}
 use denote.Ref.{now}
 use Rattle.blocks.specs.Header.{headerBytes}
-use Rattle.store.specs.Answer.{checked, Telling, untold}
+use Rattle.form.specs.Checks.{checked}
+use Rattle.store.specs.Answer.{Telling, untold}
 use Rattle.store.specs.Calls.{tellingFont, charactersOf, onto}
-use Rattle.store.specs.Model.{font}
-use Rattle.store.specs.declared.walk.Places.{Places}
-use Rattle.store.proofs.Seeks.{KeptFont, font-sought, font-refused, font-call}
+use Rattle.form.specs.Model.{font}
+use Rattle.form.specs.declared.walk.Places.{Places}
+use Rattle.form.proofs.Seeks.{KeptFont, font-sought, font-refused, font-call}
 use Rattle.store.proofs.Spots.{font-span, font-kept, font-held}
 use borrow.Author.Needs.{needs}
 use native.Mathlib.Omega.{arith}

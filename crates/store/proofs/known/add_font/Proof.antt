@@ -1,6 +1,6 @@
 use Rattle.store.proofs.Cursors.{in-order, font-behind}
 use Rattle.store.proofs.Again.{known-refused, known-taken}
-use Rattle.store.proofs.Locates.{store-is}
+use Rattle.form.proofs.Locates.{store-is}
 use Rattle.store.proofs.FontCalls.{answered}
 use denote.Ref.{now}
 use mathlib.Core.Path.{sym, _∙_}

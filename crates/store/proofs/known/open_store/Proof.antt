@@ -1,6 +1,6 @@
 use Rattle.store.proofs.Cursors.{opened-points}
-use Rattle.store.proofs.Ready.{not-store}
-use Rattle.store.specs.Cursor.{Opening}
+use Rattle.form.proofs.Ready.{not-store}
+use Rattle.store.specs.Known.{Opening}
 use mathlib.Core.Path.{sym, _∙_}
 use borrow.Author.Needs.{needs}
 use Rattle.store.proofs.known.open_store.Statement.{statement}

@@ -1,5 +1,5 @@
 use denote.Ref.{now}
-use Rattle.store.specs.Records.{FontMet, CharacterMet}
+use Rattle.form.specs.Records.{FontMet, CharacterMet}
 use Rattle.stream.proofs.Writes.{met-font, met-character, met-end, lent-length, font-measured, character-measured}
 use borrow.Author.Needs.{needs}
 use native.Mathlib.Omega.{arith}

@@ -1,7 +1,7 @@
 use mathlib.Core.Path.{sym, _∙_}
 use denote.Ref.{now}
-use Rattle.store.proofs.Seeks.{KeptFont, font-sought, font-refused}
-use Rattle.store.proofs.FontRecords.{font-records}
+use Rattle.form.proofs.Seeks.{KeptFont, font-sought, font-refused}
+use Rattle.form.proofs.FontRecords.{font-records}
 use Rattle.stream.specs.Written.{writingFont}
 use Rattle.stream.proofs.Writes.{font-written}
 use borrow.Author.Needs.{needs}

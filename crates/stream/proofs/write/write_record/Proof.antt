@@ -1,5 +1,5 @@
 use denote.Ref.{now}
-use Rattle.store.specs.Records.{FontMet, CharacterMet}
+use Rattle.form.specs.Records.{FontMet, CharacterMet}
 use Rattle.stream.proofs.Writes.{met-font, met-character, met-end, lent-length, font-room, font-wrote, character-room, character-wrote}
 use borrow.Author.Needs.{needs}
 use native.Mathlib.Omega.{arith}

@@ -1,7 +1,7 @@
 use mathlib.Core.Path.{_≡_, refl}
 use Prim.Native.Nat.{_-_}
 use lib.ListN.{length}
-use Rattle.store.proofs.FontRecords.{between-some}
+use Rattle.form.proofs.FontRecords.{between-some}
 use Rattle.stream.proofs.Writes.{Filled, fill-room, fill-next, filled}
 use native.Mathlib.Omega.{arith}
 use Rattle.stream.proofs.write.write_records.Statement.{statement}

@@ -1,6 +1,6 @@
 use Prim.Native.Nat.{_*_, _-_, _≤_}
 use native.Mathlib.Nat.{zero-add}
-use Rattle.store.proofs.FontRecords.{between-some}
+use Rattle.form.proofs.FontRecords.{between-some}
 use Rattle.stream.proofs.Writes.{Counted, count-next, counted}
 use native.Mathlib.Omega.{arith}
 use Rattle.stream.proofs.write.written_length.Statement.{statement}

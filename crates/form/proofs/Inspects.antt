@@ -1,0 +1,163 @@
+-- What the inspection of a buffer answers, by its first record and the walk over the others. Assumes nothing.
+use mathlib.Core.Path.{_≡_, refl, _∙_}
+use mathlib.Core.List.{List}
+use mathlib.Core.Bool.{Bool, true, false, not, cond, _||_}
+use mathlib.Core.Option.{Option, none, some}
+use Prim.Native.Nat.{ℕ, _+_, _<_, _≤_}
+use native.Mathlib.Omega.{arith}
+use lib.ListN.{length, drop}
+use lib.Dec.{eqb, leb}
+use borrow.Author.Tests.{eqb-true, le-leb, lt-leb, ne-eqb}
+use Rattle.form.specs.Layout.{keyOf, kindAt, lastCode, lastFont, leastStore, markRecord, mostStore, markKind}
+use Rattle.form.specs.Num.{_&_, field}
+use Rattle.form.specs.Model.{Rec, Mark, alone, sorted, noCharacters, tallyOf, counted, opened, markOk, guard, split, markIn, begins, validOr, decode}
+use Rattle.form.proofs.Counts.{settled-counted}
+use Rattle.form.specs.Walk.{walkStart, queryFor, placesOf, placesFrom, tallied, walkedOver, walked, markSeen, surveyedOver, surveyed, inspected}
+use Rattle.form.specs.declared.walk.Places.{Places}
+use Rattle.form.specs.declared.walk.Walk.the-variants.{Run, NotStore}
+use Rattle.form.specs.declared.walk.MarkSeen.{MarkSeen}
+use Rattle.form.specs.declared.walk.MarkSeen.the-variants.{Shut, Open, Wrong}
+use Rattle.form.specs.declared.walk.Inspected.the-variants.{Found, NotStore}
+
+-- ── the first record
+module _ (s : List ℕ) where
+  pub begins-short : length s < leastStore → begins s ≡ false
+  unfolding begins _&_
+  begins-short l = rw (lt-leb leastStore (length s) l)
+
+  pub begins-long : leastStore ≤ length s → mostStore < length s → begins s ≡ false
+  unfolding begins _&_
+  begins-long a l = rw (le-leb leastStore (length s) a, lt-leb (length s) mostStore l)
+
+  pub begins-len : leastStore ≤ length s → length s ≤ mostStore → (field 4 0 s ≡ markRecord → ⊥) → begins s ≡ false
+  unfolding begins _&_
+  begins-len a b n = rw (le-leb leastStore (length s) a, le-leb (length s) mostStore b, ne-eqb (field 4 0 s) markRecord n)
+
+  pub begins-is : leastStore ≤ length s → length s ≤ mostStore → field 4 0 s ≡ markRecord → begins s ≡ eqb (field 2 kindAt s) markKind
+  unfolding begins _&_
+  begins-is a b n = rw (le-leb leastStore (length s) a, le-leb (length s) mostStore b, n)
+
+module _ (m : Mark) where
+  pub seen-shut : m .on ≡ 0 → m .fontOf ≡ 0 → m .codeOf ≡ 0 → markSeen m ≡ Shut
+  unfolding markSeen _&_
+  seen-shut a b c = rw (a, b, c)
+
+  pub seen-zero : m .on ≡ 0 → 0 < m .fontOf + m .codeOf → markSeen m ≡ Wrong
+  unfolding markSeen _&_
+  seen-zero a l = rw a (go (eqb (m .fontOf) 0) refl)
+    where
+      go : (b : Bool) → eqb (m .fontOf) 0 ≡ b → cond (b & eqb (m .codeOf) 0) Shut Wrong ≡ Wrong
+      go true q = let z : m .fontOf ≡ 0 = eqb-true _ _ q in rw (ne-eqb (m .codeOf) 0 (λ e. omega arith))
+      go false q = refl
+
+  pub seen-on : (m .on ≡ 0 → ⊥) → (m .on ≡ 1 → ⊥) → markSeen m ≡ Wrong
+  unfolding markSeen _&_
+  seen-on a b = rw (ne-eqb (m .on) 0 a, ne-eqb (m .on) 1 b)
+
+  pub seen-font : m .on ≡ 1 → lastFont < m .fontOf → markSeen m ≡ Wrong
+  unfolding markSeen _&_
+  seen-font a l = rw (a, lt-leb (m .fontOf) lastFont l)
+
+  pub seen-code : m .on ≡ 1 → m .fontOf ≤ lastFont → lastCode < m .codeOf → markSeen m ≡ Wrong
+  unfolding markSeen _&_
+  seen-code a b l = rw (a, le-leb (m .fontOf) lastFont b, lt-leb (m .codeOf) lastCode l)
+
+  pub seen-open : m .on ≡ 1 → m .fontOf ≤ lastFont → m .codeOf ≤ lastCode → markSeen m ≡ Open (keyOf (m .fontOf) (m .codeOf + 1))
+  unfolding markSeen _&_
+  seen-open a b c = rw (a, le-leb (m .fontOf) lastFont b, le-leb (m .codeOf) lastCode c)
+
+-- ── the records
+module _ (n p m : ℕ) (must : Bool) (s : List ℕ) where
+  surveyed-some : (rs : List Rec) (w : Places) (k : Bool) → walkedOver (queryFor n p m) walkStart s (some rs) ≡ Run w k → surveyedOver n p m must s (some rs) ≡ cond (not must || k) (Found w) NotStore
+  unfolding walkedOver surveyedOver _&_
+  surveyed-some rs w k e = rw (← (settled-counted s rs)) (go (sorted 0 alone rs & tallied noCharacters noCharacters s rs) e)
+    where
+      go : (b : Bool) → cond b (Run (placesFrom (queryFor n p m) walkStart rs) (opened m rs)) NotStore ≡ Run w k
+          → cond (b & (not must || opened m rs)) (Found (placesOf n p rs)) NotStore ≡ cond (not must || k) (Found w) NotStore
+      go true e' =
+          let a : placesFrom (queryFor n p m) walkStart rs ≡ w = cc in
+          let b : opened m rs ≡ k = cc in
+          rw (← b, ← a)
+      go false e' = let z : _≡_ {A = ℕ} 0 1 = cc in absurd (omega arith)
+
+  surveyed-none : (rs : List Rec) → walkedOver (queryFor n p m) walkStart s (some rs) ≡ NotStore → surveyedOver n p m must s (some rs) ≡ NotStore
+  unfolding walkedOver surveyedOver _&_
+  surveyed-none rs e = rw (← (settled-counted s rs)) (go (sorted 0 alone rs & tallied noCharacters noCharacters s rs) e)
+    where
+      go : (b : Bool) → cond b (Run (placesFrom (queryFor n p m) walkStart rs) (opened m rs)) NotStore ≡ NotStore → cond (b & (not must || opened m rs)) (Found (placesOf n p rs)) NotStore ≡ NotStore
+      go true e' = let z : _≡_ {A = ℕ} 0 1 = cc in absurd (omega arith)
+      go false e' = refl
+
+  pub surveyed-run : (w : Places) (k : Bool) → walked (queryFor n p m) walkStart s ≡ Run w k → surveyed n p m must s ≡ cond (not must || k) (Found w) NotStore
+  surveyed-run w k e = go (split s) e
+    where
+      go : (o : Option (List Rec)) → walkedOver (queryFor n p m) walkStart s o ≡ Run w k → surveyedOver n p m must s o ≡ cond (not must || k) (Found w) NotStore
+      go none e' = unfold walkedOver in let z : _≡_ {A = ℕ} 0 1 = cc in absurd (omega arith)
+      go (some rs) e' = surveyed-some rs w k e'
+
+  pub surveyed-broken : walked (queryFor n p m) walkStart s ≡ NotStore → surveyed n p m must s ≡ NotStore
+  surveyed-broken e = go (split s) e
+    where
+      go : (o : Option (List Rec)) → walkedOver (queryFor n p m) walkStart s o ≡ NotStore → surveyedOver n p m must s o ≡ NotStore
+      go none e' = unfold surveyedOver in refl
+      go (some rs) e' = surveyed-none rs e'
+
+-- ── both together
+abbrev okBy : MarkSeen → List Rec → Bool
+okBy Shut rs = true
+okBy (Open k) rs = opened k rs
+okBy Wrong rs = false
+
+mark-by : (m : Mark) (rs : List Rec) → markOk m rs ≡ okBy (markSeen m) rs
+unfolding markOk markSeen
+mark-by m rs = go (eqb (m .on) 0) (eqb (m .fontOf) 0 & eqb (m .codeOf) 0) (eqb (m .on) 1) (leb (m .fontOf) lastFont) (leb (m .codeOf) lastCode)
+  where
+    go : (a b c d e : Bool)
+        → cond a b (c & d & e & opened (keyOf (m .fontOf) (m .codeOf + 1)) rs)
+        ≡ okBy (cond a (cond b Shut Wrong) (cond (c & d & e) (Open (keyOf (m .fontOf) (m .codeOf + 1))) Wrong)) rs
+    go true true c d e = refl
+    go true false c d e = refl
+    go false b true true true = unfold _&_ in refl
+    go false b true true false = unfold _&_ in refl
+    go false b true false e = unfold _&_ in refl
+    go false b false d e = unfold _&_ in refl
+
+module _ (n p : ℕ) (s : List ℕ) where
+  pub inspect-not : begins s ≡ false → inspected n p (decode s) ≡ NotStore
+  unfolding decode guard inspected
+  inspect-not e = rw e
+
+  abbrev records : List ℕ
+  records = drop markRecord s
+
+  inspect-by : begins s ≡ true → inspected n p (decode s) ≡ inspected n p (validOr (length s) (markIn s) records (split records))
+  unfolding decode guard
+  inspect-by e = rw e
+
+  pub inspect-wrong : begins s ≡ true → markSeen (markIn s) ≡ Wrong → inspected n p (decode s) ≡ NotStore
+  inspect-wrong e w = inspect-by e ∙ go (split records)
+    where
+      go : (o : Option (List Rec)) → inspected n p (validOr (length s) (markIn s) records o) ≡ NotStore
+      go none = unfold validOr inspected in refl
+      go (some rs) = unfold validOr inspected guard in rw (mark-by (markIn s) rs, w) (fail (sorted 0 alone rs & counted (tallyOf rs) records rs) rs)
+        where
+          fail : (b : Bool) (rs : List Rec) → inspected n p (guard (b & false) (some (record { size = length s; mark = markIn s; recs = rs }))) ≡ NotStore
+          fail true rs = unfold _&_ guard inspected in refl
+          fail false rs = unfold _&_ guard inspected in refl
+
+  inspect-is : (m : ℕ) (must : Bool) → begins s ≡ true → ((rs : List Rec) → markOk (markIn s) rs ≡ not must || opened m rs) → inspected n p (decode s) ≡ surveyed n p m must records
+  inspect-is m must e k = inspect-by e ∙ go (split records)
+    where
+      give : (b : Bool) (rs : List Rec) → inspected n p (guard b (some (record { size = length s; mark = markIn s; recs = rs }))) ≡ cond b (Found (placesOf n p rs)) NotStore
+      give true rs = unfold guard inspected in refl
+      give false rs = unfold guard inspected in refl
+
+      go : (o : Option (List Rec)) → inspected n p (validOr (length s) (markIn s) records o) ≡ surveyedOver n p m must records o
+      go none = unfold validOr inspected surveyedOver in refl
+      go (some rs) = unfold validOr surveyedOver in rw (k rs) (give ((sorted 0 alone rs & counted (tallyOf rs) records rs) & (not must || opened m rs)) rs)
+
+  pub inspect-shut : begins s ≡ true → markSeen (markIn s) ≡ Shut → inspected n p (decode s) ≡ surveyed n p 0 false records
+  inspect-shut e w = inspect-is 0 false e (λ rs. mark-by (markIn s) rs ∙ rw w)
+
+  pub inspect-open : (k : ℕ) → begins s ≡ true → markSeen (markIn s) ≡ Open k → inspected n p (decode s) ≡ surveyed n p k true records
+  inspect-open k e w = inspect-is k true e (λ rs. mark-by (markIn s) rs ∙ rw w)

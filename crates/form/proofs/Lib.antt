@@ -1,0 +1,17 @@
+pub mod Numbers
+pub mod Fields
+pub mod RecordBytes
+pub mod Codec
+pub mod Heads
+pub mod Walks
+pub mod Inspects
+pub mod Order
+pub mod Totals
+pub mod Lookup
+pub mod Counts
+pub mod Ready
+pub mod Seeks
+pub mod RecordRuns
+pub mod KeptFonts
+pub mod Locates
+pub mod FontRecords

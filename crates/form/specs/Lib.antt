@@ -1,0 +1,9 @@
+pub mod Num
+pub mod Layout
+pub mod Model
+pub mod Order
+pub mod Checks
+pub mod Walk
+pub mod Cursor
+pub mod Records
+pub mod Fonts
