@@ -19,33 +19,39 @@
  *   pictures and offsets are turned already. Weight 0 is medium, 3 (MF_BOLD) bold.
  *   In MF_MODE_600 a font of 300 dots to the inch may be chosen: its dots are then twice as wide.
  *
- * A line of text from the cursor x, y on, where put, a function of yours, places a picture:
+ * A line of text from the cursor x, y on, its bytes codes of the font's symbol set. put, a function
+ * of yours, places a picture and leaves out what is beyond the page:
  *
- *     uint32_t set_line(const uint8_t *store, size_t store_len, const unsigned char *text,
- *                       long x, long y)
+ *     int set_line(const uint8_t *file, size_t file_len, const unsigned char *text, long x, long y)
  *     {
- *         static uint8_t kept[MF_FONT_BYTES], picture[MF_PICTURE_MAX];
- *         mf_chosen chosen = mf_choose(store, store_len, MF_ROMAN_8, MF_FIXED, 1000, 1200, 0,
- *                                      MF_BOLD, 3, MF_PORTRAIT, MF_MODE_300);
+ *         static uint8_t store[MF_STORE_MAX], kept[MF_FONT_BYTES], picture[MF_PICTURE_MAX];
+ *         mf_stream_read read;
+ *         mf_chosen chosen;
  *         mf_font_fields font;
  *         uint32_t along = 0;
  *
- *         if (chosen.refusal)
- *             return chosen.refusal;
- *         mf_tell_font(store, store_len, kept, sizeof kept, chosen.font);
+ *         mf_make_fresh(store, sizeof store);
+ *         read = mf_read_stream(store, sizeof store, file, file_len);
+ *         chosen = mf_choose(store, sizeof store, MF_ROMAN_8, MF_FIXED, 1000, 1200, 0, MF_BOLD, 3,
+ *                            MF_PORTRAIT, MF_MODE_300);
+ *         if (read.refusal || read.refused || chosen.refusal)
+ *             return 0;
+ *         mf_tell_font(store, sizeof store, kept, sizeof kept, chosen.font);
  *         font = mf_font_fields_of(kept);
  *         for (; *text; text++) {
- *             if (mf_tell_character(store, store_len, kept, sizeof kept, chosen.font, *text)
- *                     .refusal == MF_DONE) {
- *                 mf_character_fields letter = mf_character_fields_of(kept);
- *                 mf_draw_picture(store, store_len, picture, sizeof picture, chosen.font, *text);
- *                 put(picture, letter.width, letter.height,
- *                     x + (long)mf_dots(&font, along) + letter.left, y - letter.top);
- *                 along += font.spacing == MF_FIXED ? font.pitch : letter.delta_x;
- *             } else
+ *             uint32_t refusal = mf_tell_character(store, sizeof store, kept, sizeof kept,
+ *                                                  chosen.font, *text).refusal;
+ *             mf_character_fields letter = mf_character_fields_of(kept);
+ *             if (refusal) {
  *                 along += font.pitch;
+ *                 continue;
+ *             }
+ *             mf_draw_picture(store, sizeof store, picture, sizeof picture, chosen.font, *text);
+ *             put(picture, letter.width, letter.height,
+ *                 x + (long)mf_dots(&font, along) + letter.left, y - letter.top);
+ *             along += font.spacing == MF_FIXED ? font.pitch : letter.delta_x;
  *         }
- *         return MF_DONE;
+ *         return 1;
  *     }
  *
  * What you may pass
@@ -53,11 +59,11 @@
  *   a crash, and every call ends.
  *   A pointer is followed by its length. It must be valid for that many bytes (for writing, where
  *   it is not const). For a length of 0 nothing is read or written, but the pointer must still
- *   not be NULL: the functions are compiled for pointers that never are, and a later compiler
- *   may rely on that. Pass any valid pointer, such as the store's.
+ *   not be NULL: the functions are compiled for pointers that are never null, and a later
+ *   compiler may rely on that. Pass any valid pointer, such as the store's.
  *   The lists of mf_choose_sheet are arrays: their pointers are followed by the number of
  *   entries, and aligned as C aligns such arrays, also for 0 entries.
- *   Buffers lent to one call must not overlap.
+ *   Buffers lent to one call must not overlap; an empty one overlaps none.
  *   Calls on different stores may run in parallel, and so may calls that only look at one store
  *   (those that take it as const), each with an output of its own. A call that changes a store
  *   needs it alone.
@@ -106,7 +112,7 @@ extern "C" {
 
 enum mf_refusal {
     MF_DONE = 0,           /* done */
-    MF_NOT_A_STORE = 1,    /* not a store; mf_make_fresh: length not 12..65536 */
+    MF_NOT_A_STORE = 1,    /* not a store as these calls leave it; mf_make_fresh: its length */
     MF_OUT_OF_RANGE = 2,   /* a number out of range */
     MF_BLOCK_LENGTH = 3,   /* the block's length is wrong */
     MF_NOT_TAKEN = 4,      /* format, descriptor size or class not taken */
@@ -544,12 +550,10 @@ uint32_t mf_remove_character(uint8_t *store, size_t store_len,
  *  10. the lowest number
  * In MF_MODE_300 the fonts of 600 dots to the inch take no part: for every step it is as if they
  * were not there.
- * A font's pitch field is the width of a character and its height field a height, both in
- * quarter-dots of its own, of which 1200 make an inch in a font of 300 dots to the inch and 2400
- * in one of 600. Compared are 256 x field 16 + byte 40 of its kept bytes and 256 x field 18 +
- * byte 41, twice these for a font of 300 dots: the greater the first, the fewer characters to the
- * inch. Field 70 with byte 150 is 17 of them at 300 dots to the inch, and so is 141 with byte 44
- * at 600.
+ * A font's pitch is the width of a character. Compared are, of its fields, 256 x pitch +
+ * pitch_extended and 256 x height + height_extended, twice these for a font of 300 dots to the
+ * inch: the greater the first, the fewer characters to the inch. Pitch 70 with 150 is 17 of them
+ * at 300 dots to the inch, and so is 141 with 44 at 600.
  *   symbol_set   0..2047
  *   spacing      MF_FIXED or MF_PROPORTIONAL
  *   pitch        hundredths of a character per inch, 0..57600

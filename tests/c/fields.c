@@ -17,8 +17,8 @@ static char page[PAGE_HEIGHT][PAGE_WIDTH + 1];
 
 static void high(uint8_t *at, int value)
 {
-    at[0] = (uint8_t)(value >> 8 & 255);
-    at[1] = (uint8_t)(value & 255);
+    at[0] = (uint8_t)((unsigned)value >> 8 & 255);
+    at[1] = (uint8_t)((unsigned)value & 255);
 }
 
 /* A format 0 header that the library takes, bold, fixed, of 10 characters to the inch. */
@@ -162,7 +162,7 @@ static void fonts(void)
 }
 
 /* The same of a character of font 7. */
-static void character(void)
+static void one_character(void)
 {
     uint8_t block[16], kept[MF_CHARACTER_BYTES] = {0};
     mf_character_fields letter;
@@ -366,7 +366,7 @@ static void build_two(void)
     put_character(2, 65, 1, 8, 3, rows, 3);
 }
 
-static void along(void)
+static void kept_fonts(void)
 {
     const uint8_t rows[] = {1, 2, 3};
     uint8_t block[MF_FONT_BYTES];
@@ -429,31 +429,36 @@ static void put(const uint8_t *picture, uint32_t width, uint32_t height, long x,
 }
 
 /* The header's example, which tests/header holds equal to it: */
-uint32_t set_line(const uint8_t *store, size_t store_len, const unsigned char *text,
-                  long x, long y)
+int set_line(const uint8_t *file, size_t file_len, const unsigned char *text, long x, long y)
 {
-    static uint8_t kept[MF_FONT_BYTES], picture[MF_PICTURE_MAX];
-    mf_chosen chosen = mf_choose(store, store_len, MF_ROMAN_8, MF_FIXED, 1000, 1200, 0,
-                                 MF_BOLD, 3, MF_PORTRAIT, MF_MODE_300);
+    static uint8_t store[MF_STORE_MAX], kept[MF_FONT_BYTES], picture[MF_PICTURE_MAX];
+    mf_stream_read read;
+    mf_chosen chosen;
     mf_font_fields font;
     uint32_t along = 0;
 
-    if (chosen.refusal)
-        return chosen.refusal;
-    mf_tell_font(store, store_len, kept, sizeof kept, chosen.font);
+    mf_make_fresh(store, sizeof store);
+    read = mf_read_stream(store, sizeof store, file, file_len);
+    chosen = mf_choose(store, sizeof store, MF_ROMAN_8, MF_FIXED, 1000, 1200, 0, MF_BOLD, 3,
+                       MF_PORTRAIT, MF_MODE_300);
+    if (read.refusal || read.refused || chosen.refusal)
+        return 0;
+    mf_tell_font(store, sizeof store, kept, sizeof kept, chosen.font);
     font = mf_font_fields_of(kept);
     for (; *text; text++) {
-        if (mf_tell_character(store, store_len, kept, sizeof kept, chosen.font, *text)
-                .refusal == MF_DONE) {
-            mf_character_fields letter = mf_character_fields_of(kept);
-            mf_draw_picture(store, store_len, picture, sizeof picture, chosen.font, *text);
-            put(picture, letter.width, letter.height,
-                x + (long)mf_dots(&font, along) + letter.left, y - letter.top);
-            along += font.spacing == MF_FIXED ? font.pitch : letter.delta_x;
-        } else
+        uint32_t refusal = mf_tell_character(store, sizeof store, kept, sizeof kept,
+                                             chosen.font, *text).refusal;
+        mf_character_fields letter = mf_character_fields_of(kept);
+        if (refusal) {
             along += font.pitch;
+            continue;
+        }
+        mf_draw_picture(store, sizeof store, picture, sizeof picture, chosen.font, *text);
+        put(picture, letter.width, letter.height,
+            x + (long)mf_dots(&font, along) + letter.left, y - letter.top);
+        along += font.spacing == MF_FIXED ? font.pitch : letter.delta_x;
     }
-    return MF_DONE;
+    return 1;
 }
 /* so far. */
 
@@ -462,9 +467,9 @@ uint32_t set_line(const uint8_t *store, size_t store_len, const unsigned char *t
 static void line(int spacing)
 {
     const uint8_t l[] = {0x80, 0x80, 0x80, 0xF0}, p[] = {0xE0, 0x90, 0xE0, 0x80, 0x80};
-    uint8_t block[MF_FONT_BYTES];
+    uint8_t block[MF_FONT_BYTES], stream[256];
     size_t length;
-    int y;
+    int y, set;
 
     mf_make_fresh(store, sizeof store);
     header(block);
@@ -484,8 +489,10 @@ static void line(int spacing)
     memset(page, '.', sizeof page);
     for (y = 0; y < PAGE_HEIGHT; y++)
         page[y][PAGE_WIDTH] = '\0';
-    printf("spacing %d: %s\n", spacing,
-           mf_refusal_name(set_line(store, sizeof store, (const unsigned char *)"LpL Lp", 0, 4)));
+    length = mf_write_font(store, sizeof store, stream, sizeof stream, 3).length;
+    set = set_line(stream, length, (const unsigned char *)"LpL Lp", 0, 4);
+    printf("spacing %d: %s; one byte less: %s\n", spacing, set ? "set" : "not set",
+           set_line(stream, length - 1, (const unsigned char *)"", 0, 4) ? "set" : "not set");
     for (y = 0; y < PAGE_HEIGHT; y++)
         puts(page[y]);
 }
@@ -538,9 +545,15 @@ static void streams(void)
                    (unsigned)read.done, (unsigned)read.refused,
                    memcmp(store, copy, sizeof store) ? "changed" : "as it was");
     }
-    read = mf_read_stream(store, sizeof store, stream, 75);
+    mf_read_stream(store, sizeof store, stream, 75);
     printf("characters of font 1: %u\n",
            (unsigned)mf_tell_font(store, sizeof store, stream, sizeof stream, 1).count);
+    /* nothing, at the store's own address */
+    read = mf_read_stream(store, sizeof store, store, 0);
+    printf("empty stream: %s, done %u; empty block: %s; empty output: %s\n",
+           mf_refusal_name(read.refusal), (unsigned)read.done,
+           mf_refusal_name(mf_download_font(store, sizeof store, store, 0, 1)),
+           mf_refusal_name(mf_tell_font(store, sizeof store, store, 0, 1).refusal));
 }
 
 /* A continuation without data, for a character just downloaded: the answer, and that nothing
@@ -551,12 +564,13 @@ static void probe(const char *name, uint32_t code)
     uint8_t kept[MF_CHARACTER_BYTES];
     mf_told told = mf_tell_character(store, sizeof store, kept, sizeof kept, 1, code);
     mf_character_fields letter = mf_character_fields_of(kept);
+    uint32_t refusal;
 
     memcpy(copy, store, sizeof store);
+    refusal = mf_download_character(store, sizeof store, empty, sizeof empty, 1, code);
     printf("%s: class %u, %u of %u bytes, %s, store %s\n", name, (unsigned)letter.class_,
            (unsigned)told.count, (unsigned)mf_picture_bytes(letter.width, letter.height),
-           mf_refusal_name(mf_download_character(store, sizeof store, empty, sizeof empty, 1, code)),
-           memcmp(store, copy, sizeof store) ? "changed" : "as it was");
+           mf_refusal_name(refusal), memcmp(store, copy, sizeof store) ? "changed" : "as it was");
 }
 
 static void incomplete(void)
@@ -594,11 +608,11 @@ static void incomplete(void)
 int main(void)
 {
     fonts();
-    character();
+    one_character();
     names();
     conversions();
     rounded_up();
-    along();
+    kept_fonts();
     changed();
     line(MF_FIXED);
     line(MF_PROPORTIONAL);
