@@ -1,50 +1,102 @@
 /* Marlinfold: PCL 5 bitmap soft fonts, kept in one lent byte buffer.
  *
- * You lend a buffer of MF_STORE_MIN to MF_STORE_MAX bytes, the store, and make
- * it fresh. Then you download fonts and their characters into it as PCL blocks,
- * or as a whole command stream, ask which font fits a request, and have
- * characters drawn as rows of dots. The library keeps nothing outside the
- * buffers you lend, never allocates, and holds no state between calls: a store
- * may be saved, copied and taken up again as plain bytes. A store with fonts that an
- * earlier version of the library made is not a store any more (MF_NOT_A_STORE), since
- * its font records are shorter: have that version write its fonts out, and read the
- * streams into a fresh store, in which each font takes 6 bytes more.
+ * You lend a buffer of MF_STORE_MIN to MF_STORE_MAX bytes, the store, and make it fresh.
+ * Then you download fonts and their characters into it as PCL blocks, or as a whole command
+ * stream, ask which font fits a request, and have characters drawn as rows of dots. The
+ * library keeps nothing outside the buffers you lend, never allocates, and holds no state
+ * between calls.
  *
- *     static uint8_t store[MF_STORE_MAX];
- *     mf_make_fresh(store, sizeof store);
- *     mf_stream_read read = mf_read_stream(store, sizeof store, file, file_len);
- *     mf_chosen chosen = mf_choose(store, sizeof store, 277, MF_FIXED, 1000,
- *                                  1200, 0, 0, 3, MF_PORTRAIT, MF_MODE_300);
- *     if (chosen.refusal == MF_DONE)
- *         mf_draw_picture(store, sizeof store, out, sizeof out, chosen.font, 'A');
+ * Units and geometry
+ *   A font has 300 or 600 dots to the inch. Its pitch, its height and the delta X of its
+ *   characters are kept in quarter-dots, quarters of its own dots: 1200 or 2400 to the inch.
+ *   Requests are in hundredths of a character per inch and of a point, 1/72 inch: mf_pitch_of,
+ *   mf_height_of, mf_pitch_quarter_dots and mf_height_quarter_dots convert.
+ *   The cursor x, y, with y down the paper, is a dot on the baseline. A picture's upper left dot is
+ *   x + left offset, y - top offset: one of 28 rows that ends on the baseline has top offset 27.
+ *   Then the cursor moves: by the pitch in a fixed font, by delta X in a proportional one. Where
+ *   a font lacks a code, as many lack 32, the space, the caller moves it by the pitch. It moves
+ *   right in a portrait font, up in a landscape one, left and down in the reverse ones; their
+ *   pictures and offsets are turned already. Weight 0 is medium, 3 (MF_BOLD) bold.
+ *   In MF_MODE_600 a font of 300 dots to the inch may be chosen: its dots are then twice as wide.
+ *
+ * A line of text from the cursor x, y on, its bytes codes of the font's symbol set. put, a function
+ * of yours, places a picture and leaves out what is beyond the page:
+ *
+ *     int set_line(const uint8_t *file, size_t file_len, const unsigned char *text, long x, long y)
+ *     {
+ *         static uint8_t store[MF_STORE_MAX], kept[MF_FONT_BYTES], picture[MF_PICTURE_MAX];
+ *         mf_stream_read read;
+ *         mf_chosen chosen;
+ *         mf_font_fields font;
+ *         uint32_t along = 0;
+ *
+ *         mf_make_fresh(store, sizeof store);
+ *         read = mf_read_stream(store, sizeof store, file, file_len);
+ *         chosen = mf_choose(store, sizeof store, MF_ROMAN_8, MF_FIXED, 1000, 1200, 0, MF_BOLD, 3,
+ *                            MF_PORTRAIT, MF_MODE_300);
+ *         if (read.refusal || read.refused || chosen.refusal)
+ *             return 0;
+ *         mf_tell_font(store, sizeof store, kept, sizeof kept, chosen.font);
+ *         font = mf_font_fields_of(kept);
+ *         for (; *text; text++) {
+ *             uint32_t refusal = mf_tell_character(store, sizeof store, kept, sizeof kept,
+ *                                                  chosen.font, *text).refusal;
+ *             mf_character_fields letter = mf_character_fields_of(kept);
+ *             if (refusal) {
+ *                 along += font.pitch;
+ *                 continue;
+ *             }
+ *             mf_draw_picture(store, sizeof store, picture, sizeof picture, chosen.font, *text);
+ *             put(picture, letter.width, letter.height,
+ *                 x + (long)mf_dots(&font, along) + letter.left, y - letter.top);
+ *             along += font.spacing == MF_FIXED ? font.pitch : letter.delta_x;
+ *         }
+ *         return 1;
+ *     }
  *
  * What you may pass
- *   Any numbers, and any bytes in any buffer: what does not fit is refused by a
- *   number, never by a crash, and every call ends.
- *   A pointer is followed by its length. It must be valid for that many bytes
- *   (for writing, where it is not const). For a length of 0 nothing is read or
- *   written, but the pointer must still not be NULL.
- *   The lists of mf_choose_sheet are arrays: their pointers are followed by the
- *   number of entries, and aligned as C aligns such arrays.
- *   Buffers lent to one call must not overlap.
- *   Calls on different stores may run in parallel, and so may calls that only
- *   look at one store (those that take it as const), each with an output of its
- *   own. A call that changes a store needs it alone.
+ *   Any numbers, and any bytes in any buffer: what does not fit is refused by a number, never by
+ *   a crash, and every call ends.
+ *   A pointer is followed by its length. It must be valid for that many bytes (for writing, where
+ *   it is not const). For a length of 0 nothing is read or written, but the pointer must still
+ *   not be NULL: the functions are compiled for pointers that are never null, and a later
+ *   compiler may rely on that. Pass any valid pointer, such as the store's.
+ *   The lists of mf_choose_sheet are arrays: their pointers are followed by the number of
+ *   entries, and aligned as C aligns such arrays, also for 0 entries.
+ *   Buffers lent to one call must not overlap; an empty one overlaps none.
+ *   Calls on different stores may run in parallel, and so may calls that only look at one store
+ *   (those that take it as const), each with an output of its own. A call that changes a store
+ *   needs it alone.
+ *   Each call gets the length that the store was made fresh with. A shorter one is a different
+ *   store: mostly none (MF_NOT_A_STORE), but where no more than free room or whole fonts are cut
+ *   off it may be one, which lacks that room or those fonts; changes to it can spoil the longer.
  *
  * What comes back
- *   A refusal number, MF_DONE (0) if there is none. After a refusal every other
- *   number of the answer is 0 (save MF_STREAM_BROKEN, see mf_read_stream), and
- *   store and output are unchanged, save after
- *     MF_NO_ROOM from mf_download_character: its font and all the characters of
- *       that font are removed;
+ *   A refusal number, MF_DONE (0) if there is none. After a refusal every other number of the
+ *   answer is 0 (save MF_STREAM_BROKEN, see mf_read_stream), and store and output are unchanged,
+ *   save after
+ *     MF_NO_ROOM from mf_download_character: its font and all the characters of that font are
+ *       removed;
  *     MF_STREAM_BROKEN: the commands before the broken place stay done.
- *   The checks run in the order given at each call, and the first that fails
- *   answers. An output longer than needed keeps its later bytes.
+ *   The checks run in the order given at each call, and the first that fails answers. An output
+ *   longer than needed keeps its later bytes.
+ *
+ * What a call costs
+ *   Each call on a store checks all of it first: 1 to 17 microseconds for 65,536 bytes, and most
+ *   calls take little more. mf_choose_sheet and mf_read_stream check it once, so they are faster
+ *   than calls for each request or block. Figures: bench/README.md of the sources.
+ *
+ * Saving a store
+ *   A store may be saved, copied and taken up again as plain bytes, by the same version on any
+ *   machine. The first number of MF_VERSION rises when the form of a call or of the store
+ *   changes: versions that have it in common take up each other's stores. A store with fonts that
+ *   a version before 2.0.0 made is not a store any more (MF_NOT_A_STORE), since its font records
+ *   have 72 or 78 bytes and not 82: have that version write its fonts out, and read the streams
+ *   into a fresh store, in which each font takes 10 or 4 bytes more.
  *
  * What drawing needs
- *   At most this many bytes of stack on x86-64, beside what memset and memmove
- *   of the C library take: mf_draw_row 608, mf_draw_picture 704,
- *   mf_turn_picture 656. */
+ *   At most this many bytes of stack on x86-64, beside what memset and memmove of the C library
+ *   take: mf_draw_row 608, mf_draw_picture 704, mf_turn_picture 656. */
 #ifndef MARLINFOLD_H
 #define MARLINFOLD_H
 
@@ -55,9 +107,12 @@
 extern "C" {
 #endif
 
+#define MF_VERSION "2.0.0"
+#define MF_VERSION_NUMBER 20000 /* 10000 x first + 100 x second + third number */
+
 enum mf_refusal {
     MF_DONE = 0,           /* done */
-    MF_NOT_A_STORE = 1,    /* not a store; mf_make_fresh: length not 12..65536 */
+    MF_NOT_A_STORE = 1,    /* not a store as these calls leave it; mf_make_fresh: its length */
     MF_OUT_OF_RANGE = 2,   /* a number out of range */
     MF_BLOCK_LENGTH = 3,   /* the block's length is wrong */
     MF_NOT_TAKEN = 4,      /* format, descriptor size or class not taken */
@@ -76,15 +131,34 @@ enum mf_refusal {
 /* Font numbers and codes above these are out of range. */
 #define MF_FONT_MAX 32767      /* font numbers are 0..32767 */
 #define MF_CODE_MAX 255        /* character codes are 0..255 */
-#define MF_ROMAN_8 277         /* symbol set 8U: number x 32 + letter - 64 */
 #define MF_SHEET_MAX 64        /* the most requests that one sheet has */
-/* As in a header's bytes 13 and 12. */
+/* A symbol set by the number and the capital letter of its name: MF_SYMBOL_SET(8, 'U'). */
+#define MF_SYMBOL_SET(number, letter) ((uint32_t)(number) * 32 + (uint32_t)(letter) - 64)
+#define MF_ROMAN_8 277         /* 8U */
+/* As in a header's bytes 13, 12 and 24. */
 enum mf_spacing { MF_FIXED = 0, MF_PROPORTIONAL = 1 };
 enum mf_orientation {
     MF_PORTRAIT = 0,
     MF_LANDSCAPE = 1,
     MF_REVERSE_PORTRAIT = 2,
     MF_REVERSE_LANDSCAPE = 3
+};
+enum mf_weight {
+    MF_ULTRA_THIN = -7,
+    MF_EXTRA_THIN = -6,
+    MF_THIN = -5,
+    MF_EXTRA_LIGHT = -4,
+    MF_LIGHT = -3,
+    MF_DEMI_LIGHT = -2,
+    MF_SEMI_LIGHT = -1,
+    MF_MEDIUM = 0,
+    MF_SEMI_BOLD = 1,
+    MF_DEMI_BOLD = 2,
+    MF_BOLD = 3,
+    MF_EXTRA_BOLD = 4,
+    MF_BLACK = 5,
+    MF_EXTRA_BLACK = 6,
+    MF_ULTRA_BLACK = 7
 };
 /* The resolution that a page is printed in, in dots to the inch. */
 enum mf_mode { MF_MODE_300 = 300, MF_MODE_600 = 600 };
@@ -99,17 +173,17 @@ enum mf_mode { MF_MODE_300 = 300, MF_MODE_600 = 600 };
 #define MF_ROW_MAX 2048        /* the longest row: any output so long takes any row */
 #define MF_SIDE_MAX 16384      /* the greatest width and height, in dots */
 
-/* Room that a store needs: 12 bytes, then for each font and each character
- * these, with the character's kept data beside them. A store of 94 bytes takes
- * one font without characters, one of 93 none. */
+/* Room that a store needs: 12 bytes, then for each font and each character these, with the
+ * character's kept data beside them. A store of 94 bytes takes one font without characters, one
+ * of 93 none. mf_room_left says what is left. */
 #define MF_FONT_ROOM 82
 #define MF_CHARACTER_ROOM 26
 
 /* An output so long takes any font written out of a store of this length. */
 #define MF_WRITTEN_MAX(store_len) ((size_t)(store_len) + 2048)
 
-/* The bytes of one row, and of a whole picture, of a character width dots wide
- * and height rows high: fields 10 and 12 of its kept bytes. */
+/* The bytes of one row, and of a whole picture, of a character width dots wide and height rows
+ * high. */
 static inline size_t mf_row_bytes(uint32_t width)
 {
     return (size_t)width / 8 + (width % 8 != 0);
@@ -143,6 +217,87 @@ static inline const char *mf_refusal_name(uint32_t refusal)
     }
 }
 
+/* ---- what calls answer and take as records ---- */
+
+typedef struct { uint32_t refusal; uint32_t font; } mf_chosen;
+/* count: the characters of a font, or the data bytes of a character */
+typedef struct { uint32_t refusal; uint32_t count; } mf_told;
+typedef struct { uint32_t refusal; uint32_t length; } mf_written;
+/* rule, code: 0 and 0, or the first rule broken and the lowest code that breaks it */
+typedef struct { uint32_t refusal; uint32_t rule; uint32_t code; } mf_profile;
+typedef struct {
+    uint32_t refusal;
+    uint64_t done;    /* commands */
+    uint64_t refused; /* commands */
+    uint64_t place;   /* of the broken command, counted from 0; else 0 */
+} mf_stream_read;
+
+/* One request of a sheet: the numbers of mf_choose, in its order. */
+typedef struct {
+    uint32_t symbol_set;  /* 0..2047 */
+    uint32_t spacing;     /* MF_FIXED or MF_PROPORTIONAL */
+    uint32_t pitch;       /* hundredths of a character per inch, 0..57600 */
+    uint32_t height;      /* hundredths of a point, 0..99975 */
+    uint32_t style;       /* 0..1023 */
+    int32_t weight;       /* MF_ULTRA_THIN .. MF_ULTRA_BLACK, -7..7 */
+    uint32_t typeface;    /* 0..65535 */
+    uint32_t orientation; /* of the page: MF_PORTRAIT .. MF_REVERSE_LANDSCAPE */
+    uint32_t mode;        /* MF_MODE_300 or MF_MODE_600 */
+} mf_request;
+
+/* What one request of a sheet gets. */
+typedef struct {
+    uint32_t font;    /* 0..MF_FONT_MAX; 0 if the request is refused */
+    uint32_t refusal; /* MF_DONE, MF_OUT_OF_RANGE or MF_NONE_TO_CHOOSE */
+} mf_answer;
+
+/* The library reads and writes these as numbers of 32 and 64 bits at places of its own. A C11
+ * or C++11 compiler checks here that it lays them out so. */
+#if defined(__cplusplus) && __cplusplus >= 201103L
+#define MF_CHECK_LAYOUT(holds) static_assert(holds, "not laid out as the library has it")
+#elif !defined(__cplusplus) && defined(__STDC_VERSION__) && __STDC_VERSION__ >= 201112L
+#define MF_CHECK_LAYOUT(holds) _Static_assert(holds, "not laid out as the library has it")
+#endif
+#ifdef MF_CHECK_LAYOUT
+#define MF_CHECK_FIELD(type, field, at, bytes) \
+    MF_CHECK_LAYOUT(offsetof(type, field) == at && sizeof(((type *)0)->field) == bytes)
+MF_CHECK_FIELD(mf_chosen, refusal, 0, 4);
+MF_CHECK_FIELD(mf_chosen, font, 4, 4);
+MF_CHECK_LAYOUT(sizeof(mf_chosen) == 8);
+MF_CHECK_FIELD(mf_told, refusal, 0, 4);
+MF_CHECK_FIELD(mf_told, count, 4, 4);
+MF_CHECK_LAYOUT(sizeof(mf_told) == 8);
+MF_CHECK_FIELD(mf_written, refusal, 0, 4);
+MF_CHECK_FIELD(mf_written, length, 4, 4);
+MF_CHECK_LAYOUT(sizeof(mf_written) == 8);
+MF_CHECK_FIELD(mf_profile, refusal, 0, 4);
+MF_CHECK_FIELD(mf_profile, rule, 4, 4);
+MF_CHECK_FIELD(mf_profile, code, 8, 4);
+MF_CHECK_LAYOUT(sizeof(mf_profile) == 12);
+MF_CHECK_FIELD(mf_stream_read, refusal, 0, 4);
+MF_CHECK_FIELD(mf_stream_read, done, 8, 8);
+MF_CHECK_FIELD(mf_stream_read, refused, 16, 8);
+MF_CHECK_FIELD(mf_stream_read, place, 24, 8);
+MF_CHECK_LAYOUT(sizeof(mf_stream_read) == 32);
+MF_CHECK_FIELD(mf_request, symbol_set, 0, 4);
+MF_CHECK_FIELD(mf_request, spacing, 4, 4);
+MF_CHECK_FIELD(mf_request, pitch, 8, 4);
+MF_CHECK_FIELD(mf_request, height, 12, 4);
+MF_CHECK_FIELD(mf_request, style, 16, 4);
+MF_CHECK_FIELD(mf_request, weight, 20, 4);
+MF_CHECK_FIELD(mf_request, typeface, 24, 4);
+MF_CHECK_FIELD(mf_request, orientation, 28, 4);
+MF_CHECK_FIELD(mf_request, mode, 32, 4);
+MF_CHECK_LAYOUT(sizeof(mf_request) == 36);
+MF_CHECK_FIELD(mf_answer, font, 0, 4);
+MF_CHECK_FIELD(mf_answer, refusal, 4, 4);
+MF_CHECK_LAYOUT(sizeof(mf_answer) == 8);
+#undef MF_CHECK_FIELD
+#undef MF_CHECK_LAYOUT
+#endif
+
+/* ---- fields of told bytes ---- */
+
 /* A PCL field of two bytes in kept bytes: the high byte comes first. */
 static inline uint32_t mf_field(const uint8_t *kept, size_t at)
 {
@@ -156,270 +311,481 @@ static inline int32_t mf_signed_field(const uint8_t *kept, size_t at)
     return field < 32768 ? field : field - 65536;
 }
 
-typedef struct { uint32_t refusal; uint32_t font; } mf_chosen;
-/* count: the characters of a font, or the data bytes of a character */
-typedef struct { uint32_t refusal; uint32_t count; } mf_told;
-typedef struct { uint32_t refusal; uint32_t length; } mf_written;
-/* rule, code: 0 and 0, or the first rule broken and the lowest code that breaks it */
-typedef struct { uint32_t refusal; uint32_t rule; uint32_t code; } mf_profile;
-typedef struct {
-    uint32_t refusal;
-    uint64_t done;
-    uint64_t refused;
-    uint64_t place;
-} mf_stream_read;
+static inline int32_t mf_signed_byte(const uint8_t *kept, size_t at)
+{
+    return kept[at] < 128 ? kept[at] : kept[at] - 256;
+}
 
-/* Makes the buffer a fresh store of its whole length, whatever it held: no
- * font, no open character. Every later call gets the same whole buffer.
- * Refuses: 1 for a length that is not 12..65536. */
+/* What mf_tell_font tells. Quarter-dots are of the font's own resolution. */
+typedef struct {
+    uint32_t format;          /* 0 or 20 */
+    uint32_t type;            /* 0: codes 32..127 print, 1: also 160..255, 2: all */
+    uint32_t style;           /* posture (0 upright, 1 italic) + 4 x width + 32 x structure */
+    uint32_t baseline;        /* dots from the cell's top down to it */
+    uint32_t cell_width;      /* dots, along the line */
+    uint32_t cell_height;     /* dots, across it */
+    uint32_t orientation;     /* MF_PORTRAIT .. MF_REVERSE_LANDSCAPE */
+    uint32_t spacing;         /* MF_FIXED or MF_PROPORTIONAL */
+    uint32_t symbol_set;      /* MF_SYMBOL_SET */
+    uint32_t pitch;           /* quarter-dots, 0..16800 */
+    uint32_t height;          /* quarter-dots, 0..10922 */
+    uint32_t pitch_extended;  /* 256ths of a quarter-dot beside the pitch */
+    uint32_t height_extended; /* the same of the height */
+    int32_t weight;           /* MF_ULTRA_THIN .. MF_ULTRA_BLACK */
+    uint32_t typeface;        /* as 3 Courier, 4 Helv, 5 TmsRmn, 6 Letter Gothic */
+    uint32_t resolution;      /* dots to the inch, 300 or 600 */
+    /* The library does not look at these: they are what the font's maker wrote. */
+    uint32_t x_height;            /* quarter-dots */
+    int32_t width_type;           /* 0 normal, below it condensed, above it expanded */
+    uint32_t serif_style;
+    uint32_t quality;
+    int32_t placement;
+    int32_t underline_position;   /* dots from the baseline up to the underline's top row */
+    uint32_t underline_thickness; /* dots */
+    uint32_t text_height;         /* quarter-dots, the best move from line to line */
+    uint32_t text_width;          /* quarter-dots, the average of small letters */
+    uint32_t first_code, last_code;
+    uint32_t cap_height;
+    uint32_t maker_number;        /* the header's own "font number" */
+    char name[17];                /* ended by a 0; may hold any bytes before it */
+} mf_font_fields;
+
+/* What mf_tell_character tells. */
+typedef struct {
+    uint32_t class_;      /* 1 plain rows, 2 runs */
+    uint32_t orientation; /* the font's */
+    int32_t left;         /* dots from the cursor to the right, -16384..16384 */
+    int32_t top;          /* dots from the cursor up, the same */
+    uint32_t width;       /* dots, 1..MF_SIDE_MAX */
+    uint32_t height;      /* rows, 1..MF_SIDE_MAX */
+    uint32_t delta_x;     /* quarter-dots, 0..32767 */
+} mf_character_fields;
+
+/* The fields of MF_FONT_BYTES told bytes. */
+static inline mf_font_fields mf_font_fields_of(const uint8_t *kept)
+{
+    mf_font_fields font;
+    size_t at;
+    font.format = kept[2];
+    font.type = kept[3];
+    font.style = (uint32_t)kept[4] << 8 | kept[23];
+    font.baseline = mf_field(kept, 6);
+    font.cell_width = mf_field(kept, 8);
+    font.cell_height = mf_field(kept, 10);
+    font.orientation = kept[12];
+    font.spacing = kept[13];
+    font.symbol_set = mf_field(kept, 14);
+    font.pitch = mf_field(kept, 16);
+    font.height = mf_field(kept, 18);
+    font.pitch_extended = kept[40];
+    font.height_extended = kept[41];
+    font.weight = mf_signed_byte(kept, 24);
+    font.typeface = (uint32_t)kept[26] << 8 | kept[25];
+    font.resolution = mf_field(kept, 64);
+    font.x_height = mf_field(kept, 20);
+    font.width_type = mf_signed_byte(kept, 22);
+    font.serif_style = kept[27];
+    font.quality = kept[28];
+    font.placement = mf_signed_byte(kept, 29);
+    font.underline_position = mf_signed_byte(kept, 30);
+    font.underline_thickness = kept[31];
+    font.text_height = mf_field(kept, 32);
+    font.text_width = mf_field(kept, 34);
+    font.first_code = mf_field(kept, 36);
+    font.last_code = mf_field(kept, 38);
+    font.cap_height = mf_field(kept, 42);
+    font.maker_number = mf_field(kept, 44) << 16 | mf_field(kept, 46);
+    for (at = 0; at < 16; at++)
+        font.name[at] = (char)kept[48 + at];
+    font.name[16] = '\0';
+    return font;
+}
+
+/* The fields of MF_CHARACTER_BYTES told bytes. */
+static inline mf_character_fields mf_character_fields_of(const uint8_t *kept)
+{
+    mf_character_fields character;
+    character.class_ = kept[3];
+    character.orientation = kept[4];
+    character.left = mf_signed_field(kept, 6);
+    character.top = mf_signed_field(kept, 8);
+    character.width = mf_field(kept, 10);
+    character.height = mf_field(kept, 12);
+    character.delta_x = mf_field(kept, 14);
+    return character;
+}
+
+/* A font's pitch in hundredths of a character per inch, as requests have it: with its extended
+ * byte, by its resolution, rounded to the nearest; 0 if it is 0. Rounded up, it is just above
+ * what the font has, so that a request for it prefers a font with more characters to the inch:
+ * ask for 1 less to have this font among those not below. */
+static inline uint32_t mf_pitch_of(const mf_font_fields *font)
+{
+    uint64_t pitch = 256 * (uint64_t)font->pitch + font->pitch_extended;
+    uint64_t inch = 256 * 400 * (uint64_t)font->resolution;
+    return pitch == 0 ? 0 : (uint32_t)((inch + pitch / 2) / pitch);
+}
+
+/* Its height in hundredths of a point, in the same way. What rounding loses, half a hundredth,
+ * counts as nothing in choosing. */
+static inline uint32_t mf_height_of(const mf_font_fields *font)
+{
+    uint64_t height = 256 * (uint64_t)font->height + font->height_extended;
+    return (uint32_t)((height * (font->resolution == 600 ? 3u : 6u) + 128) / 256);
+}
+
+/* The other way, in whole quarter-dots of a resolution (300 or 600), rounded to the nearest: the
+ * width of a character if so many hundredths of one fill an inch, 0 for 0; and so many hundredths
+ * of a point, as for the move from line to line. */
+static inline uint32_t mf_pitch_quarter_dots(uint32_t pitch, uint32_t resolution)
+{
+    uint64_t inch = 400 * (uint64_t)resolution;
+    return pitch == 0 ? 0 : (uint32_t)((inch + pitch / 2) / pitch);
+}
+
+static inline uint32_t mf_height_quarter_dots(uint32_t height, uint32_t resolution)
+{
+    return (uint32_t)(((uint64_t)height * resolution + 900) / 1800);
+}
+
+/* Quarter-dots of a font as its dots, rounded to the nearest, halves up. */
+static inline uint32_t mf_dots(const mf_font_fields *font, uint32_t quarter_dots)
+{
+    (void)font; /* four to a dot in any font */
+    return quarter_dots / 4 + (quarter_dots % 4 >= 2);
+}
+
+/* ---- the calls ---- */
+
+/* Makes the buffer a fresh store of its whole length, whatever it held: no font, no open
+ * character. Every later call gets the same whole buffer.
+ * Refuses:
+ *   MF_NOT_A_STORE   store_len is not MF_STORE_MIN..MF_STORE_MAX */
 uint32_t mf_make_fresh(uint8_t *store, size_t store_len);
 
-/* Downloads a font block (a PCL 5 bitmap font header of format 0 or 20) under a font
- * number. The font is kept without characters; a font that had this number is
- * removed first with all its characters.
- * A format 0 header has 64 bytes and is of 300 dots to the inch. A format 20 header has
- * 68, the last four of them its X and Y resolution (64, 66): both 300 or both 600.
- * Kept are these 64 or 68 bytes, with descriptor size 64 or 68, byte 5 zero, and
- * pitch (16) and height (18) cut to 16800 and 10922. Their extended bytes (40 for
- * the pitch, 41 for the height) are kept as sent, save that the one of a field that
- * was cut is made 0. A font of format 0 is kept with resolutions 300 and 300 behind its
- * 64 bytes.
- * Refuses: 1, 2, 3 for a length not 64..32767, 4 for a format (byte 2) other than
- * 0 and 20, 3 for a length below 68 in format 20, 4 for a descriptor size (0) not
- * 64..block_len, in format 20 not 68..block_len; 5 for a type (3) not 0..2, a style
- * word (byte 4 high, 23 low) above 1023, a cell width (8) or height (10) of 0, a
- * baseline (6) not below the cell height, an orientation (12) not 0..3, a spacing
- * (13) not 0 or 1, a symbol set (14) above 2047, a stroke weight (24, signed) not -7..7,
- * resolutions other than 300 and 300 or 600 and 600;
- * 10, which here leaves the store as it was. */
+/* Downloads a font block (a PCL 5 bitmap font header of format 0 or 20) under a font number. The
+ * font is kept without characters; a font that had this number is removed first with all its
+ * characters.
+ * A format 0 header has 64 bytes and is of 300 dots to the inch. A format 20 header has 68, the
+ * last four of them its X and Y resolution (64, 66): both 300 or both 600.
+ * Kept are these 64 or 68 bytes, with descriptor size 64 or 68, byte 5 zero, and pitch (16) and
+ * height (18) cut to 16800 and 10922. Their extended bytes (40 for the pitch, 41 for the height)
+ * are kept as sent, save that the one of a field that was cut is made 0. A font of format 0 is
+ * kept with resolutions 300 and 300 behind its 64 bytes.
+ * Refuses, in this order (the numbers in brackets are the fields' places in the block):
+ *   MF_NOT_A_STORE   not a store
+ *   MF_OUT_OF_RANGE  font is above MF_FONT_MAX
+ *   MF_BLOCK_LENGTH  block_len is not 64..MF_BLOCK_MAX, in format 20 not 68..MF_BLOCK_MAX
+ *   MF_NOT_TAKEN     the format (2) is not 0 or 20, or the descriptor size (0) not
+ *                    64..block_len, in format 20 not 68..block_len
+ *   MF_FIELD_VALUE   the type (3) is not 0..2, the style word (4 high, 23 low) above 1023, the
+ *                    cell width (8) or height (10) 0, the baseline (6) not below the cell
+ *                    height, the orientation (12) not 0..3, the spacing (13) not 0 or 1, the
+ *                    symbol set (14) above 2047, the stroke weight (24, signed) not -7..7, or
+ *                    the resolutions not 300 and 300 or 600 and 600
+ *   MF_NO_ROOM       no room for MF_FONT_ROOM bytes, the removed font's counted as free; the
+ *                    store is as it was, with that font */
 uint32_t mf_download_font(uint8_t *store, size_t store_len,
                           const uint8_t *block, size_t block_len,
                           uint32_t font);
 
 /* Downloads a character block under a kept font's number and a code.
- * A first block (byte 1 is 0) replaces a character of that code. Kept are its
- * 16 bytes with byte 5 zero and a negative delta X (14) made 0, then its data up
- * to a complete picture. If the picture is not complete yet, the character is
- * the open one from now on; else none is open.
- * A continuation (byte 1 is not 0) adds its data, from byte 2 on, to the open
- * character, which must be the one named. Completing it closes it; so does
- * removing it.
- * Refuses: 1, 2, 3 for a length not 2..32767, 6, 4 for byte 0 not 4; a first
- * block then 3 below 16 bytes, 4 for a descriptor size (2) other than 14 or a
- * class (3) other than 1 or 2, 5 for an orientation (4) not the font's, a left (6)
- * or top (8) offset not -16384..16384, or a width (10) or height (12) not
- * 1..16384, 9 for a picture above 32768 bytes; a continuation then 7; both then 8,
- * 9 for kept data above 32768 bytes, and 10, which removes the font with all its
- * characters. */
+ * A first block (byte 1 is 0) replaces a character of that code. Kept are its 16 bytes with byte
+ * 5 zero and a negative delta X (14) made 0, then its data up to a complete picture. If the
+ * picture is not complete yet, the character is the open one from now on; else none is open.
+ * A continuation (byte 1 is not 0) adds its data, from byte 2 on, to the open character, which
+ * must be the one named. Completing it closes it; so does removing it.
+ * Refuses, in this order:
+ *   MF_NOT_A_STORE   not a store
+ *   MF_OUT_OF_RANGE  font is above MF_FONT_MAX, or code above MF_CODE_MAX
+ *   MF_BLOCK_LENGTH  block_len is not 2..MF_BLOCK_MAX
+ *   MF_NO_FONT       no font of this number
+ *   MF_NOT_TAKEN     byte 0 is not 4
+ * a first block then
+ *   MF_BLOCK_LENGTH  block_len is below 16
+ *   MF_NOT_TAKEN     the descriptor size (2) is not 14, or the class (3) not 1 or 2
+ *   MF_FIELD_VALUE   the orientation (4) is not the font's, the left (6) or top (8) offset not
+ *                    -16384..16384, or the width (10) or height (12) not 1..MF_SIDE_MAX
+ *   MF_TOO_LARGE     mf_picture_bytes(width, height) is above MF_PICTURE_MAX
+ * a continuation then
+ *   MF_NO_CHARACTER  the character named is not the open one
+ * and both then
+ *   MF_RUN_PAST_ROW  in data of class 2, a run passes the row's end before all rows are drawn
+ *   MF_TOO_LARGE     the kept data would be more than 32768 bytes
+ *   MF_NO_ROOM       no room for MF_CHARACTER_ROOM bytes and the data, what is replaced counted
+ *                    as free: the font is removed with all its characters */
 uint32_t mf_download_character(uint8_t *store, size_t store_len,
                                const uint8_t *block, size_t block_len,
                                uint32_t font, uint32_t code);
 
-/* Removes a font with all its characters. Refuses: 1, 2, 6. */
+/* Removes a font with all its characters.
+ * Refuses, in this order:
+ *   MF_NOT_A_STORE   not a store
+ *   MF_OUT_OF_RANGE  font is above MF_FONT_MAX
+ *   MF_NO_FONT       no font of this number */
 uint32_t mf_remove_font(uint8_t *store, size_t store_len, uint32_t font);
 
-/* Removes one character. Refuses: 1, 2, 6, 7. */
+/* Removes one character.
+ * Refuses, in this order:
+ *   MF_NOT_A_STORE   not a store
+ *   MF_OUT_OF_RANGE  font is above MF_FONT_MAX, or code above MF_CODE_MAX
+ *   MF_NO_FONT       no font of this number
+ *   MF_NO_CHARACTER  the font has no character of this code */
 uint32_t mf_remove_character(uint8_t *store, size_t store_len,
                              uint32_t font, uint32_t code);
 
-/* Answers the number of the font that fits best: the one left by these steps,
- * each among the fonts that the one before leaves.
+/* Answers the number of the font that fits best: the one left by these steps, each among the
+ * fonts that the one before leaves.
  *   1. the symbol set asked for, else Roman-8
  *   2. the spacing asked for, else the other
- *   3. of fixed fonts, those with the fewest characters to the inch that are not
- *      below the number asked for; if all are below it, those with the most
+ *   3. of fixed fonts, those with the fewest characters to the inch that are not below the
+ *      number asked for; if all are below it, those with the most
  *   4. the nearest height; 25 hundredths of a point off or less count as none
  *   5. the style, if any has it
- *   6. the weight; else, for 0 or more, the next thicker, failing that the nearest
- *      thinner; for less than 0, the next thinner, failing that the nearest thicker
+ *   6. the weight; else, for 0 or more, the next thicker, failing that the nearest thinner; for
+ *      less than 0, the next thinner, failing that the nearest thicker
  *   7. the typeface, if any has it
  *   8. in MF_MODE_600 the fonts of 600 dots to the inch, if any is left
  *   9. the orientation, if any has it
  *  10. the lowest number
- * In MF_MODE_300 the fonts of 600 dots to the inch take no part: for every step it is
- * as if they were not there.
- * A font's pitch field is the width of a character and its height field a height,
- * both in quarter-dots of its own, of which 1200 make an inch in a font of 300 dots to
- * the inch and 2400 in one of 600. Compared are 256 x field 16 + byte 40 of its kept
- * bytes and 256 x field 18 + byte 41, twice these for a font of 300 dots: the greater
- * the first, the fewer characters to the inch. Field 70 with byte 150 is 17 of them at
- * 300 dots to the inch, and so is 141 with byte 44 at 600.
+ * In MF_MODE_300 the fonts of 600 dots to the inch take no part: for every step it is as if they
+ * were not there.
+ * A font's pitch is the width of a character. Compared are, of its fields, 256 x pitch +
+ * pitch_extended and 256 x height + height_extended, twice these for a font of 300 dots to the
+ * inch: the greater the first, the fewer characters to the inch. Pitch 70 with 150 is 17 of them
+ * at 300 dots to the inch, and so is 141 with 44 at 600.
  *   symbol_set   0..2047
  *   spacing      MF_FIXED or MF_PROPORTIONAL
  *   pitch        hundredths of a character per inch, 0..57600
  *   height       hundredths of a point, 0..99975
  *   style        0..1023
- *   weight       -7..7
+ *   weight       MF_ULTRA_THIN .. MF_ULTRA_BLACK, -7..7
  *   typeface     0..65535
  *   orientation  of the page: MF_PORTRAIT .. MF_REVERSE_LANDSCAPE, 0..3
  *   mode         of the printer: MF_MODE_300 or MF_MODE_600, 300 or 600
- * Refuses: 1, 2, 11 if no font that takes part has the set asked for or Roman-8. */
+ * Refuses, in this order:
+ *   MF_NOT_A_STORE     not a store
+ *   MF_OUT_OF_RANGE    a number of the request is not in its range
+ *   MF_NONE_TO_CHOOSE  no font that takes part has the set asked for or Roman-8 */
 mf_chosen mf_choose(const uint8_t *store, size_t store_len,
                     uint32_t symbol_set, uint32_t spacing, uint32_t pitch,
                     uint32_t height, uint32_t style, int32_t weight,
                     uint32_t typeface, uint32_t orientation, uint32_t mode);
 
-/* One request of a sheet: the numbers of mf_choose, in its order. */
-typedef struct {
-    uint32_t symbol_set;  /* 0..2047 */
-    uint32_t spacing;     /* MF_FIXED or MF_PROPORTIONAL */
-    uint32_t pitch;       /* hundredths of a character per inch, 0..57600 */
-    uint32_t height;      /* hundredths of a point, 0..99975 */
-    uint32_t style;       /* 0..1023 */
-    int32_t weight;       /* -7..7 */
-    uint32_t typeface;    /* 0..65535 */
-    uint32_t orientation; /* of the page: MF_PORTRAIT .. MF_REVERSE_LANDSCAPE */
-    uint32_t mode;        /* MF_MODE_300 or MF_MODE_600 */
-} mf_request;
-
-/* What one request of a sheet gets. */
-typedef struct {
-    uint32_t font;    /* 0..MF_FONT_MAX; 0 if the request is refused */
-    uint32_t refusal; /* MF_DONE, MF_OUT_OF_RANGE or MF_NONE_TO_CHOOSE */
-} mf_answer;
-
-/* The library reads and writes both as numbers of 32 bits without gaps. A C11 or
- * C++11 compiler checks here that it lays them out so. */
-#if defined(__cplusplus) && __cplusplus >= 201103L
-#define MF_CHECK_LAYOUT(holds) static_assert(holds, "not laid out as the library has it")
-#elif !defined(__cplusplus) && defined(__STDC_VERSION__) && __STDC_VERSION__ >= 201112L
-#define MF_CHECK_LAYOUT(holds) _Static_assert(holds, "not laid out as the library has it")
-#endif
-#ifdef MF_CHECK_LAYOUT
-MF_CHECK_LAYOUT(offsetof(mf_request, symbol_set) == 0);
-MF_CHECK_LAYOUT(offsetof(mf_request, spacing) == 4);
-MF_CHECK_LAYOUT(offsetof(mf_request, pitch) == 8);
-MF_CHECK_LAYOUT(offsetof(mf_request, height) == 12);
-MF_CHECK_LAYOUT(offsetof(mf_request, style) == 16);
-MF_CHECK_LAYOUT(offsetof(mf_request, weight) == 20);
-MF_CHECK_LAYOUT(offsetof(mf_request, typeface) == 24);
-MF_CHECK_LAYOUT(offsetof(mf_request, orientation) == 28);
-MF_CHECK_LAYOUT(offsetof(mf_request, mode) == 32);
-MF_CHECK_LAYOUT(sizeof(mf_request) == 36);
-MF_CHECK_LAYOUT(offsetof(mf_answer, font) == 0);
-MF_CHECK_LAYOUT(offsetof(mf_answer, refusal) == 4);
-MF_CHECK_LAYOUT(sizeof(mf_answer) == 8);
-#undef MF_CHECK_LAYOUT
-#endif
-
-/* Chooses for a whole sheet: answers[i] becomes what mf_choose answers for
- * requests[i] on this store. The store is checked once for all of them, so that a
- * sheet is much faster than a call for each request.
+/* Chooses for a whole sheet: answers[i] becomes what mf_choose answers for requests[i] on this
+ * store. The store is checked once for all of them, so that a sheet is much faster than a call
+ * for each request.
  * Both counts are of entries, not of bytes. A request with a number out of range
- * (MF_OUT_OF_RANGE), or that no font is there for (MF_NONE_TO_CHOOSE), has this in
- * its own answer alone: the call is done, and the other requests get their fonts.
- * Answers beyond the requests keep their bytes. A sheet of 0 requests is done and
- * writes nothing.
+ * (MF_OUT_OF_RANGE), or that no font is there for (MF_NONE_TO_CHOOSE), has this in its own answer
+ * alone: the call is done, and the other requests get their fonts. Answers beyond the requests
+ * keep their bytes. A sheet of 0 requests is done and writes nothing.
  *
  *     mf_request requests[2] = {
- *         {MF_ROMAN_8, MF_FIXED, 1000, 1200, 0, 0, 3, MF_PORTRAIT, MF_MODE_300},
- *         {MF_ROMAN_8, MF_PROPORTIONAL, 0, 800, 0, 3, 4, MF_PORTRAIT, MF_MODE_600}};
+ *         {MF_ROMAN_8, MF_FIXED, 1000, 1200, 0, MF_MEDIUM, 3, MF_PORTRAIT, MF_MODE_300},
+ *         {MF_ROMAN_8, MF_PROPORTIONAL, 0, 800, 0, MF_BOLD, 4, MF_PORTRAIT, MF_MODE_600}};
  *     mf_answer answers[2];
  *     if (mf_choose_sheet(store, sizeof store, requests, 2, answers, 2) == MF_DONE
  *         && answers[0].refusal == MF_DONE)
  *         use(answers[0].font);
  *
- * Refuses the sheet as a whole, with every answer left as it was: 1 (MF_NOT_A_STORE);
- * 2 (MF_OUT_OF_RANGE) if request_count is above MF_SHEET_MAX; 12 (MF_OUTPUT_SHORT) if
- * answer_count is below request_count. */
+ * Refuses the sheet as a whole, with every answer left as it was, in this order:
+ *   MF_NOT_A_STORE   not a store
+ *   MF_OUT_OF_RANGE  request_count is above MF_SHEET_MAX
+ *   MF_OUTPUT_SHORT  answer_count is below request_count */
 uint32_t mf_choose_sheet(const uint8_t *store, size_t store_len,
                          const mf_request *requests, size_t request_count,
                          mf_answer *answers, size_t answer_count);
 
-/* Copies a font's 68 kept bytes to out, 64 of the header and both resolutions (64, 66),
- * and answers how many characters it has, a number that the store holds beside the font.
- * Refuses: 1, 2, 6, 12 if out_len is below MF_FONT_BYTES. */
+/* Copies a font's 68 kept bytes to out, 64 of the header and both resolutions (64, 66), and
+ * answers how many characters it has, a number that the store holds beside the font.
+ * mf_font_fields_of takes the bytes apart.
+ * Refuses, in this order:
+ *   MF_NOT_A_STORE   not a store
+ *   MF_OUT_OF_RANGE  font is above MF_FONT_MAX
+ *   MF_NO_FONT       no font of this number
+ *   MF_OUTPUT_SHORT  out_len is below MF_FONT_BYTES */
 mf_told mf_tell_font(const uint8_t *store, size_t store_len,
                      uint8_t *out, size_t out_len, uint32_t font);
 
-/* Copies a character's 16 kept bytes to out and answers how many data bytes it
- * has. Refuses: 1, 2, 6, 7, 12 if out_len is below MF_CHARACTER_BYTES. */
+/* Copies a character's 16 kept bytes to out and answers how many data bytes it has.
+ * mf_character_fields_of takes the bytes apart.
+ * Rows that no data has come for are drawn white. A character of class 1 is incomplete if it has
+ * fewer data bytes than mf_picture_bytes(width, height). Of class 2 the number does not tell:
+ *   right behind a block of its own that was taken, send a continuation without data, the two
+ *     bytes 4 and 1. It changes nothing, and answers MF_DONE if the character is incomplete,
+ *     MF_NO_CHARACTER if not. Later MF_NO_CHARACTER says no more than that the character is not
+ *     the open one;
+ *   mf_check_profile of a fixed font of type 0 answers MF_PROFILE_CODES with the lowest of the
+ *     codes 32 to 127 that is missing or incomplete;
+ *   else follow its runs in what mf_write_font writes.
+ * Refuses, in this order:
+ *   MF_NOT_A_STORE   not a store
+ *   MF_OUT_OF_RANGE  font is above MF_FONT_MAX, or code above MF_CODE_MAX
+ *   MF_NO_FONT       no font of this number
+ *   MF_NO_CHARACTER  the font has no character of this code
+ *   MF_OUTPUT_SHORT  out_len is below MF_CHARACTER_BYTES */
 mf_told mf_tell_character(const uint8_t *store, size_t store_len,
                           uint8_t *out, size_t out_len,
                           uint32_t font, uint32_t code);
 
-/* Draws one row of a character, counted from 0 at the top: mf_row_bytes(width)
- * bytes, highest bit leftmost, 1 is black. Bits beyond the width and rows that
- * no data has come for are 0.
- * Refuses: 1, 2, 6, 7, 2 for a row not below the height, 12 if out_len is below
- * mf_row_bytes(width). */
+/* Draws one row of a character, counted from 0 at the top: mf_row_bytes(width) bytes, highest
+ * bit leftmost, 1 is black. Bits beyond the width and rows that no data has come for are 0.
+ * Refuses, in this order:
+ *   MF_NOT_A_STORE   not a store
+ *   MF_OUT_OF_RANGE  font is above MF_FONT_MAX, or code above MF_CODE_MAX
+ *   MF_NO_FONT       no font of this number
+ *   MF_NO_CHARACTER  the font has no character of this code
+ *   MF_OUT_OF_RANGE  row is not below the height
+ *   MF_OUTPUT_SHORT  out_len is below mf_row_bytes(width) */
 uint32_t mf_draw_row(const uint8_t *store, size_t store_len,
                      uint8_t *out, size_t out_len,
                      uint32_t font, uint32_t code, uint32_t row);
 
-/* Draws all rows, from the top, without gaps: mf_picture_bytes(width, height)
- * bytes. Refuses: 1, 2, 6, 7, 12 if out_len is below that. */
+/* Draws all rows, from the top, without gaps: mf_picture_bytes(width, height) bytes.
+ * Refuses, in this order:
+ *   MF_NOT_A_STORE   not a store
+ *   MF_OUT_OF_RANGE  font is above MF_FONT_MAX, or code above MF_CODE_MAX
+ *   MF_NO_FONT       no font of this number
+ *   MF_NO_CHARACTER  the font has no character of this code
+ *   MF_OUTPUT_SHORT  out_len is below mf_picture_bytes(width, height) */
 uint32_t mf_draw_picture(const uint8_t *store, size_t store_len,
                          uint8_t *out, size_t out_len,
                          uint32_t font, uint32_t code);
 
-/* Turns a picture clockwise into a second buffer: any rows of dots in the form
- * that mf_draw_picture draws, a whole page as well as a character.
- *   picture  height rows of mf_row_bytes(width) bytes, from the top, without
- *            gaps; bits beyond the width and bytes behind the rows are not
- *            looked at
- *   out      gets the turned picture, with bits beyond its width 0. A half turn
- *            needs mf_picture_bytes(width, height) bytes; a quarter and three
- *            quarters make width rows of height dots, so they need
- *            mf_picture_bytes(height, width), which may be more than
- *            MF_PICTURE_MAX.
+/* Turns a picture clockwise into a second buffer: any rows of dots in the form that
+ * mf_draw_picture draws, a whole page as well as a character.
+ *   picture  height rows of mf_row_bytes(width) bytes, from the top, without gaps; bits beyond
+ *            the width and bytes behind the rows are not looked at
+ *   out      gets the turned picture, with bits beyond its width 0. A half turn needs
+ *            mf_picture_bytes(width, height) bytes; a quarter and three quarters make width rows
+ *            of height dots, so they need mf_picture_bytes(height, width), which may be more
+ *            than MF_PICTURE_MAX.
  *   width    of the picture before the turn, 1..MF_SIDE_MAX
  *   height   the same
  *   turn     1 a quarter, 2 a half, 3 three quarters
- * It needs no store. Turned by a quarter, the left column becomes the top row,
- * read from the bottom.
- * Refuses: 2 for a number out of range or too few bytes in picture, 12 if out_len
- * is too short. */
+ * It needs no store. Turned by a quarter, the left column becomes the top row, read from the
+ * bottom.
+ * Refuses, in this order:
+ *   MF_OUT_OF_RANGE  turn, width or height is not in its range, or picture_len is below
+ *                    mf_picture_bytes(width, height)
+ *   MF_OUTPUT_SHORT  out_len is below what the turn needs */
 uint32_t mf_turn_picture(const uint8_t *picture, size_t picture_len,
                          uint8_t *out, size_t out_len,
                          uint32_t width, uint32_t height, uint32_t turn);
 
-/* Writes a font with its characters as a command stream and answers its length. Its
- * header has the format that it was downloaded in. Read into a fresh store of the same
- * length, the stream gives the same font again; which character was open isn't carried.
- * Refuses: 1, 2, 6, 12 if out_len is too short (MF_WRITTEN_MAX never is). */
+/* Writes a font with its characters as a command stream and answers its length. Its header has
+ * the format that it was downloaded in. Read into a fresh store of the same length, the stream
+ * gives the same font again; which character was open isn't carried.
+ * Refuses, in this order:
+ *   MF_NOT_A_STORE   not a store
+ *   MF_OUT_OF_RANGE  font is above MF_FONT_MAX
+ *   MF_NO_FONT       no font of this number
+ *   MF_OUTPUT_SHORT  out_len is below the stream's length (MF_WRITTEN_MAX never is) */
 mf_written mf_write_font(const uint8_t *store, size_t store_len,
                          uint8_t *out, size_t out_len, uint32_t font);
 
 /* The rules of the profile of spine labels, in their order. */
 enum mf_profile_rule {
     MF_PROFILE_MET = 0,
-    MF_PROFILE_TYPE = 1,      /* the font's type (3) is 0 */
-    MF_PROFILE_SPACING = 2,   /* its spacing (13) is fixed */
+    MF_PROFILE_TYPE = 1,      /* the font's type is 0 */
+    MF_PROFILE_SPACING = 2,   /* its spacing is fixed */
     MF_PROFILE_CODES = 3,     /* codes 32 to 127 are all there, each complete */
     /* and of every character of the font, also one of another code or incomplete: */
-    MF_PROFILE_LEFT = 4,      /* its left offset (6) is at least 0 */
-    MF_PROFILE_WIDTH = 5,     /* left offset plus width (10) is at most the cell width (8) */
-    MF_PROFILE_HEIGHT = 6,    /* its height (12) is at most the cell height (10) */
-    MF_PROFILE_DELTA_X = 7    /* its delta X (14) is the font's pitch field (16), both as kept */
+    MF_PROFILE_LEFT = 4,      /* its left offset is at least 0 */
+    MF_PROFILE_WIDTH = 5,     /* left offset plus width is at most the cell width */
+    MF_PROFILE_HEIGHT = 6,    /* its height is at most the cell height */
+    MF_PROFILE_DELTA_X = 7    /* its delta X is the font's pitch field, both as kept */
 };
 
 /* Checks whether a font meets that profile, which the binder's machine needs. Answers
- * MF_PROFILE_MET and code 0 if it does; else the first rule that is broken, whatever
- * codes break later ones, and the lowest code that breaks it, which is 0 for the type
- * and the spacing. A font that breaks a rule is no refusal: the answer's refusal is
- * MF_DONE.
- * Refuses: 1, 2, 6. */
+ * MF_PROFILE_MET and code 0 if it does; else the first rule that is broken, whatever codes break
+ * later ones, and the lowest code that breaks it, which is 0 for the type and the spacing. A font
+ * that breaks a rule is no refusal: the answer's refusal is MF_DONE.
+ * Refuses, in this order:
+ *   MF_NOT_A_STORE   not a store
+ *   MF_OUT_OF_RANGE  font is above MF_FONT_MAX
+ *   MF_NO_FONT       no font of this number */
 mf_profile mf_check_profile(const uint8_t *store, size_t store_len, uint32_t font);
 
 /* Writes a font as mf_write_font does, if it meets the profile.
- * Refuses: 1, 2, 6, 14 (MF_OUTSIDE_PROFILE) if it does not, 12 if out_len is too short
- * (MF_WRITTEN_MAX never is). */
+ * Refuses, in this order:
+ *   MF_NOT_A_STORE      not a store
+ *   MF_OUT_OF_RANGE     font is above MF_FONT_MAX
+ *   MF_NO_FONT          no font of this number
+ *   MF_OUTSIDE_PROFILE  the font breaks a rule of the profile
+ *   MF_OUTPUT_SHORT     out_len is below the stream's length (MF_WRITTEN_MAX never is) */
 mf_written mf_write_profiled(const uint8_t *store, size_t store_len,
                              uint8_t *out, size_t out_len, uint32_t font);
 
 /* Reads a command stream into the store:
  *   ESC *c#D    font number         ESC )s#W    and # bytes of a font block
  *   ESC *c#E    code                ESC (s#W    and # bytes of a character block
- * with one to five digits for #, in W at most 32767. Number and code start at 0.
- * Each block has the effect of its own download, so that a character block that
- * finds no room removes its font. A refused one is counted and passed over; a
- * number or code out of range is refused too and changes nothing.
- * Answers the commands done and the commands refused; place is then 0.
- * Refuses: 1; 13 with the place of the broken command's first byte, counted
- * from 0, and the counts before it. */
+ * with one to five digits for #, in W at most MF_BLOCK_MAX. Number and code start at 0.
+ * Each block has the effect of its own download, so that a character block that finds no room
+ * removes its font, and a font block with a number already kept replaces that font with all its
+ * characters. A refused one is counted and passed over; a number or code out of range is refused
+ * too and changes nothing.
+ * Answers the commands done and the commands refused; place is then 0. So MF_DONE does not mean
+ * that all was taken: look at refused, which must be 0 too. To learn which commands were refused,
+ * and why, make their downloads one by one, as the program marlinfold-fonts does.
+ * A stream that was cut between two commands cannot be told from a whole one. Nothing is undone:
+ * to be able to go back, keep a copy of the store's bytes.
+ * Refuses, in this order:
+ *   MF_NOT_A_STORE    not a store
+ *   MF_STREAM_BROKEN  another byte than ESC where a command should begin, or a command with a
+ *                     wrong byte, too large a number of bytes or not all of them. Answers the
+ *                     place of that byte, or of the command's ESC, counted from 0, and the
+ *                     counts before it; what stands before it stays done */
 mf_stream_read mf_read_stream(uint8_t *store, size_t store_len,
                               const uint8_t *stream, size_t stream_len);
+
+/* ---- along a store ---- */
+
+/* The length of the record that begins so many bytes before a store's end, 0 where there is none.
+ * A record has its length (4 bytes) and its kind (2) first, low bytes first. */
+static inline size_t mf_record_length(const uint8_t *record, size_t left)
+{
+    if (left < 6)
+        return 0;
+    return (size_t)record[0] | (size_t)record[1] << 8 | (size_t)record[2] << 16 |
+           (size_t)record[3] << 24;
+}
+
+/* The lowest number of a kept font from a number on, MF_FONT_MAX + 1 if there is none or it is
+ * no store.
+ *
+ *     for (font = mf_next_font(store, sizeof store, 0); font <= MF_FONT_MAX;
+ *          font = mf_next_font(store, sizeof store, font + 1)) */
+static inline uint32_t mf_next_font(const uint8_t *store, size_t store_len, uint32_t from)
+{
+    uint8_t kept[MF_FONT_BYTES];
+    size_t at = MF_STORE_MIN, length;
+    uint32_t refusal = mf_tell_font(store, store_len, kept, sizeof kept, from).refusal;
+    if (refusal == MF_DONE)
+        return from;
+    if (refusal != MF_NO_FONT)
+        return MF_FONT_MAX + 1;
+    /* It is a store: fonts stand by rising number, as records of kind 2 with the number next. */
+    while ((length = mf_record_length(store + at, store_len - at)) != 0) {
+        uint32_t font = (uint32_t)store[at + 6] | (uint32_t)store[at + 7] << 8;
+        if (store[at + 4] == 2 && font > from)
+            return font;
+        at += length;
+    }
+    return MF_FONT_MAX + 1;
+}
+
+/* The bytes behind a store's records, which are free; 0 if it is no store. */
+static inline size_t mf_room_left(const uint8_t *store, size_t store_len)
+{
+    uint8_t kept[MF_FONT_BYTES];
+    size_t at = MF_STORE_MIN, length;
+    if (mf_tell_font(store, store_len, kept, sizeof kept, 0).refusal == MF_NOT_A_STORE)
+        return 0;
+    while ((length = mf_record_length(store + at, store_len - at)) != 0)
+        at += length;
+    return store_len - at;
+}
 
 #ifdef __cplusplus
 }
