@@ -1,68 +1,116 @@
-# make             proves and builds the library, the listing program and the examples,
-#                  lists two sample fonts and draws a label in each, and one of 600
-#                  dots to the inch, to target/
-# make check       all tests
-# make install     under $(DESTDIR)$(PREFIX): header, archive, pkg-config file, listing program
-# make uninstall   what make install put there
+# make             proves and builds all, lists two sample fonts and draws a label in each,
+#                  and one of 600 dots to the inch, to target/
+# make build       the same without the list and the labels
+# make check       all tests, the same as .ci/run
+# make install     under $(DESTDIR)$(PREFIX): header, archive, shared library, pkg-config
+#                  file, programs, man pages; needs no rt once all is built
+# make uninstall   removes what make install put there, if given the same folders
 # make clean       removes target/
-VERSION = 1.0
 PREFIX = /usr/local
+BINDIR = $(PREFIX)/bin
+LIBDIR = $(PREFIX)/lib
+INCLUDEDIR = $(PREFIX)/include
+MANDIR = $(PREFIX)/share/man
+DOCDIR = $(PREFIX)/share/doc/marlinfold
 CFLAGS = -O2
 TEXT = Handle with care: 12 x 3.50 (No. 7)
 
+# It stands once, in the header.
+VERSION := $(shell sed -n 's/^.define MF_VERSION "\([0-9.]*\)".*/\1/p' include/marlinfold.h)
+$(if $(VERSION),,$(error include/marlinfold.h has no MF_VERSION))
+
 archive = target/staticlib/libmarlinfold.a
 listing = target/bin/listing
-examples = $(addprefix target/examples/,label sheet specimen short)
+programs = $(patsubst programs/%.c,target/programs/marlinfold-%,$(wildcard programs/*.c))
+examples = $(patsubst %.c,target/%,$(wildcard examples/*.c))
 crates = crates.txt $(shell find crates -type f)
-label = target/examples/label --proportional --height 10
-label600 = target/examples/label --mode 600 --height 10
-there = $(DESTDIR)$(PREFIX)
+headers = include/marlinfold.h $(wildcard programs/*.h)
+compile = $(CC) -std=c99 -Wall -Wextra -pedantic $(CPPFLAGS) $(CFLAGS) -Iinclude -Iprograms
+label = target/programs/marlinfold-label --height 10
+
+# Programs that were linked with one soname run with every library that has it.
+soname = libmarlinfold.so.$(firstword $(subst ., ,$(VERSION)))
+shared = target/shared/libmarlinfold.so.$(VERSION)
+links = libmarlinfold.so $(soname)
 
 # Nothing if the program is there, else one line, and make stops.
-needs = $(if $(shell command -v $(1) 2>/dev/null),,$(error needs $(2): no $(1) found))
+needs = $(if $(shell command -v $(1) 2>/dev/null),,$(error $@: needs $(2), and no $(1) was found))
 
-all: $(listing) $(examples)
+all: build
 	cat samples/cmr10.pcl samples/cmbx10.pcl | $(listing)
-	$(label) "$(TEXT)" samples/*.pcl >target/label.pbm
-	$(label) --weight 3 "$(TEXT)" samples/*.pcl >target/label-bold.pbm
-	$(label600) "$(TEXT)" samples/*.pcl >target/label-600.pbm
+	$(label) --proportional "$(TEXT)" samples/*.pcl >target/label.pbm
+	$(label) --proportional --weight 3 "$(TEXT)" samples/*.pcl >target/label-bold.pbm
+	$(label) --mode 600 "$(TEXT)" samples/*.pcl >target/label-600.pbm
 
-tools:
-	@:$(call needs,rt,the Rattle toolchain)$(call needs,$(CC),a C compiler (set CC))
+build: $(archive) $(listing) $(shared) $(programs) $(examples)
 
-# rt proves again only what has changed. One at a time: both write to target/.
-$(archive): $(crates) | tools
-	rt staticlib marlinfold
+# $(call prove,COMMAND,LOG): what the prover says goes to a file; its last lines are shown
+# if it fails. rt proves again only what has changed, and then leaves a file as old as it was.
+define prove
+	@:$(call needs,rt,the Rattle toolchain)
+	@mkdir -p target
+	@echo "$(1): its notes are in $(2)"
+	@$(1) >$(2) 2>&1 || { tail -n 20 $(2); exit 1; }
 	@touch $@
+endef
 
+$(archive): $(crates)
+	$(call prove,rt staticlib marlinfold,target/prover-marlinfold.log)
+
+# Not at the same time as the archive: both write to target/.
 $(listing): $(crates) | $(archive)
-	rt check listing
-	@touch $@
+	$(call prove,rt check listing,target/prover-listing.log)
 
-target/examples/%: examples/%.c $(wildcard examples/*.h) include/marlinfold.h $(archive)
+# Only the header's calls are to be seen from outside.
+$(shared): $(archive)
 	@mkdir -p $(@D)
-	$(CC) -std=c99 -Wall -Wextra -Werror -pedantic $(CFLAGS) -Iinclude $< $(archive) -o $@
+	@echo '{ global: mf_*; local: *; };' >$(@D)/exports
+	$(CC) -shared $(LDFLAGS) -Wl,-soname,$(soname) -Wl,--version-script,$(@D)/exports \
+	    -Wl,-z,defs -Wl,--whole-archive $(archive) -Wl,--no-whole-archive -o $@
+	@for link in $(links); do ln -sf $(@F) $(@D)/$$link || exit 1; done
+
+target/programs/marlinfold-%: programs/%.c $(headers) $(archive)
+	@mkdir -p $(@D)
+	$(compile) $< $(archive) $(LDFLAGS) -o $@
+
+target/examples/%: examples/%.c $(headers) $(archive)
+	@mkdir -p $(@D)
+	$(compile) $< $(archive) $(LDFLAGS) -o $@
 
 check:
 	@:$(call needs,rt,the Rattle toolchain)
 	.ci/run
 
-install: $(archive) $(listing)
-	install -d "$(there)/include" "$(there)/lib/pkgconfig" "$(there)/bin" "$(there)/share/man/man1"
-	install -m 644 include/marlinfold.h "$(there)/include/"
-	install -m 644 $(archive) "$(there)/lib/"
-	sed 's|@PREFIX@|$(PREFIX)|; s|@VERSION@|$(VERSION)|' marlinfold.pc.in \
-	    >"$(there)/lib/pkgconfig/marlinfold.pc"
-	install -m 755 $(listing) "$(there)/bin/marlinfold-listing"
-	install -m 644 docs/marlinfold-listing.1 "$(there)/share/man/man1/"
+install: $(archive) $(listing) $(shared) $(programs)
+	install -d "$(DESTDIR)$(INCLUDEDIR)" "$(DESTDIR)$(LIBDIR)/pkgconfig" "$(DESTDIR)$(BINDIR)" \
+	    "$(DESTDIR)$(MANDIR)/man1" "$(DESTDIR)$(MANDIR)/man3" "$(DESTDIR)$(DOCDIR)"
+	install -m 644 include/marlinfold.h "$(DESTDIR)$(INCLUDEDIR)/"
+	install -m 644 $(archive) "$(DESTDIR)$(LIBDIR)/"
+	install -m 755 $(shared) "$(DESTDIR)$(LIBDIR)/"
+	for link in $(links); do \
+	    ln -sf $(notdir $(shared)) "$(DESTDIR)$(LIBDIR)/$$link" || exit 1; done
+	sed -e 's|@PREFIX@|$(PREFIX)|; s|@INCLUDEDIR@|$(INCLUDEDIR)|; s|@LIBDIR@|$(LIBDIR)|' \
+	    -e 's|@VERSION@|$(VERSION)|' marlinfold.pc.in \
+	    >"$(DESTDIR)$(LIBDIR)/pkgconfig/marlinfold.pc"
+	chmod 644 "$(DESTDIR)$(LIBDIR)/pkgconfig/marlinfold.pc"
+	install -m 755 $(listing) "$(DESTDIR)$(BINDIR)/marlinfold-listing"
+	install -m 755 $(programs) "$(DESTDIR)$(BINDIR)/"
+	install -m 644 docs/*.1 "$(DESTDIR)$(MANDIR)/man1/"
+	install -m 644 docs/*.3 "$(DESTDIR)$(MANDIR)/man3/"
+	install -m 644 README.md CHANGELOG.md LICENSE "$(DESTDIR)$(DOCDIR)/"
 
 uninstall:
-	rm -f "$(there)/include/marlinfold.h" "$(there)/lib/libmarlinfold.a" \
-	    "$(there)/lib/pkgconfig/marlinfold.pc" "$(there)/bin/marlinfold-listing" \
-	    "$(there)/share/man/man1/marlinfold-listing.1"
+	rm -f "$(DESTDIR)$(INCLUDEDIR)/marlinfold.h" \
+	    $(addprefix "$(DESTDIR)$(LIBDIR)"/,libmarlinfold.a $(notdir $(shared)) $(links)) \
+	    "$(DESTDIR)$(LIBDIR)/pkgconfig/marlinfold.pc" \
+	    $(addprefix "$(DESTDIR)$(BINDIR)"/,marlinfold-listing $(notdir $(programs))) \
+	    $(addprefix "$(DESTDIR)$(MANDIR)"/man1/,$(notdir $(wildcard docs/*.1))) \
+	    $(addprefix "$(DESTDIR)$(MANDIR)"/man3/,$(notdir $(wildcard docs/*.3))) \
+	    $(addprefix "$(DESTDIR)$(DOCDIR)"/,README.md CHANGELOG.md LICENSE)
+	rmdir "$(DESTDIR)$(DOCDIR)" 2>/dev/null || :
 
 clean:
 	rm -rf target
 
-.PHONY: all tools check install uninstall clean
+.PHONY: all build check install uninstall clean
 .DELETE_ON_ERROR:
