@@ -1,97 +1,62 @@
-/* Prints one line of text as a label: a small spooler.
- *
- *     label [OPTIONS] TEXT FONTFILE... > label.pbm
- *
- * reads soft font streams, asks the library for the font that fits best, and
- * writes the label as a PBM picture of as many dots to the inch as the font has. It
- * says on standard error which font was chosen, and ends with the library's refusal where it
- * cannot. TEXT's bytes are the character codes. The options are those of
- * request.h, and
- *
- *     --turn N         the label turned clockwise by N quarters, 0..3 (0)
- *     --plain          PBM in plain digits */
+/* marlinfold-label: writes one line of text as a picture, in the font that fits the
+ * options best. What it can do stands in help, and in docs/marlinfold-label.1. */
 #include "page.h"
 #include "request.h"
 
 #define MARGIN 12
 
+static const about program = {
+    "marlinfold-label", "[OPTIONS] TEXT FILE...",
+    "Reads the fonts of each FILE, - for standard input, chooses the one that fits best, and\n"
+    "writes TEXT in it to standard output, as a picture of the font's dots to the inch.\n\n"
+    REQUEST_HELP
+    "  --turn N          the label turned clockwise by N quarters, 0 to 3 (0)\n"
+    "  --plain           PBM in plain digits\n"
+    "  -o FILE           write to this file\n"
+    "  --help            print this\n"
+    "  --version         print the version\n"
+    "  --                what follows is no option\n\n"
+    "The bytes of TEXT are the codes of the characters. In UTF-8 a letter beyond ASCII has two\n"
+    "bytes or more, which would be as many codes: make them bytes of the font's symbol set, as\n"
+    "  marlinfold-label \"$(iconv -f UTF-8 -t HP-ROMAN8 <TEXTFILE)\" FILE...\n"
+    PAGE_HELP
+    "Exit status: 0 if the label is whole, 2 if it was written but a character is missing or\n"
+    "incomplete or a font file was not taken whole, 1 if it was not written.\n"};
+
 typedef struct {
     mf_request font;
     uint32_t turn;
-    const unsigned char *text;
     int plain;
+    const char *out;
+    const unsigned char *text;
 } order;
 
-static void usage(void)
+/* Takes the words of the command line: TEXT, and the files that are gathered. */
+static order read_order(words *from)
 {
-    stop("usage", "label " REQUEST_OPTIONS " [--turn N] [--plain] TEXT FONTFILE...");
-}
+    order asked = {default_request, 0, 0, NULL, NULL};
+    const char *value;
 
-/* The cursor after each character, in quarter-dots along the line. Fixed fonts
- * move by their pitch, proportional ones by the character's delta X; a code
- * that has no character leaves a space of the font's pitch. */
-static long advance(const uint8_t *font, const uint8_t *character)
-{
-    if (!character || font[13] == MF_FIXED)
-        return (long)mf_field(font, 16);
-    return (long)mf_field(character, 14);
-}
-
-/* A place on the paper so far along the line: to the right, in a landscape font up,
- * in the reverse ones to the left and down. */
-static void go_along(const uint8_t *font, long along, long *left, long *top)
-{
-    switch (font[12]) {
-    case MF_PORTRAIT: *left += along; break;
-    case MF_LANDSCAPE: *top -= along; break;
-    case MF_REVERSE_PORTRAIT: *left -= along; break;
-    default: *top += along; break;
-    }
-}
-
-/* Where the picture's corner is for a cursor: offsets are from the cursor, to
- * the right and up. */
-static void corner(const uint8_t *font, const uint8_t *character, long cursor, long *left,
-                   long *top)
-{
-    *left = mf_signed_field(character, 6);
-    *top = -(long)mf_signed_field(character, 8);
-    go_along(font, (cursor + 2) / 4, left, top);
-}
-
-/* Takes the words of the command line, and reads each font file into the store. */
-static order read_order(int count, char **words)
-{
-    order asked = {default_request, 0, NULL, 0};
-    int files = 0, word, taken;
-
-    for (word = 1; word < count; word += taken) {
-        taken = set_option(&asked.font, words + word, count - word);
-        if (taken)
+    while (at_option(from)) {
+        if (take_request(from, &asked.font))
             continue;
-        taken = 1;
-        if (strcmp(words[word], "--plain") == 0)
+        if (take(from, "--plain"))
             asked.plain = 1;
-        else if (strcmp(words[word], "--turn") == 0 && word + 1 < count) {
-            asked.turn = (uint32_t)whole(words[word + 1]);
-            taken = 2;
-        }
-        else if (strncmp(words[word], "--", 2) == 0)
-            usage();
-        else if (!asked.text)
-            asked.text = (const unsigned char *)words[word];
-        else {
-            read_fonts(words[word]);
-            files++;
-        }
+        else if ((value = take_value(from, "--turn")))
+            asked.turn = (uint32_t)number_within("--turn", value, 0, 3);
+        else if ((value = take_value(from, "-o")))
+            asked.out = value;
+        else
+            take_common(from, &program);
     }
-    if (!asked.text || !files)
-        usage();
+    if (from->count < 2)
+        stop_usage(&program);
+    asked.text = (const unsigned char *)from->gathered[0];
     return asked;
 }
 
-/* The font that fits best, its kept bytes, and a line about it for the user. */
-static uint32_t choose(const mf_request *asked, uint8_t *font)
+/* The number of the font that fits best, and a line about it for the user. */
+static uint32_t choose(const mf_request *asked)
 {
     mf_chosen chosen =
         mf_choose(store, sizeof store, asked->symbol_set, asked->spacing, asked->pitch,
@@ -100,16 +65,45 @@ static uint32_t choose(const mf_request *asked, uint8_t *font)
 
     if (chosen.refusal)
         refuse("choosing", chosen.refusal);
-    print_font(stderr, chosen.font, font);
+    print_font(stderr, chosen.font);
+    fputc('\n', stderr);
     return chosen.font;
 }
 
-/* The paper that a line needs, around the cursor's first place. */
-typedef struct {
-    long left, top, right, bottom;
-} box;
+/* How far a character moves the cursor along the line, in 256ths of a quarter-dot. Fixed
+ * fonts move it by their pitch, proportional ones by the character's delta X; a code that
+ * has no character leaves a space of the font's pitch. */
+static int64_t advance(const mf_font_fields *font, const mf_character_fields *character)
+{
+    if (!character || font->spacing == MF_FIXED)
+        return 256 * (int64_t)font->pitch + font->pitch_extended;
+    return 256 * (int64_t)character->delta_x;
+}
 
-static void take_in(box *in, long left, long top, long right, long bottom)
+/* A place on the paper so far along the line: to the right, in a landscape font up,
+ * in the reverse ones to the left and down. */
+static void go_along(const mf_font_fields *font, int64_t cursor, long *left, long *top)
+{
+    int64_t along = (cursor + 512) / 1024;
+    long dots = along < 2000000 ? (long)along : 2000000; /* longer than any page */
+
+    switch (font->orientation) {
+    case MF_PORTRAIT: *left += dots; break;
+    case MF_LANDSCAPE: *top -= dots; break;
+    case MF_REVERSE_PORTRAIT: *left -= dots; break;
+    default: *top += dots; break;
+    }
+}
+
+/* The line that is set, and the paper that it needs around the cursor's first place. */
+typedef struct {
+    const unsigned char *text;
+    uint32_t number;
+    mf_font_fields font;
+    long left, top, right, bottom;
+} line;
+
+static void take_in(line *in, long left, long top, long right, long bottom)
 {
     in->left = left < in->left ? left : in->left;
     in->top = top < in->top ? top : in->top;
@@ -117,36 +111,57 @@ static void take_in(box *in, long left, long top, long right, long bottom)
     in->bottom = bottom > in->bottom ? bottom : in->bottom;
 }
 
-/* Goes along the line: without a label to see how much paper it needs, with one
- * to place the characters on it. */
-static void set_line(const unsigned char *text, uint32_t number, const uint8_t *font, box *used,
-                     page *label)
+/* Sets the line: without a label to see how much paper it needs, with one to place the
+ * characters on it. */
+static void set_line(line *of, page *label)
 {
-    uint8_t kept[MF_CHARACTER_BYTES];
-    long cursor = 0, left, top;
+    const unsigned char *at;
+    int64_t cursor = 0;
+    long left = 0, top = 0;
 
-    for (; *text; text++) {
-        uint32_t refusal =
-            mf_tell_character(store, sizeof store, kept, sizeof kept, number, *text).refusal;
-        if (refusal && refusal != MF_NO_CHARACTER)
-            refuse("character", refusal);
-        if (!refusal) {
-            corner(font, kept, cursor, &left, &top);
-            if (label)
-                place(label, number, *text, kept, left - used->left + MARGIN,
-                      top - used->top + MARGIN);
-            else
-                take_in(used, left, top, left + (long)mf_field(kept, 10),
-                        top + (long)mf_field(kept, 12));
-        } else if (!label && *text != ' ')
-            fprintf(stderr, "code %u: %s, left blank\n", *text, mf_refusal_name(refusal));
-        cursor += advance(font, refusal ? NULL : kept);
+    for (at = of->text; *at; at++) {
+        mf_character_fields told;
+        int there = tell_character(of->number, *at, &told);
+        if (there) {
+            /* Offsets are from the cursor, to the right and up. */
+            left = told.left;
+            top = -(long)told.top;
+            go_along(&of->font, cursor, &left, &top);
+        }
+        if (there && label)
+            place(label, of->number, *at, &told, left - of->left + MARGIN, top - of->top + MARGIN);
+        else if (there)
+            take_in(of, left, top, left + (long)told.width, top + (long)told.height);
+        cursor += advance(&of->font, there ? &told : NULL);
     }
-    if (!label) {
-        left = top = 0;
-        go_along(font, (cursor + 2) / 4, &left, &top);
-        take_in(used, left, top, left, top);
+    left = top = 0;
+    go_along(&of->font, cursor, &left, &top);
+    take_in(of, left, top, left, top);
+}
+
+/* Tells what the font lacks of the line, where a space needs no character. */
+static int tell_missing(const line *of)
+{
+    uint8_t incomplete[MF_CODE_MAX + 1], said[MF_CODE_MAX + 1] = {0};
+    const unsigned char *at;
+    mf_character_fields told;
+    int status = COMPLETE, beyond = 0;
+
+    find_incomplete(of->number, incomplete);
+    for (at = of->text; *at; at++) {
+        int there = tell_character(of->number, *at, &told);
+        if (said[*at] || (there ? !incomplete[*at] : *at == ' '))
+            continue;
+        fprintf(stderr, "code %u: %s\n", *at,
+                there ? "incomplete, rows are missing" : "no such character, left blank");
+        said[*at] = 1;
+        status = INCOMPLETE;
+        beyond |= *at > 127;
     }
+    if (beyond)
+        fputs("codes above 127: each byte of the text is a code; text in UTF-8 needs iconv "
+              "(see --help)\n", stderr);
+    return status;
 }
 
 /* The label turned by so many quarters, 0 leaving it as it is. */
@@ -167,22 +182,23 @@ static page turned(page label, uint32_t turn)
     return made;
 }
 
-int main(int count, char **words)
+int main(int count, char **given)
 {
-    uint8_t font[MF_FONT_BYTES];
-    box used = {0, 0, 0, 0};
-    order asked;
-    uint32_t number;
+    words from = words_of(given + (count > 0));
+    order asked = read_order(&from);
+    int status = load_files(from.gathered + 1, from.count - 1), lacking;
+    line set = {asked.text, 0, {0}, 0, 0, 0, 0};
+    uint32_t characters;
     page label;
 
-    mf_make_fresh(store, sizeof store);
-    asked = read_order(count, words);
-    number = choose(&asked.font, font);
-    set_line(asked.text, number, font, &used, NULL);
-    label = new_page(used.right - used.left + 2 * MARGIN, used.bottom - used.top + 2 * MARGIN);
-    set_line(asked.text, number, font, &used, &label);
+    set.number = choose(&asked.font);
+    set.font = tell_font(set.number, &characters);
+    lacking = tell_missing(&set);
+    set_line(&set, NULL);
+    label = new_page(set.right - set.left + 2 * MARGIN, set.bottom - set.top + 2 * MARGIN);
+    set_line(&set, &label);
     label = turned(label, asked.turn);
-    write_page(&label, asked.plain);
+    write_page(&label, asked.plain, asked.out);
     free(label.dots);
-    return 0;
+    return lacking ? lacking : status;
 }

@@ -4,6 +4,11 @@
 
 #include "fonts.h"
 
+/* How to look at a page, for --help. */
+#define PAGE_HELP \
+    "The picture is PBM. To make it PNG: pnmtopng FILE.pbm >FILE.png (of netpbm), or\n" \
+    "ImageMagick's convert FILE.pbm FILE.png.\n"
+
 /* Dots in rows of whole bytes, highest bit leftmost, 1 is black: both what the
  * library draws and what PBM holds. */
 typedef struct {
@@ -12,58 +17,65 @@ typedef struct {
     uint8_t *dots;
 } page;
 
-static page new_page(long width, long height)
+static inline page new_page(long width, long height)
 {
     page made;
-    if (width < 1 || height < 1 || width > 1000000 || height > 1000000 ||
-        width / 8 * height > 200000000L)
+    if (width < 1 || height < 1 || width > 1000000 || height > 200000000L / (width / 8 + 1))
         stop("page", "too large");
     made.width = width;
     made.height = height;
     made.row_bytes = mf_row_bytes((uint32_t)width);
-    made.dots = (uint8_t *)memory(made.row_bytes * (size_t)height);
+    made.dots = calloc(made.row_bytes, (size_t)height);
+    if (!made.dots)
+        stop("page", "no memory for it");
     return made;
 }
 
-static void blacken(page *on, long x, long y)
+static inline void blacken(page *on, long x, long y)
 {
     if (x >= 0 && y >= 0 && x < on->width && y < on->height)
         on->dots[(size_t)y * on->row_bytes + (size_t)x / 8] |= (uint8_t)(0x80 >> x % 8);
 }
 
 /* Draws a kept character with its upper left corner at a place. */
-static void place(page *on, uint32_t font, uint32_t code, const uint8_t *kept, long left, long top)
+static inline void place(page *on, uint32_t font, uint32_t code, const mf_character_fields *told,
+                         long left, long top)
 {
     static uint8_t picture[MF_PICTURE_MAX];
-    long width = (long)mf_field(kept, 10), height = (long)mf_field(kept, 12), x, y;
-    size_t row_bytes = mf_row_bytes((uint32_t)width);
-    uint32_t refusal =
-        mf_draw_picture(store, sizeof store, picture, sizeof picture, font, code);
+    size_t row_bytes = mf_row_bytes(told->width);
+    uint32_t refusal, x, y;
 
+    refusal = mf_draw_picture(store, sizeof store, picture, sizeof picture, font, code);
     if (refusal)
         refuse("character", refusal);
-    for (y = 0; y < height; y++)
-        for (x = 0; x < width; x++)
-            if (picture[(size_t)y * row_bytes + (size_t)x / 8] & 0x80 >> x % 8)
-                blacken(on, left + x, top + y);
+    for (y = 0; y < told->height; y++)
+        for (x = 0; x < told->width; x++)
+            if (picture[y * row_bytes + x / 8] & 0x80 >> x % 8)
+                blacken(on, left + (long)x, top + (long)y);
 }
 
-/* As PBM: raw, or plain for reading by eye. */
-static void write_page(const page *from, int plain)
+static inline void write_plain(FILE *to, const page *from)
 {
     long x, y;
-    printf("%s\n%ld %ld\n", plain ? "P1" : "P4", from->width, from->height);
-    if (!plain)
-        fwrite(from->dots, from->row_bytes, (size_t)from->height, stdout);
-    for (y = 0; plain && y < from->height; y++) {
+    for (y = 0; y < from->height; y++) {
         for (x = 0; x < from->width; x++) {
             uint8_t byte = from->dots[(size_t)y * from->row_bytes + (size_t)x / 8];
-            putchar(byte & 0x80 >> x % 8 ? '1' : '0');
+            fputc(byte & 0x80 >> x % 8 ? '1' : '0', to);
         }
-        putchar('\n');
+        fputc('\n', to);
     }
-    if (fflush(stdout) || ferror(stdout))
-        stop("output", "cannot be written");
+}
+
+/* As PBM: raw, or plain for reading by eye; to standard output without a name. */
+static inline void write_page(const page *from, int plain, const char *name)
+{
+    FILE *to = open_output(name);
+    fprintf(to, "%s\n%ld %ld\n", plain ? "P1" : "P4", from->width, from->height);
+    if (plain)
+        write_plain(to, from);
+    else
+        fwrite(from->dots, from->row_bytes, (size_t)from->height, to);
+    finish(to, name);
 }
 
 #endif
