@@ -1,3 +1,4 @@
+/* SPDX-License-Identifier: MIT */
 /* Marlinfold: PCL 5 bitmap soft fonts, kept in one lent byte buffer.
  *
  * You lend a buffer of MF_STORE_MIN to MF_STORE_MAX bytes, the store, and make it fresh.
