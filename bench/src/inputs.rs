@@ -442,7 +442,7 @@ fn list_ten_fonts(length: usize) -> Input {
     }
 }
 
-/// 2,400 characters of one byte in 64 KiB: telling the first font is nearly all check.
+/// 2,396 characters of one byte in 64 KiB: telling the first font is nearly all check.
 fn check_small_characters(length: usize) -> Input {
     let store = ten_fonts(length, &first_block(1, 8, 1, &[0x5A]));
     Input {

@@ -38,7 +38,7 @@ const HEIGHT_AT: usize = 12;
 const DELTA_X_AT: usize = 14;
 
 // The format and the descriptor size that are taken.
-const FORMAT: u8 = 4;
+pub const FORMAT: u8 = 4;
 
 const SIZE_TAKEN: u8 = 14;
 

@@ -1,5 +1,5 @@
 -- How a call's checks stand in order, each with the number that it refuses with. `refuse` makes the whole answer of a refusal.
-use Prim.Native.Nat.{ℕ, _+_}
+use Prim.Native.Nat.{ℕ}
 use mathlib.Core.List.{List}
 use mathlib.Core.Bool.{Bool, true, false, _&&_}
 use mathlib.Core.Option.{Option, none, some}

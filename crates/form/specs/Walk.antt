@@ -14,7 +14,7 @@ use Rattle.pictures.specs.declared.picture.Judged.the-variants.{Complete, Incom
 use Rattle.form.specs.Layout.{lastFont, lastCode, keyOf, characterKeptAt, characterRecord, fontOrientationAt, fontRecord, markRecord}
 use Rattle.form.specs.Num.{_&_, field}
 use Rattle.form.specs.Model.{Rec, font, character, isKept, heldUnder, Mark, Store, Under, under, alone, allowed, sorted, unfinished, opened, number, place, noCharacters, oneMore, tallyOf, tallyIn, sameTally, counted, headRec, sizeOf, total, split, decode}
-use Rattle.form.specs.Order.{below, find, fontAt, characterAt}
+use Rattle.form.specs.Order.{below, fontAt, characterAt}
 use Rattle.form.specs.Checks.{onFont, onCharacter}
 use Rattle.form.specs.declared.tally.Tally.{Tally}
 use Rattle.form.specs.declared.walk.Query.{Query}

@@ -16,7 +16,7 @@ use Rattle.listing.specs.Wrote.{Wrote}
 use Rattle.listing.specs.Column.{column}
 use Rattle.listing.specs.Line.{lines}
 use Rattle.listing.specs.Summary.{doneWord, refusedWord, stoppedWord, counts, stopped, summary}
-use Rattle.listing.specs.Listing.{heading, tooLong, freshStore, listingText, listing}
+use Rattle.listing.specs.Listing.{heading, tooLong, mostInput, storeBytes, freshStore, listingText, listing, textRoom}
 use Rattle.listing.proofs.Writes.{wrote-put, wrote-length, wrote-then}
 
 -- a writer of the stream's says this
@@ -52,18 +52,18 @@ module _ (r : StreamRead) (s o₁ o₂ : List ℕ) (at e₁ e₂ : ℕ) (w : Wro
   wrote-ended e h p = rw (ne-eqb (r .refusal) 13 e) (wrote-then _ _ _ _ _ _ _ _ w (wrote-put o₁ (10 ∷ []) o₂ e₁ e₂ h (p .0) (p .1)))
 
 -- ── the whole text
-pub wrote-long : (input s out : List ℕ) (end : ℕ) → 32768 < length input → 16640 ≤ length s → Puts s 0 tooLong end out → Wrote s 0 (listing input) end out
+pub wrote-long : (input s out : List ℕ) (end : ℕ) → mostInput < length input → textRoom ≤ length s → Puts s 0 tooLong end out → Wrote s 0 (listing input) end out
 unfolding listing
-wrote-long input s out end h l p = rw (lt-leb (length input) 32768 h) (wrote-put s tooLong out 0 end (omega arith) (p .0) (p .1))
+wrote-long input s out end h l p = rw (lt-leb (length input) mostInput h) (wrote-put s tooLong out 0 end (omega arith) (p .0) (p .1))
 
-pub is-fresh : (f : List ℕ) → f ≡ makingFresh (replicate 16384 0) .bytes → f ≡ freshStore
+pub is-fresh : (f : List ℕ) → f ≡ makingFresh (replicate storeBytes 0) .bytes → f ≡ freshStore
 unfolding freshStore
 is-fresh f e = e
 
-pub wrote-listing : (input f store s o₁ o₂ o₃ : List ℕ) (a : StreamRead) (e₁ e₂ e₃ : ℕ) → length input ≤ 32768 → f ≡ freshStore
-    → a ≡ reading input f .answer → store ≡ reading input f .bytes → 16640 ≤ length s → Puts s 0 heading e₁ o₁
+pub wrote-listing : (input f store s o₁ o₂ o₃ : List ℕ) (a : StreamRead) (e₁ e₂ e₃ : ℕ) → length input ≤ mostInput → f ≡ freshStore
+    → a ≡ reading input f .answer → store ≡ reading input f .bytes → textRoom ≤ length s → Puts s 0 heading e₁ o₁
     → Wrote o₁ e₁ (lines store (fontsOf store)) e₂ o₂ → Wrote o₂ e₂ (summary a) e₃ o₃ → Wrote s 0 (listing input) e₃ o₃
 unfolding listing listingText
 wrote-listing input f store s o₁ o₂ o₃ a e₁ e₂ e₃ h e p q l u w v =
-    rw (le-leb (length input) 32768 h, ← e, ← p, ← q)
+    rw (le-leb (length input) mostInput h, ← e, ← p, ← q)
     (wrote-then _ _ _ _ _ _ _ _ (wrote-put s heading o₁ 0 e₁ (omega arith) (u .0) (u .1)) (wrote-then _ _ _ _ _ _ _ _ w v))

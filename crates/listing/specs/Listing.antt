@@ -1,6 +1,6 @@
 -- Document 01, "The stream": "The listing program reads at most 32,768 bytes of standard input into a fresh store of 16,384; more prints only
 -- `input too long`."
-use Prim.Native.Nat.{ℕ}
+use Prim.Native.Nat.{ℕ, _+_}
 use mathlib.Core.List.{List, [], _∷_, _++_}
 use mathlib.Core.Bool.{cond}
 use lib.Dec.{leb}
@@ -28,8 +28,15 @@ heading =
 abbrev pub tooLong : List ℕ
 tooLong = 105 ∷ 110 ∷ 112 ∷ 117 ∷ 116 ∷ 32 ∷ 116 ∷ 111 ∷ 111 ∷ 32 ∷ 108 ∷ 111 ∷ 110 ∷ 103 ∷ 10 ∷ []
 
+-- "at most 32,768 bytes of standard input into a fresh store of 16,384"
+abbrev pub mostInput : ℕ
+mostInput = 32768
+
+abbrev pub storeBytes : ℕ
+storeBytes = 16384
+
 unfoldable pub freshStore : List ℕ
-freshStore = makingFresh (replicate 16384 0) .bytes
+freshStore = makingFresh (replicate storeBytes 0) .bytes
 
 -- what a reading left and answered
 unfoldable pub listingText : Reading → List ℕ
@@ -37,4 +44,8 @@ listingText r = heading ++ (lines (r .bytes) (fontsOf (r .bytes)) ++ summary (r 
 
 -- what is written for this input
 unfoldable pub listing : List ℕ → List ℕ
-listing input = cond (leb (length input) 32768) (listingText (reading input freshStore)) tooLong
+listing input = cond (leb (length input) mostInput) (listingText (reading input freshStore)) tooLong
+
+-- room for every text: the heading, no more bytes of lines than the store has, and the last line
+abbrev pub textRoom : ℕ
+textRoom = storeBytes + 256

@@ -3,7 +3,7 @@ ghost use Prim.Native.Nat.{_≤_};
 ghost use lib.ListN.{length};
 ghost use Rattle.io.specs.Counts.{Counts};
 ghost use Rattle.listing.specs.Wrote.{Wrote};
-ghost use Rattle.listing.specs.Listing.{listing};
+ghost use Rattle.listing.specs.Listing.{listing, textRoom};
 use crate::lines::write_lines;
 use crate::summary::write_summary;
 use store::fonts;
@@ -13,19 +13,22 @@ use stream::writing::write_bytes;
 // The longest input that is read.
 pub const MOST: usize = 32768;
 
+// The bytes of the store that it is read into.
+const STORE: usize = 16384;
+
 // Room for every text: the heading, no more bytes of lines than the store has, and the last line.
-pub const TEXT: usize = 16640;
+pub const TEXT: usize = STORE + 256;
 
 // Writes the whole text for this input, and returns its length.
 pub fn list(input: &[u8], text: &mut [u8]) -> usize
-    requires { ⌜ 16640 ≤ length (now text) ⌝ }
+    requires { ⌜ textRoom ≤ length (now text) ⌝ }
     ensures { λ r. ⌜ Counts r (now (text .exit)) ⌝ }
     ensures { λ r. ⌜ Wrote (now (text .entry)) 0 (listing (now (input .entry))) r (now (text .exit)) ⌝ }
 {
     if MOST < input.len() {
         return write_bytes(text, 0, b"input too long\n");
     }
-    let mut store = [0u8; 16384];
+    let mut store = [0u8; STORE];
     fonts::make_fresh(&mut store);
     let read = reading::read_stream(&mut store, input);
     let heading = write_bytes(

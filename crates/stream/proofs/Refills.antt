@@ -10,7 +10,7 @@ use lib.ListN.{length, take, drop, length-append, length-drop, drop-of-length-le
 use lib.Dec.{leb}
 use lib.Seq.{take-all, length-take-le, append-snoc}
 use Rattle.blocks.specs.Header.{orientation}
-use Rattle.blocks.specs.Character.{class, width, height, isKeptFirst}
+use Rattle.blocks.specs.Character.{characterFormat, class, width, height, isKeptFirst}
 use Rattle.pictures.specs.declared.picture.Held.the-variants.{Unfinished}
 use Rattle.blocks.proofs.KeptFirst.{is-kept-length}
 use Rattle.form.specs.Layout.{characterRecord, keyOf, markRecord}
@@ -22,7 +22,7 @@ use Rattle.form.proofs.RecordBytes.{held-kept, kept-small}
 use Rattle.store.proofs.Appends.{low-more, Laid, lastStore, first-laid, more-laid, part-waits}
 use Rattle.form.proofs.Codec.{Valid}
 use Rattle.stream.specs.RoundTrip.{commandsOf, commandsIn, markAfter}
-use Rattle.stream.specs.Written.{continuation, writtenRecord, writtenRun}
+use Rattle.stream.specs.Written.{continues, continuation, writtenRecord, writtenRun}
 use Rattle.stream.specs.Writing.{setCode, characterBlock}
 use Rattle.stream.specs.Reading.{Ended}
 use Rattle.stream.specs.declared.reading.Ending.the-variants.{AtEnd}
@@ -83,13 +83,13 @@ module _ (n c : ℕ) (g h d : List ℕ) (low : n ≤ 32767) (code : c ≤ 255) (
       let q : k + 1 + 1 + 1 ≡ k + 3 = omega arith in
       let s1 = lastStore n c h a (st .recs) st in
       let s2 = lastStore n c h (a ++ b) (st .recs) st in
-      let x : reads pre ((setCode c ++ (characterBlock (h ++ a) ++ characterBlock (4 ∷ 1 ∷ b))) ++ rest) (target n m) (allDone k (encode st)) ≡ reads (((pre ++ setCode c) ++ characterBlock (h ++ a)) ++ characterBlock (4 ∷ 1 ∷ b)) rest (target n c) (allDone (k + 1 + 1 + 1) (encode s2)) =
-      ap (λ (l : List ℕ). reads pre l (target n m) (allDone k (encode st))) (words (setCode c) (characterBlock (h ++ a)) (characterBlock (4 ∷ 1 ∷ b)) rest)
-      ∙ on-code pre (characterBlock (h ++ a) ++ (characterBlock (4 ∷ 1 ∷ b) ++ rest)) n m k (encode st) c code
-      ∙ on-character (pre ++ setCode c) (characterBlock (4 ∷ 1 ∷ b) ++ rest) n c (k + 1) (encode st) (h ++ a) s1 (omega (arith, block-length a)) (z .0)
-      ∙ on-character ((pre ++ setCode c) ++ characterBlock (h ++ a)) rest n c (k + 1 + 1) (encode s1) (4 ∷ 1 ∷ b) s2 (omega arith) (y .0) in (
-        ((pre ++ setCode c) ++ characterBlock (h ++ a)) ++ characterBlock (4 ∷ 1 ∷ b),
-        rw (lt-leb (length d) 32751 l, continued b (omega arith), ← q) (subst (λ (f : List ℕ). reads pre ((setCode c ++ (characterBlock (h ++ a) ++ characterBlock (4 ∷ 1 ∷ b))) ++ rest) (target n m) (allDone k (encode st)) ≡ reads (((pre ++ setCode c) ++ characterBlock (h ++ a)) ++ characterBlock (4 ∷ 1 ∷ b)) rest (target n c) (allDone (k + 1 + 1 + 1) (encode (lastStore n c h f (st .recs) st)))) e x),
+      let x : reads pre ((setCode c ++ (characterBlock (h ++ a) ++ characterBlock (characterFormat ∷ continues ∷ b))) ++ rest) (target n m) (allDone k (encode st)) ≡ reads (((pre ++ setCode c) ++ characterBlock (h ++ a)) ++ characterBlock (characterFormat ∷ continues ∷ b)) rest (target n c) (allDone (k + 1 + 1 + 1) (encode s2)) =
+      ap (λ (l : List ℕ). reads pre l (target n m) (allDone k (encode st))) (words (setCode c) (characterBlock (h ++ a)) (characterBlock (characterFormat ∷ continues ∷ b)) rest)
+      ∙ on-code pre (characterBlock (h ++ a) ++ (characterBlock (characterFormat ∷ continues ∷ b) ++ rest)) n m k (encode st) c code
+      ∙ on-character (pre ++ setCode c) (characterBlock (characterFormat ∷ continues ∷ b) ++ rest) n c (k + 1) (encode st) (h ++ a) s1 (omega (arith, block-length a)) (z .0)
+      ∙ on-character ((pre ++ setCode c) ++ characterBlock (h ++ a)) rest n c (k + 1 + 1) (encode s1) (characterFormat ∷ continues ∷ b) s2 (omega arith) (y .0) in (
+        ((pre ++ setCode c) ++ characterBlock (h ++ a)) ++ characterBlock (characterFormat ∷ continues ∷ b),
+        rw (lt-leb (length d) 32751 l, continued b (omega arith), ← q) (subst (λ (f : List ℕ). reads pre ((setCode c ++ (characterBlock (h ++ a) ++ characterBlock (characterFormat ∷ continues ∷ b))) ++ rest) (target n m) (allDone k (encode st)) ≡ reads (((pre ++ setCode c) ++ characterBlock (h ++ a)) ++ characterBlock (characterFormat ∷ continues ∷ b)) rest (target n c) (allDone (k + 1 + 1 + 1) (encode (lastStore n c h f (st .recs) st)))) e x),
         subst (λ (f : List ℕ). Laid n (keyOf n (c + 1) + 1) g (lastStore n c h f (st .recs) st)) e (y .1),
       )
 

@@ -9,7 +9,7 @@ use lib.Seq.{take-all, take-add, take-append-add, drop-append-add, drop-drop}
 use lib.Dec.{leb}
 use borrow.Author.Tests.{le-leb, lt-leb, leb-true, leb-false}
 use Rattle.blocks.specs.Header.{blockLimit, headerBytes, ownBytes, ownHeader}
-use Rattle.blocks.specs.Character.{descriptorBytes}
+use Rattle.blocks.specs.Character.{descriptorBytes, characterFormat}
 use Rattle.blocks.proofs.HeaderBytes.{own-length}
 use Rattle.form.specs.Model.{Rec, font, sizeOf}
 use Rattle.form.specs.Records.{recordsOf, recordsAt, MetAt, fontFrom, FontMet, characterFrom, CharacterMet, Meeting, Between}
@@ -22,7 +22,7 @@ use Rattle.form.proofs.FontRecords.{between-none, between-next, font-records}
 use Rattle.stream.specs.Digits.{decimal}
 use Rattle.store.specs.Change.{withBytes}
 use Rattle.stream.specs.Writing.{spelling, setFont, setCode, fontBlockHead, fontBlock, characterBlockHead, characterBlock}
-use Rattle.stream.specs.Written.{firstData, continuation, writtenRecord, writtenRun, written, WriteOut, unwritten, writingBytes, writingFont}
+use Rattle.stream.specs.Written.{firstData, continues, continuation, writtenRecord, writtenRun, written, WriteOut, unwritten, writingBytes, writingFont}
 use Rattle.stream.specs.Run.{blocks, writtenCharacter}
 use Rattle.stream.proofs.Putting.{length-put, put-none, put-byte, put-joined}
 use Rattle.stream.proofs.Spellings.{length-spelling, block-put}
@@ -62,15 +62,15 @@ pub blocks-one : (b : List ℕ) → length b ≤ blockLimit → blocks b ≡ cha
 unfolding blocks
 blocks-one b h = rw (le-leb (length b) blockLimit h)
 
-pub blocks-two : (b : List ℕ) → blockLimit < length b → blocks b ≡ characterBlock (take blockLimit b) ++ characterBlock (4 ∷ 1 ∷ take (length b - blockLimit) (drop blockLimit b))
+pub blocks-two : (b : List ℕ) → blockLimit < length b → blocks b ≡ characterBlock (take blockLimit b) ++ characterBlock (characterFormat ∷ continues ∷ take (length b - blockLimit) (drop blockLimit b))
 unfolding blocks
 blocks-two b h = rw (lt-leb (length b) blockLimit h, take-all (length b - blockLimit) (drop blockLimit b) (omega (arith, length-drop blockLimit b)))
 
 pub blocks-room : (b : List ℕ) (to n : ℕ) → blockLimit < length b → to + length (blocks b) ≤ n
     → (to + length (characterBlock (take blockLimit b)) ≤ n)
-    × (to + length (characterBlock (take blockLimit b)) + length (characterBlock (4 ∷ 1 ∷ take (length b - blockLimit) (drop blockLimit b))) ≤ n)
+    × (to + length (characterBlock (take blockLimit b)) + length (characterBlock (characterFormat ∷ continues ∷ take (length b - blockLimit) (drop blockLimit b))) ≤ n)
 blocks-room b to n l h =
-    joined-room (blocks b) (characterBlock (take blockLimit b)) (characterBlock (4 ∷ 1 ∷ take (length b - blockLimit) (drop blockLimit b))) to n (blocks-two b l) h
+    joined-room (blocks b) (characterBlock (take blockLimit b)) (characterBlock (characterFormat ∷ continues ∷ take (length b - blockLimit) (drop blockLimit b))) to n (blocks-two b l) h
 
 pub one-length : (b : List ℕ) (n x : ℕ) → length b ≡ n → n ≤ blockLimit → x ≡ 4 + length (decimal n) → x + n ≡ length (blocks b)
 one-length b n x e h p = omega (arith, ap length (blocks-one b (omega arith)), length-block b, same-digits (length b) n e)
@@ -81,10 +81,10 @@ two-length b n x y e h p q =
     let f = take blockLimit b in
     let c = take (length b - blockLimit) (drop blockLimit b) in
     let lf : length (take blockLimit b) ≡ blockLimit = simp length-take (omega arith) in
-    let lc : length (4 ∷ 1 ∷ take (length b - blockLimit) (drop blockLimit b)) ≡ n - blockLimit + 2 = simp (length-take, length-drop) (omega arith) in
-    omega (arith, ap length (blocks-two b (omega arith)), length-append (characterBlock f) (characterBlock (4 ∷ 1 ∷ c)), length-block f, length-block (4 ∷ 1 ∷ c), lf, lc, same-digits (length f) blockLimit lf, same-digits (length (4 ∷ 1 ∷ c)) (n - blockLimit + 2) lc)
+    let lc : length (characterFormat ∷ continues ∷ take (length b - blockLimit) (drop blockLimit b)) ≡ n - blockLimit + 2 = simp (length-take, length-drop) (omega arith) in
+    omega (arith, ap length (blocks-two b (omega arith)), length-append (characterBlock f) (characterBlock (characterFormat ∷ continues ∷ c)), length-block f, length-block (characterFormat ∷ continues ∷ c), lf, lc, same-digits (length f) blockLimit lf, same-digits (length (characterFormat ∷ continues ∷ c)) (n - blockLimit + 2) lc)
 
-pub continued : (d : List ℕ) → 0 < length d → continuation d ≡ characterBlock (4 ∷ 1 ∷ d)
+pub continued : (d : List ℕ) → 0 < length d → continuation d ≡ characterBlock (characterFormat ∷ continues ∷ d)
 unfolding continuation
 continued [] l = absurd (omega arith)
 continued (b ∷ d) l = refl
@@ -109,26 +109,26 @@ as-blocks h d e = go (leb (length d) firstData) refl
         rw (blocks-two (h ++ d) (omega (arith, l)), a, b, c, continued (drop firstData d) (omega (arith, length-drop firstData d)))
 
 -- ── a continuation
-continuation-is : (b : List ℕ) → characterBlock (4 ∷ 1 ∷ b) ≡ characterBlockHead (length b + 2) ++ (4 ∷ 1 ∷ b)
+continuation-is : (b : List ℕ) → characterBlock (characterFormat ∷ continues ∷ b) ≡ characterBlockHead (length b + 2) ++ (characterFormat ∷ continues ∷ b)
 unfolding characterBlock
-continuation-is b = let e : length (4 ∷ 1 ∷ b) ≡ length b + 2 = omega arith in ap (λ (k : ℕ). characterBlockHead k ++ (4 ∷ 1 ∷ b)) e
+continuation-is b = let e : length (characterFormat ∷ continues ∷ b) ≡ length b + 2 = omega arith in ap (λ (k : ℕ). characterBlockHead k ++ (characterFormat ∷ continues ∷ b)) e
 
-pub continuation-length : (b : List ℕ) → length (characterBlock (4 ∷ 1 ∷ b)) ≡ length (characterBlockHead (length b + 2)) + 2 + length b
-continuation-length b = omega (arith, ap length (continuation-is b), length-append (characterBlockHead (length b + 2)) (4 ∷ 1 ∷ b))
+pub continuation-length : (b : List ℕ) → length (characterBlock (characterFormat ∷ continues ∷ b)) ≡ length (characterBlockHead (length b + 2)) + 2 + length b
+continuation-length b = omega (arith, ap length (continuation-is b), length-append (characterBlockHead (length b + 2)) (characterFormat ∷ continues ∷ b))
 
-two-bytes : (s b : List ℕ) (at : ℕ) → at + 2 + length b ≤ length s → withBytes (set (set s at 4) (at + 1) 1) (at + 2) b ≡ withBytes s at (4 ∷ 1 ∷ b)
+two-bytes : (s b : List ℕ) (at : ℕ) → at + 2 + length b ≤ length s → withBytes (set (set s at 4) (at + 1) 1) (at + 2) b ≡ withBytes s at (characterFormat ∷ continues ∷ b)
 two-bytes s b at h =
     let x : at + 1 < length (withBytes s at (4 ∷ [])) = rw (length-put s (4 ∷ []) at (omega arith)) (omega arith) in
     rw (put-byte s at 4 (omega arith), put-byte (withBytes s at (4 ∷ [])) (at + 1) 1 x, put-joined s (4 ∷ []) (1 ∷ []) at (omega arith))
-    (put-joined s (4 ∷ 1 ∷ []) b at (omega arith))
+    (put-joined s (characterFormat ∷ continues ∷ []) b at (omega arith))
 
-pub continuation-put : (s b out last : List ℕ) (at from end : ℕ) → at + length (characterBlock (4 ∷ 1 ∷ b)) ≤ length s → from ≡ at + length (characterBlockHead (length b + 2))
+pub continuation-put : (s b out last : List ℕ) (at from end : ℕ) → at + length (characterBlock (characterFormat ∷ continues ∷ b)) ≤ length s → from ≡ at + length (characterBlockHead (length b + 2))
     → out ≡ withBytes s at (characterBlockHead (length b + 2)) → end ≡ from + 2 + length b → last ≡ withBytes (set (set out from 4) (from + 1) 1) (from + 2) b
-    → (end ≡ at + length (characterBlock (4 ∷ 1 ∷ b))) × (last ≡ withBytes s at (characterBlock (4 ∷ 1 ∷ b)))
+    → (end ≡ at + length (characterBlock (characterFormat ∷ continues ∷ b))) × (last ≡ withBytes s at (characterBlock (characterFormat ∷ continues ∷ b)))
 continuation-put s b out last at from end h p q r t =
     let l = continuation-length b in
     let k : length out ≡ length s = ap length q ∙ length-put s (characterBlockHead (length b + 2)) at (omega arith) in
-    joined-put s (characterBlock (4 ∷ 1 ∷ b)) (characterBlockHead (length b + 2)) (4 ∷ 1 ∷ b) out last at from end (continuation-is b) h p q (omega arith) (t ∙ two-bytes out b from (omega arith))
+    joined-put s (characterBlock (characterFormat ∷ continues ∷ b)) (characterBlockHead (length b + 2)) (characterFormat ∷ continues ∷ b) out last at from end (continuation-is b) h p q (omega arith) (t ∙ two-bytes out b from (omega arith))
 
 -- ── a record
 -- the part of a kept header that the code lends

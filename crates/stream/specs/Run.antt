@@ -5,11 +5,13 @@ use mathlib.Core.Bool.{cond}
 use lib.Dec.{leb}
 use lib.ListN.{length, take, drop}
 use Rattle.blocks.specs.Header.{blockLimit}
+use Rattle.blocks.specs.Character.{characterFormat}
 use Rattle.stream.specs.Writing.{setCode, characterBlock}
+use Rattle.stream.specs.Written.{continues}
 
 -- in one block or two
 unfoldable pub blocks : List ℕ → List ℕ
-blocks b = cond (leb (length b) blockLimit) (characterBlock b) (characterBlock (take blockLimit b) ++ characterBlock (4 ∷ 1 ∷ drop blockLimit b))
+blocks b = cond (leb (length b) blockLimit) (characterBlock b) (characterBlock (take blockLimit b) ++ characterBlock (characterFormat ∷ continues ∷ drop blockLimit b))
 
 -- with its code before them
 unfoldable pub writtenCharacter : ℕ → List ℕ → List ℕ

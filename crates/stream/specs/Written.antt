@@ -4,6 +4,7 @@ use mathlib.Core.List.{List, [], _∷_, _++_}
 use lib.Dec.{leb}
 use lib.ListN.{length, take, drop}
 use Rattle.blocks.specs.Header.{ownHeader}
+use Rattle.blocks.specs.Character.{characterFormat}
 use Rattle.form.specs.Model.{Rec, font, character}
 use Rattle.form.specs.Records.{recordsOf}
 use Rattle.form.specs.Checks.{checked, onFont}
@@ -16,9 +17,12 @@ abbrev pub firstData : ℕ
 firstData = 32751
 
 -- "one continuation (byte 1 is 1) for the rest": none, if there is no rest
+abbrev pub continues : ℕ
+continues = 1
+
 unfoldable pub continuation : List ℕ → List ℕ
 continuation [] = []
-continuation (b ∷ d) = characterBlock (4 ∷ 1 ∷ b ∷ d)
+continuation (b ∷ d) = characterBlock (characterFormat ∷ continues ∷ b ∷ d)
 
 -- "D, header (64 bytes), then per rising code E, a first block .., one continuation .." W-206: "The write-out gives back the format received",
 -- 68 header bytes for format 20

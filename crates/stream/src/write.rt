@@ -10,10 +10,12 @@ ghost use Rattle.form.specs.Records.{recordsAt, RecordPlace, MetAt, Between};
 ghost use Rattle.stream.specs.Digits.{decimal};
 ghost use Rattle.store.specs.Change.{withBytes};
 ghost use Rattle.stream.specs.Writing.{characterBlock};
-ghost use Rattle.stream.specs.Written.{writtenRecord, writtenRun, writtenOf, writingBytes, writingFont};
+ghost use Rattle.blocks.specs.Character.{characterFormat};
+ghost use Rattle.stream.specs.Written.{continues, writtenRecord, writtenRun, writtenOf, writingBytes, writingFont};
 ghost use Rattle.stream.specs.Run.{blocks, writtenCharacter};
 use crate::digits::digit_count;
 use crate::writing;
+use blocks::character;
 use blocks::character::CONTINUATION;
 use blocks::header;
 use blocks::header::BLOCK_LIMIT;
@@ -51,6 +53,9 @@ pub fn unwritten(refusal: u32) -> Written
         length: 0,
     }
 }
+
+// Byte 1 of a continuation that is written.
+const CONTINUES: u8 = 1;
 
 // What a command has beside the digits of its number: ESC, two bytes and a letter.
 const COMMAND_BYTES: usize = 4;
@@ -139,12 +144,12 @@ fn written_length(s: &[u8], lo: usize, hi: usize) -> usize
 
 // A continuation, with this data.
 fn write_continuation(out: &mut [u8], to: usize, b: &[u8]) -> usize
-    requires { ⌜ to + length (characterBlock (4 ∷ 1 ∷ now b)) ≤ length (now out) ⌝ }
-    ensures { λ r. ⌜ (r ≡ to + length (characterBlock (4 ∷ 1 ∷ now (b .entry)))) × (now (out .exit) ≡ withBytes (now (out .entry)) to (characterBlock (4 ∷ 1 ∷ now (b .entry)))) ⌝ }
+    requires { ⌜ to + length (characterBlock (characterFormat ∷ continues ∷ now b)) ≤ length (now out) ⌝ }
+    ensures { λ r. ⌜ (r ≡ to + length (characterBlock (characterFormat ∷ continues ∷ now (b .entry)))) × (now (out .exit) ≡ withBytes (now (out .entry)) to (characterBlock (characterFormat ∷ continues ∷ now (b .entry)))) ⌝ }
 {
     let next = writing::write_character_head(out, to, b.len() + CONTINUATION);
-    out[next] = 4;
-    out[next + 1] = 1;
+    out[next] = character::FORMAT;
+    out[next + 1] = CONTINUES;
     writing::write_bytes(out, next + CONTINUATION, b)
 }
 
