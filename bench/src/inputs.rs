@@ -571,9 +571,9 @@ fn stream_of_fonts(fonts: impl Iterator<Item = usize>) -> Vec<u8> {
     stream
 }
 
-/// As many fonts as give a stream of nearly the store's length.
+/// As many fonts as the store takes.
 fn fonts_in_a_stream(length: usize) -> usize {
-    length / 80
+    (length - MARK_RECORD) / FONT_RECORD
 }
 
 fn read_fonts(length: usize) -> Input {

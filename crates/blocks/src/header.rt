@@ -263,5 +263,11 @@ pub fn is_kept_header(k: &[u8]) -> bool
     if k.len() != KEPT {
         return false;
     }
-    fixed_header(k) & (header_fields(k) & header_resolution(k))
+    if !fixed_header(k) {
+        return false;
+    }
+    if !header_fields(k) {
+        return false;
+    }
+    header_resolution(k)
 }

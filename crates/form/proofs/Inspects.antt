@@ -1,5 +1,5 @@
 -- What the inspection of a buffer answers, by its first record and the walk over the others. Assumes nothing.
-use mathlib.Core.Path.{_≡_, refl, _∙_}
+use mathlib.Core.Path.{_≡_, refl, ap, _∙_}
 use mathlib.Core.List.{List}
 use mathlib.Core.Bool.{Bool, true, false, not, cond, _||_}
 use mathlib.Core.Option.{Option, none, some}
@@ -10,13 +10,15 @@ use lib.Dec.{eqb, leb}
 use borrow.Author.Tests.{eqb-true, le-leb, lt-leb, ne-eqb}
 use Rattle.form.specs.Layout.{keyOf, kindAt, lastCode, lastFont, leastStore, markRecord, mostStore, markKind}
 use Rattle.form.specs.Num.{_&_, field}
-use Rattle.form.specs.Model.{Rec, Mark, alone, sorted, noCharacters, tallyOf, counted, opened, markOk, guard, split, markIn, begins, validOr, decode}
+use Rattle.form.specs.Model.{Rec, Mark, alone, Store, sorted, noCharacters, tallyOf, counted, opened, total, markOk, guard, split, markIn, begins, validOr, decode}
+use Rattle.form.specs.Cursor.{StoreEnds}
 use Rattle.form.proofs.Counts.{settled-counted}
-use Rattle.form.specs.Walk.{walkStart, queryFor, placesOf, placesFrom, tallied, walkedOver, walked, markSeen, surveyedOver, surveyed, inspected}
+use Rattle.form.specs.Walk.{walkStart, tallied, walkedOver, walked, markSeen, surveyedOver, surveyed, checkedStore, inspected, Stands}
 use Rattle.form.specs.declared.walk.Places.{Places}
 use Rattle.form.specs.declared.walk.Walk.the-variants.{Run, NotStore}
 use Rattle.form.specs.declared.walk.MarkSeen.{MarkSeen}
 use Rattle.form.specs.declared.walk.MarkSeen.the-variants.{Shut, Open, Wrong}
+use Rattle.form.specs.declared.walk.Checked.the-variants.{Store as Is, NotStore}
 use Rattle.form.specs.declared.walk.Inspected.the-variants.{Found, NotStore}
 
 -- ── the first record
@@ -67,38 +69,38 @@ module _ (m : Mark) where
   seen-open a b c = rw (a, le-leb (m .fontOf) lastFont b, le-leb (m .codeOf) lastCode c)
 
 -- ── the records
-module _ (n p m : ℕ) (must : Bool) (s : List ℕ) where
-  surveyed-some : (rs : List Rec) (w : Places) (k : Bool) → walkedOver (queryFor n p m) walkStart s (some rs) ≡ Run w k → surveyedOver n p m must s (some rs) ≡ cond (not must || k) (Found w) NotStore
+module _ (m : ℕ) (must : Bool) (s : List ℕ) where
+  surveyed-some : (rs : List Rec) (u : ℕ) (k : Bool) → walkedOver m walkStart s (some rs) ≡ Run u k → surveyedOver m must s (some rs) ≡ cond (not must || k) (Is u) NotStore
   unfolding walkedOver surveyedOver _&_
-  surveyed-some rs w k e = rw (← (settled-counted s rs)) (go (sorted 0 alone rs & tallied noCharacters noCharacters s rs) e)
+  surveyed-some rs u k e = rw (← (settled-counted s rs)) (go (sorted 0 alone rs & tallied noCharacters noCharacters s rs) e)
     where
-      go : (b : Bool) → cond b (Run (placesFrom (queryFor n p m) walkStart rs) (opened m rs)) NotStore ≡ Run w k
-          → cond (b & (not must || opened m rs)) (Found (placesOf n p rs)) NotStore ≡ cond (not must || k) (Found w) NotStore
+      go : (b : Bool) → cond b (Run (markRecord + total rs) (opened m rs)) NotStore ≡ Run u k
+          → cond (b & (not must || opened m rs)) (Is (markRecord + total rs)) NotStore ≡ cond (not must || k) (Is u) NotStore
       go true e' =
-          let a : placesFrom (queryFor n p m) walkStart rs ≡ w = cc in
+          let a : markRecord + total rs ≡ u = cc in
           let b : opened m rs ≡ k = cc in
           rw (← b, ← a)
       go false e' = let z : _≡_ {A = ℕ} 0 1 = cc in absurd (omega arith)
 
-  surveyed-none : (rs : List Rec) → walkedOver (queryFor n p m) walkStart s (some rs) ≡ NotStore → surveyedOver n p m must s (some rs) ≡ NotStore
+  surveyed-none : (rs : List Rec) → walkedOver m walkStart s (some rs) ≡ NotStore → surveyedOver m must s (some rs) ≡ NotStore
   unfolding walkedOver surveyedOver _&_
   surveyed-none rs e = rw (← (settled-counted s rs)) (go (sorted 0 alone rs & tallied noCharacters noCharacters s rs) e)
     where
-      go : (b : Bool) → cond b (Run (placesFrom (queryFor n p m) walkStart rs) (opened m rs)) NotStore ≡ NotStore → cond (b & (not must || opened m rs)) (Found (placesOf n p rs)) NotStore ≡ NotStore
+      go : (b : Bool) → cond b (Run (markRecord + total rs) (opened m rs)) NotStore ≡ NotStore → cond (b & (not must || opened m rs)) (Is (markRecord + total rs)) NotStore ≡ NotStore
       go true e' = let z : _≡_ {A = ℕ} 0 1 = cc in absurd (omega arith)
       go false e' = refl
 
-  pub surveyed-run : (w : Places) (k : Bool) → walked (queryFor n p m) walkStart s ≡ Run w k → surveyed n p m must s ≡ cond (not must || k) (Found w) NotStore
-  surveyed-run w k e = go (split s) e
+  pub surveyed-run : (u : ℕ) (k : Bool) → walked m walkStart s ≡ Run u k → surveyed m must s ≡ cond (not must || k) (Is u) NotStore
+  surveyed-run u k e = go (split s) e
     where
-      go : (o : Option (List Rec)) → walkedOver (queryFor n p m) walkStart s o ≡ Run w k → surveyedOver n p m must s o ≡ cond (not must || k) (Found w) NotStore
+      go : (o : Option (List Rec)) → walkedOver m walkStart s o ≡ Run u k → surveyedOver m must s o ≡ cond (not must || k) (Is u) NotStore
       go none e' = unfold walkedOver in let z : _≡_ {A = ℕ} 0 1 = cc in absurd (omega arith)
-      go (some rs) e' = surveyed-some rs w k e'
+      go (some rs) e' = surveyed-some rs u k e'
 
-  pub surveyed-broken : walked (queryFor n p m) walkStart s ≡ NotStore → surveyed n p m must s ≡ NotStore
+  pub surveyed-broken : walked m walkStart s ≡ NotStore → surveyed m must s ≡ NotStore
   surveyed-broken e = go (split s) e
     where
-      go : (o : Option (List Rec)) → walkedOver (queryFor n p m) walkStart s o ≡ NotStore → surveyedOver n p m must s o ≡ NotStore
+      go : (o : Option (List Rec)) → walkedOver m walkStart s o ≡ NotStore → surveyedOver m must s o ≡ NotStore
       go none e' = unfold surveyedOver in refl
       go (some rs) e' = surveyed-none rs e'
 
@@ -122,42 +124,61 @@ mark-by m rs = go (eqb (m .on) 0) (eqb (m .fontOf) 0 & eqb (m .codeOf) 0) (eqb (
     go false b true false e = unfold _&_ in refl
     go false b false d e = unfold _&_ in refl
 
-module _ (n p : ℕ) (s : List ℕ) where
-  pub inspect-not : begins s ≡ false → inspected n p (decode s) ≡ NotStore
-  unfolding decode guard inspected
-  inspect-not e = rw e
+module _ (s : List ℕ) where
+  pub check-not : begins s ≡ false → checkedStore (decode s) ≡ NotStore
+  unfolding decode guard checkedStore
+  check-not e = rw e
 
   abbrev records : List ℕ
   records = drop markRecord s
 
-  inspect-by : begins s ≡ true → inspected n p (decode s) ≡ inspected n p (validOr (length s) (markIn s) records (split records))
+  check-by : begins s ≡ true → checkedStore (decode s) ≡ checkedStore (validOr (length s) (markIn s) records (split records))
   unfolding decode guard
-  inspect-by e = rw e
+  check-by e = rw e
 
-  pub inspect-wrong : begins s ≡ true → markSeen (markIn s) ≡ Wrong → inspected n p (decode s) ≡ NotStore
-  inspect-wrong e w = inspect-by e ∙ go (split records)
+  pub check-wrong : begins s ≡ true → markSeen (markIn s) ≡ Wrong → checkedStore (decode s) ≡ NotStore
+  check-wrong e w = check-by e ∙ go (split records)
     where
-      go : (o : Option (List Rec)) → inspected n p (validOr (length s) (markIn s) records o) ≡ NotStore
-      go none = unfold validOr inspected in refl
-      go (some rs) = unfold validOr inspected guard in rw (mark-by (markIn s) rs, w) (fail (sorted 0 alone rs & counted (tallyOf rs) records rs) rs)
+      go : (o : Option (List Rec)) → checkedStore (validOr (length s) (markIn s) records o) ≡ NotStore
+      go none = unfold validOr checkedStore in refl
+      go (some rs) = unfold validOr checkedStore guard in rw (mark-by (markIn s) rs, w) (fail (sorted 0 alone rs & counted (tallyOf rs) records rs) rs)
         where
-          fail : (b : Bool) (rs : List Rec) → inspected n p (guard (b & false) (some (record { size = length s; mark = markIn s; recs = rs }))) ≡ NotStore
-          fail true rs = unfold _&_ guard inspected in refl
-          fail false rs = unfold _&_ guard inspected in refl
+          fail : (b : Bool) (rs : List Rec) → checkedStore (guard (b & false) (some (record { size = length s; mark = markIn s; recs = rs }))) ≡ NotStore
+          fail true rs = unfold _&_ guard checkedStore in refl
+          fail false rs = unfold _&_ guard checkedStore in refl
 
-  inspect-is : (m : ℕ) (must : Bool) → begins s ≡ true → ((rs : List Rec) → markOk (markIn s) rs ≡ not must || opened m rs) → inspected n p (decode s) ≡ surveyed n p m must records
-  inspect-is m must e k = inspect-by e ∙ go (split records)
+  check-is : (m : ℕ) (must : Bool) → begins s ≡ true → ((rs : List Rec) → markOk (markIn s) rs ≡ not must || opened m rs) → checkedStore (decode s) ≡ surveyed m must records
+  check-is m must e k = check-by e ∙ go (split records)
     where
-      give : (b : Bool) (rs : List Rec) → inspected n p (guard b (some (record { size = length s; mark = markIn s; recs = rs }))) ≡ cond b (Found (placesOf n p rs)) NotStore
-      give true rs = unfold guard inspected in refl
-      give false rs = unfold guard inspected in refl
+      give : (b : Bool) (rs : List Rec) → checkedStore (guard b (some (record { size = length s; mark = markIn s; recs = rs }))) ≡ cond b (Is (markRecord + total rs)) NotStore
+      give true rs = unfold guard checkedStore in refl
+      give false rs = unfold guard checkedStore in refl
 
-      go : (o : Option (List Rec)) → inspected n p (validOr (length s) (markIn s) records o) ≡ surveyedOver n p m must records o
-      go none = unfold validOr inspected surveyedOver in refl
+      go : (o : Option (List Rec)) → checkedStore (validOr (length s) (markIn s) records o) ≡ surveyedOver m must records o
+      go none = unfold validOr checkedStore surveyedOver in refl
       go (some rs) = unfold validOr surveyedOver in rw (k rs) (give ((sorted 0 alone rs & counted (tallyOf rs) records rs) & (not must || opened m rs)) rs)
 
-  pub inspect-shut : begins s ≡ true → markSeen (markIn s) ≡ Shut → inspected n p (decode s) ≡ surveyed n p 0 false records
-  inspect-shut e w = inspect-is 0 false e (λ rs. mark-by (markIn s) rs ∙ rw w)
+  pub check-shut : begins s ≡ true → markSeen (markIn s) ≡ Shut → checkedStore (decode s) ≡ surveyed 0 false records
+  check-shut e w = check-is 0 false e (λ rs. mark-by (markIn s) rs ∙ rw w)
 
-  pub inspect-open : (k : ℕ) → begins s ≡ true → markSeen (markIn s) ≡ Open k → inspected n p (decode s) ≡ surveyed n p k true records
-  inspect-open k e w = inspect-is k true e (λ rs. mark-by (markIn s) rs ∙ rw w)
+  pub check-open : (k : ℕ) → begins s ≡ true → markSeen (markIn s) ≡ Open k → checkedStore (decode s) ≡ surveyed k true records
+  check-open k e w = check-is k true e (λ rs. mark-by (markIn s) rs ∙ rw w)
+
+-- ── the places, by the check and the search behind it
+pub inspect-not : (n p : ℕ) (s : List ℕ) → checkedStore (decode s) ≡ NotStore → inspected n p (decode s) ≡ NotStore
+inspect-not n p s e = go (decode s) e
+  where
+    go : (o : Option Store) → checkedStore o ≡ NotStore → inspected n p o ≡ NotStore
+    go none e' = unfold inspected in refl
+    go (some st) e' = unfold checkedStore in let z : _≡_ {A = ℕ} 0 1 = cc in absurd (omega arith)
+
+pub ends-by : (s : List ℕ) (u : ℕ) → checkedStore (decode s) ≡ Is u → StoreEnds s u
+ends-by s u e = go (decode s) refl e
+  where
+    go : (o : Option Store) → decode s ≡ o → checkedStore o ≡ Is u → StoreEnds s u
+    go none q e' = unfold checkedStore in let z : _≡_ {A = ℕ} 0 1 = cc in absurd (omega arith)
+    go (some st) q e' = unfold checkedStore in let a : u ≡ markRecord + total (st .recs) = cc in record { store = st; is = q; used = a }
+
+pub inspect-found : (n p : ℕ) (s : List ℕ) (w : Places) → Stands n p s w → inspected n p (decode s) ≡ Found w
+unfolding inspected
+inspect-found n p s w x = rw (x .is) (ap Found (x .at))

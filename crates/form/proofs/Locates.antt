@@ -13,7 +13,7 @@ use Rattle.form.specs.Model.{Rec, Store, Under, under, alone, sorted, nu
 use Rattle.form.specs.Order.{keep, below, from, after}
 use Rattle.form.specs.Records.{isStore}
 use Rattle.form.specs.Walk.{Stands}
-use Rattle.form.specs.Cursor.{keyAt, Reaches, Seeking, Points}
+use Rattle.form.specs.Cursor.{keyAt, StoreEnds, Reaches, Seeking, Points}
 use Rattle.form.specs.declared.locate.Cursor.{Cursor}
 use Rattle.form.proofs.Fields.{field-drop}
 use Rattle.form.proofs.RecordBytes.{Headed, is-font, is-character, head-inv}
@@ -198,20 +198,24 @@ module _ (s : List ℕ) (c : Cursor) (x : Points s c) where
   pub from-here : (k : ℕ) → c .key ≤ k → Seeking s (c .used) k (c .at)
   from-here k l = record { store = x .store; is = x .is; used = x .used; base = c .key; low = l; at = x .at }
 
-  pub from-front : (k : ℕ) → Seeking s (c .used) k markRecord
+  pub ends-there : StoreEnds s (c .used)
+  ends-there = record { store = x .store; is = x .is; used = x .used }
+
+module _ (s : List ℕ) (end : ℕ) (x : StoreEnds s end) where
+  pub from-front : (k : ℕ) → Seeking s end k markRecord
   unfolding total
   from-front k =
       let z : total (below 0 (x .store .recs)) ≡ 0 = ap total (none-below 0 0 alone (x .store .recs) (decoded s (x .store) (x .is) .2) (omega arith)) in
       record { store = x .store; is = x .is; used = x .used; base = 0; low = omega arith; at = omega (arith, z) }
 
-  pub from-found : (j k here : ℕ) → Reaches s j here → j ≤ k → Seeking s (c .used) k here
+  pub from-found : (j k here : ℕ) → Reaches s j here → j ≤ k → Seeking s end k here
   from-found j k here y l =
       let i : y .store ≡ x .store = same-store s (y .is) (x .is) in
       record { store = x .store; is = x .is; used = x .used; base = j; low = l; at = rw i at (y .at) }
 
   -- the four places, each found
   pub four : (n p lo from to hi : ℕ) → Reaches s (keyOf n 0) lo → Reaches s (keyOf n p) from → Reaches s (keyOf n p + 1) to → Reaches s (keyOf (n + 1) 0) hi
-      → Stands n p s (record { used = c .used; lo = lo; from = from; to = to; hi = hi })
+      → Stands n p s (record { used = end; lo = lo; from = from; to = to; hi = hi })
   four n p lo from to hi a b d e =
       let rs = x .store .recs in
       let at : (k here : ℕ) → Reaches s k here → markRecord + total (below k rs) ≡ here = λ k here y. let i : y .store ≡ x .store = same-store s (y .is) (x .is) in sym (rw i at (y .at)) in

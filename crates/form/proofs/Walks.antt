@@ -13,9 +13,7 @@ use borrow.Author.Tests.{eqb-true, ltb-true, le-leb, lt-leb, eq-eqb, ne-eqb}
 use Rattle.form.specs.Layout.{keyOf, characterRecord, lastFont}
 use Rattle.form.specs.Num.{_&_, field, allZero}
 use Rattle.form.specs.Model.{Rec, font, character, Under, under, allowed, sorted, unfinished, opened, number, place, key, noCharacters, oneMore, sameTally, headRec, sizeOf, total, consTo, andThen, split}
-use Rattle.form.specs.Order.{keep, below}
-use Rattle.form.specs.Walk.{tallyHeld, itemOf, seen, headOf, standing, countIf, tallyBehind, metBehind, settled, behind, passed, placesFrom, tallied, walkedOver, walked, walkAfter, Within, Ahead}
-use Rattle.form.specs.declared.walk.Query.{Query}
+use Rattle.form.specs.Walk.{tallyHeld, itemOf, seen, headOf, standing, tallyBehind, metBehind, settled, behind, passed, tallied, walkedOver, walked, walkAfter, Within, Ahead}
 use Rattle.form.specs.declared.walk.Item.{Item}
 use Rattle.form.specs.declared.walk.Pos.{Pos}
 use Rattle.form.specs.declared.walk.Head.the-variants.{End, Rec as HeadRec, Bad}
@@ -77,15 +75,6 @@ unfolding under number
 under-is u (font n h) e = refl
 under-is u (character n c h d) e = let p = allowed-char u n c h d e in rw (p .owner)
 
-total-cond : (b : Bool) (r : Rec) (rs : List Rec) → total (cond b (r ∷ rs) rs) ≡ countIf b (sizeOf r) + total rs
-unfolding total countIf
-total-cond true r rs = refl
-total-cond false r rs = omega arith
-
-pub total-below : (k : ℕ) (r : Rec) (rs : List Rec) (n : ℕ) → n + total (below k (r ∷ rs)) ≡ n + countIf (ltb (key r) k) (sizeOf r) + total (below k rs)
-unfolding keep
-total-below k r rs n = omega (arith, total-cond (ltb (key r) k) r (below k rs))
-
 and-is : (a b : Bool) → (a & b) ≡ (a && b)
 unfolding _&_
 and-is true b = refl
@@ -102,16 +91,6 @@ or-assoc false b c = refl
 marked-more : (m : Bool) (k : ℕ) (r : Rec) (rs : List Rec) → (m || opened k (r ∷ rs)) ≡ (m || (eqb (key r) k && unfinished r) || opened k rs)
 unfolding opened
 marked-more m k r rs = rw (and-is (eqb (key r) k) (unfinished r)) (or-assoc m (eqb (key r) k && unfinished r) (opened k rs))
-
-places-more : (q : Query) (p : Pos) (u : Under) (s : List ℕ) (r : Rec) (rs : List Rec) → placesFrom q p (r ∷ rs) ≡ placesFrom q (behind q p (itemOf u s r)) rs
-places-more q p u s r rs =
-    rw (
-      total-more r rs (p .at),
-      total-below (q .lo) r rs (p .lo),
-      total-below (q .from) r rs (p .from),
-      total-below (q .to) r rs (p .to),
-      total-below (q .hi) r rs (p .hi),
-    )
 
 -- what fonts hold is true, record by record
 tallied-more : (p : Pos) (u : Under) (s : List ℕ) (r : Rec) (rs : List Rec)
@@ -131,13 +110,13 @@ cond-step true false true e x y = refl
 cond-step true false false e x y = refl
 cond-step false c d e x y = refl
 
-walked-cons : (q : Query) (p : Pos) (s : List ℕ) (r : Rec) (o : Option (List Rec)) → allowed (standing p) r ≡ true
-    → walkedOver q p s (consTo r o) ≡ cond (leb (p .key) (key r) & settled p (itemOf (standing p) s r)) (walkedOver q (behind q p (itemOf (standing p) s r)) (drop (sizeOf r) s) o) NotStore
+walked-cons : (m : ℕ) (p : Pos) (s : List ℕ) (r : Rec) (o : Option (List Rec)) → allowed (standing p) r ≡ true
+    → walkedOver m p s (consTo r o) ≡ cond (leb (p .key) (key r) & settled p (itemOf (standing p) s r)) (walkedOver m (behind m p (itemOf (standing p) s r)) (drop (sizeOf r) s) o) NotStore
 unfolding walkedOver consTo sorted
-walked-cons q p s r none a = sym (cond-same (leb (p .key) (key r) & settled p (itemOf (standing p) s r)) NotStore)
-walked-cons q p s r (some rs) a =
+walked-cons m p s r none a = sym (cond-same (leb (p .key) (key r) & settled p (itemOf (standing p) s r)) NotStore)
+walked-cons m p s r (some rs) a =
     let i = itemOf (standing p) s r in
-    rw (tallied-more p (standing p) s r rs, a, cond-step (leb (p .key) (key r)) (sorted (key r + 1) (under (standing p) r) rs) (settled p i) (tallied (tallyBehind p i) (metBehind p i) (drop (sizeOf r) s) rs), places-more q p (standing p) s r rs, marked-more (p .marked) (q .mark) r rs)
+    rw (tallied-more p (standing p) s r rs, a, cond-step (leb (p .key) (key r)) (sorted (key r + 1) (under (standing p) r) rs) (settled p i) (tallied (tallyBehind p i) (metBehind p i) (drop (sizeOf r) s) rs), total-more r rs (p .at), marked-more (p .marked) m r rs)
     (rw (under-is (standing p) r a))
 
 -- ── the end, a record, or neither
@@ -198,67 +177,63 @@ bad-seen u s e = go (ltb (length s) characterRecord) (eqb (field 4 0 s) 0) e
     go false true e' = cc
     go false false e' = e'
 
-module _ (q : Query) (p : Pos) where
+module _ (m : ℕ) (p : Pos) where
   pub walked-end : (s : List ℕ) → headOf (standing p) s ≡ End
-      → walked q p s ≡ cond (sameTally (p .held) (p .met) && allZero s) (Run (record { used = p .at; lo = p .lo; from = p .from; to = p .to; hi = p .hi }) (p .marked)) NotStore
-  unfolding andThen walkedOver tallied sorted total keep opened
+      → walked m p s ≡ cond (sameTally (p .held) (p .met) && allZero s) (Run (p .at) (p .marked)) NotStore
+  unfolding andThen walkedOver tallied sorted total opened
   walked-end s e =
       let w : split s ≡ cond (allZero s) (some []) none = split-eq s ∙ rw (end-none (standing p) s e) in
-      ap (walkedOver q p s) w ∙ go (sameTally (p .held) (p .met)) refl (allZero s)
+      ap (walkedOver m p s) w ∙ go (sameTally (p .held) (p .met)) refl (allZero s)
     where
       or-false : (b : Bool) → (b || false) ≡ b
       or-false true = refl
       or-false false = refl
 
       go : (t : Bool) → sameTally (p .held) (p .met) ≡ t → (b : Bool)
-          → walkedOver q p s (cond b (some []) none) ≡ cond (t && b) (Run (record { used = p .at; lo = p .lo; from = p .from; to = p .to; hi = p .hi }) (p .marked)) NotStore
+          → walkedOver m p s (cond b (some []) none) ≡ cond (t && b) (Run (p .at) (p .marked)) NotStore
       go true i true = unfold _&_ in rw i (simp (add-zero, or-false))
       go false i true = unfold _&_ in rw i
       go true i false = refl
       go false i false = refl
 
-  pub walked-bad : (s : List ℕ) → headOf (standing p) s ≡ Bad → walked q p s ≡ NotStore
+  pub walked-bad : (s : List ℕ) → headOf (standing p) s ≡ Bad → walked m p s ≡ NotStore
   unfolding walkedOver seen consTo sorted _&_
   walked-bad s e = go (headRec s) refl
     where
-      refused : (r : Rec) (o : Option (List Rec)) → allowed (standing p) r ≡ false → walkedOver q p s (consTo r o) ≡ NotStore
+      refused : (r : Rec) (o : Option (List Rec)) → allowed (standing p) r ≡ false → walkedOver m p s (consTo r o) ≡ NotStore
       refused r none x = refl
       refused r (some rs) x = rw x
 
-      unsound : (r : Rec) → headRec s ≡ some r → (b : Bool) → allowed (standing p) r ≡ b → walked q p s ≡ NotStore
+      unsound : (r : Rec) → headRec s ≡ some r → (b : Bool) → allowed (standing p) r ≡ b → walked m p s ≡ NotStore
       unsound r h true x = let y : HeadRec (itemOf (standing p) s r) ≡ Bad = rw (h, x) at (bad-seen (standing p) s e) in cc
-      unsound r h false x = ap (walkedOver q p s) (split-cons s r h) ∙ refused r (split (drop (sizeOf r) s)) x
+      unsound r h false x = ap (walkedOver m p s) (split-cons s r h) ∙ refused r (split (drop (sizeOf r) s)) x
 
-      go : (o : Option Rec) → headRec s ≡ o → walked q p s ≡ NotStore
+      go : (o : Option Rec) → headRec s ≡ o → walked m p s ≡ NotStore
       go none h = rw (split-none s h (not-zero (standing p) s (λ x. let z : _≡_ {A = ℕ} 0 1 = cc in omega arith)))
       go (some r) h = unsound r h (allowed (standing p) r) refl
 
   pass-rec : (r : Rec) (s : List ℕ) → headRec (drop (p .at) s) ≡ some r → allowed (standing p) r ≡ true
-      → walkAfter q s (passed q p (itemOf (standing p) (drop (p .at) s) r)) ≡ walked q p (drop (p .at) s)
+      → walkAfter m s (passed m p (itemOf (standing p) (drop (p .at) s) r)) ≡ walked m p (drop (p .at) s)
   unfolding passed walkAfter
   pass-rec r s h o =
       let t = drop (p .at) s in
       let i = itemOf (standing p) t r in
-      go (leb (p .key) (key r) & settled p i) ∙ sym (walked-cons q p t r (split (drop (sizeOf r) t)) o) ∙ ap (walkedOver q p t) (sym (split-cons t r h))
+      go (leb (p .key) (key r) & settled p i) ∙ sym (walked-cons m p t r (split (drop (sizeOf r) t)) o) ∙ ap (walkedOver m p t) (sym (split-cons t r h))
     where
-      go : (b : Bool) → walkAfter q s (cond b (Go (behind q p (itemOf (standing p) (drop (p .at) s) r))) (Stop NotStore))
-          ≡ cond b (walkedOver q (behind q p (itemOf (standing p) (drop (p .at) s) r)) (drop (sizeOf r) (drop (p .at) s)) (split (drop (sizeOf r) (drop (p .at) s)))) NotStore
+      go : (b : Bool) → walkAfter m s (cond b (Go (behind m p (itemOf (standing p) (drop (p .at) s) r))) (Stop NotStore))
+          ≡ cond b (walkedOver m (behind m p (itemOf (standing p) (drop (p .at) s) r)) (drop (sizeOf r) (drop (p .at) s)) (split (drop (sizeOf r) (drop (p .at) s)))) NotStore
       go true = rw (drop-drop (sizeOf r) (p .at) s)
       go false = refl
 
-  pub walked-pass : (i : Item) (s : List ℕ) → headOf (standing p) (drop (p .at) s) ≡ HeadRec i → walkAfter q s (passed q p i) ≡ walked q p (drop (p .at) s)
+  pub walked-pass : (i : Item) (s : List ℕ) → headOf (standing p) (drop (p .at) s) ≡ HeadRec i → walkAfter m s (passed m p i) ≡ walked m p (drop (p .at) s)
   walked-pass i s e =
       let w = looked-rec (standing p) (drop (p .at) s) i e in
-      subst (λ (j : Item). walkAfter q s (passed q p j) ≡ walked q p (drop (p .at) s)) (w .item) (pass-rec (w .rec) s (w .head) (w .ok))
+      subst (λ (j : Item). walkAfter m s (passed m p j) ≡ walked m p (drop (p .at) s)) (w .item) (pass-rec (w .rec) s (w .head) (w .ok))
 
-  pub ahead-pass : (i : Item) (s : List ℕ) → headOf (standing p) (drop (p .at) s) ≡ HeadRec i → Within (length s) p → Ahead (length s) p (passed q p i)
+  pub ahead-pass : (i : Item) (s : List ℕ) → headOf (standing p) (drop (p .at) s) ≡ HeadRec i → Within (length s) p → Ahead (length s) p (passed m p i)
   unfolding passed Ahead metBehind
   ahead-pass i s e w = go (leb (p .key) (keyOf (i .font) (i .place)) & settled p i)
     where
-      count-le : (b : Bool) (n : ℕ) → countIf b n ≤ n
-      count-le true n = unfold countIf in omega arith
-      count-le false n = unfold countIf in omega arith
-
       k : InRange (length (drop (p .at) s)) i
       k = looked-item (standing p) (drop (p .at) s) i e
 
@@ -267,15 +242,11 @@ module _ (q : Query) (p : Pos) where
       met true = (omega arith, omega arith)
       met false = (omega arith, omega arith)
 
-      go : (b : Bool) → Ahead (length s) p (cond b (Go (behind q p i)) (Stop NotStore))
+      go : (b : Bool) → Ahead (length s) p (cond b (Go (behind m p i)) (Stop NotStore))
       go true = (
         omega (arith, k),
         record {
           at = omega (arith, k, length-drop (p .at) s, w .at);
-          lo = omega (arith, w .lo, count-le (ltb (keyOf (i .font) (i .place)) (q .lo)) (i .len));
-          from = omega (arith, w .from, count-le (ltb (keyOf (i .font) (i .place)) (q .from)) (i .len));
-          to = omega (arith, w .to, count-le (ltb (keyOf (i .font) (i .place)) (q .to)) (i .len));
-          hi = omega (arith, w .hi, count-le (ltb (keyOf (i .font) (i .place)) (q .hi)) (i .len));
           characters = omega (arith, k, w .characters, met (eqb (i .place) 0) .0);
           bytes = omega (arith, k, w .bytes, met (eqb (i .place) 0) .1);
         },
@@ -283,17 +254,26 @@ module _ (q : Query) (p : Pos) where
       go false = tt
 
 -- ── passing a record, by its numbers
-pub pass-low : (q : Query) (p : Pos) (i : Item) → keyOf (i .font) (i .place) < p .key → passed q p i ≡ Stop NotStore
+pub pass-low : (m : ℕ) (p : Pos) (i : Item) → keyOf (i .font) (i .place) < p .key → passed m p i ≡ Stop NotStore
 unfolding passed _&_
-pass-low q p i h = rw (lt-leb (p .key) (keyOf (i .font) (i .place)) h)
+pass-low m p i h = rw (lt-leb (p .key) (keyOf (i .font) (i .place)) h)
 
-pub pass-unsettled : (q : Query) (p : Pos) (i : Item) → p .key ≤ keyOf (i .font) (i .place) → settled p i ≡ false → passed q p i ≡ Stop NotStore
-unfolding passed _&_
-pass-unsettled q p i h e = rw (le-leb (p .key) (keyOf (i .font) (i .place)) h, e)
+module _ (m : ℕ) (p : Pos) (i : Item) (h : p .key ≤ keyOf (i .font) (i .place)) where
+  -- a font
+  pub pass-untrue : i .place ≡ 0 → sameTally (p .held) (p .met) ≡ false → passed m p i ≡ Stop NotStore
+  unfolding passed settled _&_
+  pass-untrue z e = rw (le-leb (p .key) (keyOf (i .font) (i .place)) h, eq-eqb (i .place) 0 z, e)
 
-pub pass-go : (q : Query) (p : Pos) (i : Item) → p .key ≤ keyOf (i .font) (i .place) → settled p i ≡ true → passed q p i ≡ Go (behind q p i)
-unfolding passed _&_
-pass-go q p i h e = rw (le-leb (p .key) (keyOf (i .font) (i .place)) h, e)
+  pub pass-font : i .place ≡ 0 → sameTally (p .held) (p .met) ≡ true
+      → passed m p i ≡ Go (record { at = p .at + i .len; marked = p .marked || (eqb (keyOf (i .font) (i .place)) m && i .unfinished); key = keyOf (i .font) (i .place) + 1; owner = i .font + 1; orientation = i .orientation; held = i .held; met = noCharacters })
+  unfolding passed settled tallyBehind metBehind _&_
+  pass-font z e = rw (le-leb (p .key) (keyOf (i .font) (i .place)) h, eq-eqb (i .place) 0 z, e)
+
+  -- a character
+  pub pass-character : (i .place ≡ 0 → ⊥)
+      → passed m p i ≡ Go (record { at = p .at + i .len; marked = p .marked || (eqb (keyOf (i .font) (i .place)) m && i .unfinished); key = keyOf (i .font) (i .place) + 1; owner = i .font + 1; orientation = i .orientation; held = p .held; met = oneMore true (i .len - characterRecord) (p .met) })
+  unfolding passed settled tallyBehind metBehind _&_
+  pass-character z = rw (le-leb (p .key) (keyOf (i .font) (i .place)) h, ne-eqb (i .place) 0 z)
 
 pub within-more : (n m : ℕ) (p : Pos) → Within n p → n ≤ m → Within m p
-within-more n m p w l = record { at = omega (arith, w .at); lo = w .lo; from = w .from; to = w .to; hi = w .hi; characters = w .characters; bytes = w .bytes }
+within-more n m p w l = record { at = omega (arith, w .at); characters = w .characters; bytes = w .bytes }

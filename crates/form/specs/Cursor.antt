@@ -19,6 +19,12 @@ placeBy kind code = cond (eqb kind fontKind) 0 (code + 1)
 abbrev pub keyAt : List ℕ → ℕ → ℕ
 keyAt s at = keyOf (field 2 (at + numberAt) s) (placeBy (field 2 (at + kindAt) s) (field 2 (at + codeAt) s))
 
+-- s is a store, whose records end at `end`
+pub record StoreEnds (s : List ℕ) (end : ℕ) : Type 0 where
+  pub store : Store
+  pub is : decode s ≡ some store
+  pub used : end ≡ markRecord + total (store .recs)
+
 -- here is the place of the key k: behind all records with lower keys
 pub record Reaches (s : List ℕ) (k here : ℕ) : Type 0 where
   pub store : Store

@@ -17,7 +17,6 @@ use Rattle.form.specs.Model.{Rec, font, character, isKept, heldUnder, Ma
 use Rattle.form.specs.Order.{below, fontAt, characterAt}
 use Rattle.form.specs.Checks.{onFont, onCharacter}
 use Rattle.form.specs.declared.tally.Tally.{Tally}
-use Rattle.form.specs.declared.walk.Query.{Query}
 use Rattle.form.specs.declared.walk.Item.{Item}
 use Rattle.form.specs.declared.walk.Head.{Head}
 use Rattle.form.specs.declared.walk.Head.the-variants.{End, Rec as HeadRec, Bad}
@@ -33,6 +32,8 @@ use Rattle.form.specs.declared.walk.Lookup.{Lookup}
 use Rattle.form.specs.declared.walk.Lookup.the-variants.{At, Missing}
 use Rattle.form.specs.declared.seek.Sought.{Sought}
 use Rattle.form.specs.declared.seek.Sought.the-variants.{Here, Refused}
+use Rattle.form.specs.declared.walk.Checked.{Checked}
+use Rattle.form.specs.declared.walk.Checked.the-variants.{Store as Is, NotStore}
 use Rattle.form.specs.declared.walk.Inspected.{Inspected}
 use Rattle.form.specs.declared.walk.Inspected.the-variants.{Found, NotStore}
 
@@ -66,19 +67,10 @@ pub record Heading (s : List ℕ) (at len : ℕ) : Type 0 where
 
 -- where a walk begins: behind the first record
 abbrev pub walkStart : Pos
-walkStart =
-    record { at = markRecord; lo = markRecord; from = markRecord; to = markRecord; hi = markRecord; marked = false; key = 0; owner = 0; orientation = 0; held = noCharacters; met = noCharacters }
+walkStart = record { at = markRecord; marked = false; key = 0; owner = 0; orientation = 0; held = noCharacters; met = noCharacters }
 
 abbrev pub standing : Pos → Under
 standing p = record { owner = p .owner; orientation = p .orientation }
-
--- what is asked for of font n and its place p, where m is the key of the open character
-abbrev pub queryFor : ℕ → ℕ → ℕ → Query
-queryFor n p m = record { lo = keyOf n 0; from = keyOf n p; to = keyOf n p + 1; hi = keyOf (n + 1) 0; mark = m }
-
--- n, if the test holds
-unfoldable pub countIf : Bool → ℕ → ℕ
-countIf b n = cond b n 0
 
 -- the numbers that a font holds, and those of its characters met so far, behind a record
 unfoldable pub tallyBehind : Pos → Item → Tally
@@ -91,16 +83,12 @@ metBehind p i = cond (eqb (i .place) 0) noCharacters (oneMore true (i .len - cha
 unfoldable pub settled : Pos → Item → Bool
 settled p i = not (eqb (i .place) 0) || sameTally (p .held) (p .met)
 
--- a walk behind a record
-abbrev pub behind : Query → Pos → Item → Pos
-behind q p i =
+-- a walk behind a record, where m is the key of the open character
+abbrev pub behind : ℕ → Pos → Item → Pos
+behind m p i =
     record {
       at = p .at + i .len;
-      lo = p .lo + countIf (ltb (keyOf (i .font) (i .place)) (q .lo)) (i .len);
-      from = p .from + countIf (ltb (keyOf (i .font) (i .place)) (q .from)) (i .len);
-      to = p .to + countIf (ltb (keyOf (i .font) (i .place)) (q .to)) (i .len);
-      hi = p .hi + countIf (ltb (keyOf (i .font) (i .place)) (q .hi)) (i .len);
-      marked = p .marked || (eqb (keyOf (i .font) (i .place)) (q .mark) && i .unfinished);
+      marked = p .marked || (eqb (keyOf (i .font) (i .place)) m && i .unfinished);
       key = keyOf (i .font) (i .place) + 1;
       owner = i .font + 1;
       orientation = i .orientation;
@@ -109,19 +97,8 @@ behind q p i =
     }
 
 -- a record's key rises, and the font before it held what is true
-unfoldable pub passed : Query → Pos → Item → Step
-passed q p i = cond (leb (p .key) (keyOf (i .font) (i .place)) & settled p i) (Go (behind q p i)) (Stop NotStore)
-
--- the places of a walk that goes on from p over these records
-abbrev pub placesFrom : Query → Pos → List Rec → Places
-placesFrom q p rs =
-    record {
-      used = p .at + total rs;
-      lo = p .lo + total (below (q .lo) rs);
-      from = p .from + total (below (q .from) rs);
-      to = p .to + total (below (q .to) rs);
-      hi = p .hi + total (below (q .hi) rs);
-    }
+unfoldable pub passed : ℕ → Pos → Item → Step
+passed m p i = cond (leb (p .key) (keyOf (i .font) (i .place)) & settled p i) (Go (behind m p i)) (Stop NotStore)
 
 -- the numbers that fonts hold are true, where the font before these records, which stand in s, holds t and its characters so far have m
 unfoldable pub tallied : Tally → Tally → List ℕ → List Rec → Bool
@@ -129,27 +106,22 @@ tallied t m s [] = sameTally t m
 tallied t m s (font n h ∷ rs) = sameTally t m & tallied (tallyIn s) noCharacters (drop fontRecord s) rs
 tallied t m s (character n c h d ∷ rs) = tallied t (oneMore true (length d) m) (drop (characterRecord + length d) s) rs
 
--- the answer of a walk from p on over these records, which stand in s
-unfoldable pub walkedOver : Query → Pos → List ℕ → Option (List Rec) → Walk
-walkedOver q p s none = NotStore
-walkedOver q p s (some rs) =
-    cond (sorted (p .key) (standing p) rs & tallied (p .held) (p .met) s rs) (Run (placesFrom q p rs) (p .marked || opened (q .mark) rs)) NotStore
+-- the answer of a walk from p on over these records, which stand in s: where they end, and whether the open character is among them
+unfoldable pub walkedOver : ℕ → Pos → List ℕ → Option (List Rec) → Walk
+walkedOver m p s none = NotStore
+walkedOver m p s (some rs) = cond (sorted (p .key) (standing p) rs & tallied (p .held) (p .met) s rs) (Run (p .at + total rs) (p .marked || opened m rs)) NotStore
 
-abbrev pub walked : Query → Pos → List ℕ → Walk
-walked q p s = walkedOver q p s (split s)
+abbrev pub walked : ℕ → Pos → List ℕ → Walk
+walked m p s = walkedOver m p s (split s)
 
 -- the answer after a step
-unfoldable pub walkAfter : Query → List ℕ → Step → Walk
-walkAfter q s (Go p) = walked q p (drop (p .at) s)
-walkAfter q s (Stop w) = w
+unfoldable pub walkAfter : ℕ → List ℕ → Step → Walk
+walkAfter m s (Go p) = walked m p (drop (p .at) s)
+walkAfter m s (Stop w) = w
 
 -- the sums of a walk stay within what it passed
 pub record Within (n : ℕ) (p : Pos) : Type 0 where
   pub at : p .at ≤ n
-  pub lo : p .lo ≤ p .at
-  pub from : p .from ≤ p .at
-  pub to : p .to ≤ p .at
-  pub hi : p .hi ≤ p .at
   pub characters : p .met .characters ≤ p .at
   pub bytes : p .met .bytes ≤ p .at
 
@@ -177,12 +149,17 @@ markSeen m =
     (cond (eqb (m .on) 1 & leb (m .fontOf) lastFont & leb (m .codeOf) lastCode) (Open (keyOf (m .fontOf) (m .codeOf + 1))) Wrong)
 
 -- the records of a buffer whose first record is right; with `must`, the character with the key m must be there and incomplete
-unfoldable pub surveyedOver : ℕ → ℕ → ℕ → Bool → List ℕ → Option (List Rec) → Inspected
-surveyedOver n p m must s none = NotStore
-surveyedOver n p m must s (some rs) = cond ((sorted 0 alone rs & counted (tallyOf rs) s rs) & (not must || opened m rs)) (Found (placesOf n p rs)) NotStore
+unfoldable pub surveyedOver : ℕ → Bool → List ℕ → Option (List Rec) → Checked
+surveyedOver m must s none = NotStore
+surveyedOver m must s (some rs) = cond ((sorted 0 alone rs & counted (tallyOf rs) s rs) & (not must || opened m rs)) (Is (markRecord + total rs)) NotStore
 
-abbrev pub surveyed : ℕ → ℕ → ℕ → Bool → List ℕ → Inspected
-surveyed n p m must s = surveyedOver n p m must s (split s)
+abbrev pub surveyed : ℕ → Bool → List ℕ → Checked
+surveyed m must s = surveyedOver m must s (split s)
+
+-- a store, and where its records end
+unfoldable pub checkedStore : Option Store → Checked
+checkedStore none = NotStore
+checkedStore (some st) = Is (markRecord + total (st .recs))
 
 unfoldable pub inspected : ℕ → ℕ → Option Store → Inspected
 inspected n p none = NotStore

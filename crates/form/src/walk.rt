@@ -7,7 +7,7 @@ ghost use Rattle.blocks.specs.Character.{descriptorBytes};
 ghost use Rattle.form.specs.Layout.{characterKeptAt, characterRecord, kindAt, lastFont, leastStore, markRecord, mostStore, characterKind, fontKind, lastCode};
 ghost use Rattle.form.specs.Num.{field};
 ghost use Rattle.form.specs.Model.{Under, heldUnder, decode, begins, markIn};
-ghost use Rattle.form.specs.Walk.{headOf, Heading, passed, walked, walkAfter, Ahead, Within, tallyBehind, metBehind, settled, walkStart, markSeen, surveyed, inspected, countIf, fontLookup, characterLookup};
+ghost use Rattle.form.specs.Walk.{headOf, Heading, passed, walked, walkAfter, Ahead, Within, walkStart, markSeen, surveyed, checkedStore, inspected, fontLookup, characterLookup};
 use crate::layout::CHARACTER_KEPT_AT;
 use crate::layout::CHARACTER_KIND;
 use crate::layout::CHARACTER_RECORD;
@@ -28,6 +28,7 @@ use crate::layout::MARK_ON_AT;
 use crate::layout::MARK_RECORD;
 use crate::layout::MOST_STORE;
 use crate::layout::NUMBER_AT;
+use crate::locate;
 use crate::number;
 use crate::tally;
 use crate::tally::NONE;
@@ -36,16 +37,6 @@ use blocks::character;
 use blocks::header;
 use pictures::picture;
 use pictures::picture::Held;
-
-// What a call asks for: the keys between which a font stands with its characters, those between which one record stands, and the key of the
-// open character.
-pub struct Query {
-    pub lo: usize,
-    pub from: usize,
-    pub to: usize,
-    pub hi: usize,
-    pub mark: usize,
-}
 
 // What stands at a place of the run: the font number, 0 or the code and 1, the length, the font's orientation, whether it is incomplete, and the
 // numbers that a font's record holds.
@@ -64,14 +55,10 @@ pub enum Head {
     Bad,
 }
 
-// How far a walk has come: the place; the places asked for; whether the open character was met; the least key, the font and the orientation
-// that the next record must have; the numbers that the font's record holds, and those of its characters met so far.
+// How far a walk has come: the place; whether the open character was met; the least key, the font and the orientation that the next record must
+// have; the numbers that the font's record holds, and those of its characters met so far.
 pub struct Pos {
     pub at: usize,
-    pub lo: usize,
-    pub from: usize,
-    pub to: usize,
-    pub hi: usize,
     pub marked: bool,
     pub key: usize,
     pub owner: usize,
@@ -89,8 +76,9 @@ pub struct Places {
     pub hi: usize,
 }
 
+// Where the records end, and whether the open character was met.
 pub enum Walk {
-    Run(Places, bool),
+    Run(usize, bool),
     NotStore,
 }
 
@@ -110,6 +98,12 @@ pub enum MarkSeen {
 pub enum Lookup {
     At(Places),
     Missing,
+}
+
+// A store, and where its records end.
+pub enum Checked {
+    Store(usize),
+    NotStore,
 }
 
 pub enum Inspected {
@@ -235,107 +229,75 @@ fn look(s: &[u8], at: usize, owner: usize, orientation: u8) -> Head
     Head::Bad
 }
 
-// n, and m more if the test holds.
-pub fn add_if(n: usize, test: bool, m: usize) -> usize
-    requires { ⌜ (n ≤ mostStore) × (m ≤ mostStore) ⌝ }
-    ensures { λ r. ⌜ r ≡ n + countIf test m ⌝ }
-{
-    if test { n + m } else { n }
-}
-
-// The numbers that the font's record holds, behind a record.
-fn tally_behind(p: Pos, i: Item) -> Tally
-    ensures { λ r. ⌜ r ≡ tallyBehind p i ⌝ }
-{
-    if i.place == 0 { i.held } else { p.held }
-}
-
-// Those of the font's characters met so far, behind a record.
-fn met_behind(p: Pos, i: Item) -> Tally
-    requires { ⌜ (i .len ≤ mostStore) × Within mostStore p ⌝ }
-    requires { ⌜ ((i .place ≡ 0 → ⊥) → characterRecord ≤ i .len) ⌝ }
-    ensures { λ r. ⌜ r ≡ metBehind p i ⌝ }
-{
-    if i.place == 0 {
-        return NONE;
-    }
-    Tally {
-        characters: p.met.characters + 1,
-        bytes: p.met.bytes + (i.len - CHARACTER_RECORD),
-    }
-}
-
-// Whether the numbers that the last font's record holds are true, if this record is the next font's.
-fn settles(p: Pos, i: Item) -> bool
-    ensures { λ r. ⌜ r ≡ settled p i ⌝ }
-{
-    !(i.place == 0) | tally::same_tally(p.held, p.met)
-}
-
-// A walk at p, over a record.
-fn pass(q: Query, p: Pos, i: Item) -> Step
+// A walk at p, over a record with a key, where mark is the key of the open character: the numbers of the font before it must be true if it is the
+// next font's.
+fn pass(mark: usize, p: Pos, i: Item) -> Step
     requires { ⌜ (i .font ≤ lastFont) × (i .place ≤ lastCode + 1) × (i .len ≤ mostStore) × Within mostStore p ⌝ }
     requires { ⌜ ((i .place ≡ 0 → ⊥) → characterRecord ≤ i .len) ⌝ }
-    ensures { λ r. ⌜ r ≡ passed q p i ⌝ }
+    ensures { λ r. ⌜ r ≡ passed mark p i ⌝ }
 {
     let key = i.font * KEYS_EACH + i.place;
     if key < p.key {
         return Step::Stop(Walk::NotStore);
     }
-    if !settles(p, i) {
-        return Step::Stop(Walk::NotStore);
+    if i.place == 0 {
+        let font = p.held;
+        let characters = p.met;
+        if !tally::same_tally(font, characters) {
+            return Step::Stop(Walk::NotStore);
+        }
+        let held = i.held;
+        return Step::Go(Pos {
+            at: p.at + i.len,
+            marked: p.marked | ((key == mark) & i.unfinished),
+            key: key + 1,
+            owner: i.font + 1,
+            orientation: i.orientation,
+            held: held,
+            met: NONE,
+        });
     }
+    let held = p.held;
+    let met = p.met;
     Step::Go(Pos {
         at: p.at + i.len,
-        lo: add_if(p.lo, key < q.lo, i.len),
-        from: add_if(p.from, key < q.from, i.len),
-        to: add_if(p.to, key < q.to, i.len),
-        hi: add_if(p.hi, key < q.hi, i.len),
-        marked: p.marked | ((key == q.mark) & i.unfinished),
+        marked: p.marked | ((key == mark) & i.unfinished),
         key: key + 1,
         owner: i.font + 1,
         orientation: i.orientation,
-        held: tally_behind(p, i),
-        met: met_behind(p, i),
+        held: held,
+        met: Tally {
+            characters: met.characters + 1,
+            bytes: met.bytes + (i.len - CHARACTER_RECORD),
+        },
     })
 }
 
-fn walk_one(s: &[u8], q: Query, p: Pos) -> Step
+fn walk_one(s: &[u8], mark: usize, p: Pos) -> Step
     requires { ⌜ (length (now s) ≤ mostStore) × Within (length (now s)) p ⌝ }
-    ensures { λ r. ⌜ (walkAfter q (now (s .entry)) r ≡ walked q p (drop (p .at) (now (s .entry)))) × Ahead (length (now (s .entry))) p r ⌝ }
+    ensures { λ r. ⌜ (walkAfter mark (now (s .entry)) r ≡ walked mark p (drop (p .at) (now (s .entry)))) × Ahead (length (now (s .entry))) p r ⌝ }
 {
     let at = p.at;
     match look(s, at, p.owner, p.orientation) {
         Head::End => {
             if tally::same_tally(p.held, p.met) & number::zeros(s, at) {
-                let places = Places {
-                    used: p.at,
-                    lo: p.lo,
-                    from: p.from,
-                    to: p.to,
-                    hi: p.hi,
-                };
-                Step::Stop(Walk::Run(places, p.marked))
+                Step::Stop(Walk::Run(at, p.marked))
             } else {
                 Step::Stop(Walk::NotStore)
             }
         }
-        Head::Rec(i) => pass(q, p, i),
+        Head::Rec(i) => pass(mark, p, i),
         Head::Bad => Step::Stop(Walk::NotStore),
     }
 }
 
 // The whole run of a buffer, behind its first record.
-fn survey(s: &[u8], q: Query) -> Walk
+fn survey(s: &[u8], mark: usize) -> Walk
     requires { ⌜ (leastStore ≤ length (now s)) × (length (now s) ≤ mostStore) ⌝ }
-    ensures { λ r. ⌜ r ≡ walked q walkStart (drop markRecord (now (s .entry))) ⌝ }
+    ensures { λ r. ⌜ r ≡ walked mark walkStart (drop markRecord (now (s .entry))) ⌝ }
 {
     let mut p = Pos {
         at: MARK_RECORD,
-        lo: MARK_RECORD,
-        from: MARK_RECORD,
-        to: MARK_RECORD,
-        hi: MARK_RECORD,
         marked: false,
         key: 0,
         owner: 0,
@@ -344,7 +306,7 @@ fn survey(s: &[u8], q: Query) -> Walk
         met: NONE,
     };
     loop {
-        match walk_one(s, q, p) {
+        match walk_one(s, mark, p) {
             Step::Go(next) => {
                 p = next;
             }
@@ -397,27 +359,33 @@ fn see_mark(s: &[u8]) -> MarkSeen
 }
 
 // The records of a buffer whose first record is right: with must, the character with the key mark must be there and incomplete.
-fn inspect_records(s: &[u8], font: usize, place: usize, mark: usize, must: bool) -> Inspected
-    requires { ⌜ (leastStore ≤ length (now s)) × (length (now s) ≤ mostStore) × (font ≤ 4294967296) × (place ≤ 4294967296) ⌝ }
-    ensures { λ r. ⌜ r ≡ surveyed font place mark must (drop markRecord (now (s .entry))) ⌝ }
+fn check_records(s: &[u8], mark: usize, must: bool) -> Checked
+    requires { ⌜ (leastStore ≤ length (now s)) × (length (now s) ≤ mostStore) ⌝ }
+    ensures { λ r. ⌜ r ≡ surveyed mark must (drop markRecord (now (s .entry))) ⌝ }
 {
-    let key = font * KEYS_EACH + place;
-    let q = Query {
-        lo: font * KEYS_EACH + 0,
-        from: key,
-        to: key + 1,
-        hi: (font + 1) * KEYS_EACH + 0,
-        mark: mark,
-    };
-    match survey(s, q) {
-        Walk::Run(places, marked) => {
+    match survey(s, mark) {
+        Walk::Run(used, marked) => {
             if !must | marked {
-                Inspected::Found(places)
+                Checked::Store(used)
             } else {
-                Inspected::NotStore
+                Checked::NotStore
             }
         }
-        Walk::NotStore => Inspected::NotStore,
+        Walk::NotStore => Checked::NotStore,
+    }
+}
+
+// Whether a buffer is a store, and where its records end.
+pub fn check(s: &[u8]) -> Checked
+    ensures { λ r. ⌜ r ≡ checkedStore (decode (now (s .entry))) ⌝ }
+{
+    if !begins_right(s) {
+        return Checked::NotStore;
+    }
+    match see_mark(s) {
+        MarkSeen::Shut => check_records(s, 0, false),
+        MarkSeen::Open(key) => check_records(s, key, true),
+        MarkSeen::Wrong => Checked::NotStore,
     }
 }
 
@@ -426,14 +394,10 @@ pub fn inspect(s: &[u8], font: usize, place: usize) -> Inspected
     requires { ⌜ (font ≤ 4294967296) × (place ≤ 4294967296) ⌝ }
     ensures { λ r. ⌜ r ≡ inspected font place (decode (now (s .entry))) ⌝ }
 {
-    if !begins_right(s) {
+    let Checked::Store(used) = check(s) else {
         return Inspected::NotStore;
-    }
-    match see_mark(s) {
-        MarkSeen::Shut => inspect_records(s, font, place, 0, false),
-        MarkSeen::Open(key) => inspect_records(s, font, place, key, true),
-        MarkSeen::Wrong => Inspected::NotStore,
-    }
+    };
+    Inspected::Found(locate::places_in(s, used, font, place))
 }
 
 // Whether the font stands there.

@@ -2,6 +2,7 @@ use native.Mathlib.Omega.{arith}
 use denote.Ref.{now}
 use borrow.Author.Tests.{eq-eqb, ne-eqb}
 use Rattle.blocks.specs.Header.{isKeptHeader}
+use Rattle.pictures.proofs.Tests.{failed, passed}
 use Rattle.blocks.proofs.HeaderBytes.{own-within}
 use borrow.Author.Needs.{needs}
 use Rattle.blocks.proofs.header.is_kept_header.Statement.{statement}
@@ -11,15 +12,36 @@ returns : tie.Need-returns
 unfolding isKeptHeader
 returns c = simp (ne-eqb _ _ (c .if1 .taken))
 
-header-resolution-requires : tie.Need-header-resolution-requires
-header-resolution-requires c κs =
-    let k = c .before .before in
-    omega (arith, k .if1 .left, own-within (now (k .before .before .args .k)) .1)
-
 returns-2 : tie.Need-returns-2
 unfolding isKeptHeader
-returns-2 c = simp (eq-eqb _ _ (c .before .before .before .if1 .left)) (cc)
+returns-2 c = simp (eq-eqb _ _ (c .before .before .if1 .left), failed (c .before .fixed-header .ensures) (c .if2 .taken))
+
+returns-3 : tie.Need-returns-3
+unfolding isKeptHeader
+returns-3 c =
+    let k = c .before .before in
+    simp (eq-eqb _ _ (k .before .before .if1 .left), passed (k .before .fixed-header .ensures) (k .if2 .left), failed (c .before .header-fields .ensures) (c .if3 .taken))
+
+header-resolution-requires : tie.Need-header-resolution-requires
+header-resolution-requires c κs =
+    let k = c .before .before .before .before in
+    omega (arith, k .if1 .left, own-within (now (k .before .before .args .k)) .1)
+
+returns-4 : tie.Need-returns-4
+unfolding isKeptHeader
+returns-4 c =
+    let f = c .before in
+    let k = f .before .before in
+    simp (eq-eqb _ _ (k .before .before .if1 .left), passed (k .before .fixed-header .ensures) (k .if2 .left), passed (f .before .header-fields .ensures) (f .if3 .left)) (c .header-resolution .ensures)
 
 pub is-kept-header-spec : {M : Type 1} → statement M
 is-kept-header-spec =
-    tie.close (tie.spec returns (λ c κs. search needs) (λ c κs. search needs) header-resolution-requires returns-2)
+    tie.close
+    (tie.spec
+    returns
+    (λ c κs. search needs)
+    returns-2
+    (λ c κs. search needs)
+    returns-3
+    header-resolution-requires
+    returns-4)
