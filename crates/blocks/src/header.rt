@@ -266,8 +266,8 @@ pub fn is_kept_header(k: &[u8]) -> bool
     if !fixed_header(k) {
         return false;
     }
-    if !header_fields(k) {
+    if !header_resolution(k) {
         return false;
     }
-    header_resolution(k)
+    header_fields(k)
 }

@@ -11,9 +11,9 @@ use borrow.Author.Tests.{eqb-true, le-leb, lt-leb, ne-eqb}
 use Rattle.form.specs.Layout.{keyOf, kindAt, lastCode, lastFont, leastStore, markRecord, mostStore, markKind}
 use Rattle.form.specs.Num.{_&_, field}
 use Rattle.form.specs.Model.{Rec, Mark, alone, Store, sorted, noCharacters, tallyOf, counted, opened, total, markOk, guard, split, markIn, begins, validOr, decode}
-use Rattle.form.specs.Cursor.{StoreEnds}
+use Rattle.form.specs.Cursor.{Behind}
 use Rattle.form.proofs.Counts.{settled-counted}
-use Rattle.form.specs.Walk.{walkStart, tallied, walkedOver, walked, markSeen, surveyedOver, surveyed, checkedStore, inspected, Stands}
+use Rattle.form.specs.Walk.{walkStart, tallied, keyAfter, walkedOver, walked, markSeen, surveyedOver, surveyed, checkedStore, inspected, Stands}
 use Rattle.form.specs.declared.walk.Places.{Places}
 use Rattle.form.specs.declared.walk.Walk.the-variants.{Run, NotStore}
 use Rattle.form.specs.declared.walk.MarkSeen.{MarkSeen}
@@ -70,32 +70,33 @@ module _ (m : Mark) where
 
 -- ── the records
 module _ (m : ℕ) (must : Bool) (s : List ℕ) where
-  surveyed-some : (rs : List Rec) (u : ℕ) (k : Bool) → walkedOver m walkStart s (some rs) ≡ Run u k → surveyedOver m must s (some rs) ≡ cond (not must || k) (Is u) NotStore
+  surveyed-some : (rs : List Rec) (u l : ℕ) (k : Bool) → walkedOver m walkStart s (some rs) ≡ Run u l k → surveyedOver m must s (some rs) ≡ cond (not must || k) (Is u l) NotStore
   unfolding walkedOver surveyedOver _&_
-  surveyed-some rs u k e = rw (← (settled-counted s rs)) (go (sorted 0 alone rs & tallied noCharacters noCharacters s rs) e)
+  surveyed-some rs u l k e = rw (← (settled-counted s rs)) (go (sorted 0 alone rs & tallied noCharacters noCharacters s rs) e)
     where
-      go : (b : Bool) → cond b (Run (markRecord + total rs) (opened m rs)) NotStore ≡ Run u k
-          → cond (b & (not must || opened m rs)) (Is (markRecord + total rs)) NotStore ≡ cond (not must || k) (Is u) NotStore
+      go : (b : Bool) → cond b (Run (markRecord + total rs) (keyAfter 0 rs) (opened m rs)) NotStore ≡ Run u l k
+          → cond (b & (not must || opened m rs)) (Is (markRecord + total rs) (keyAfter 0 rs)) NotStore ≡ cond (not must || k) (Is u l) NotStore
       go true e' =
           let a : markRecord + total rs ≡ u = cc in
+          let d : keyAfter 0 rs ≡ l = cc in
           let b : opened m rs ≡ k = cc in
-          rw (← b, ← a)
+          rw (← b, ← a, ← d)
       go false e' = let z : _≡_ {A = ℕ} 0 1 = cc in absurd (omega arith)
 
   surveyed-none : (rs : List Rec) → walkedOver m walkStart s (some rs) ≡ NotStore → surveyedOver m must s (some rs) ≡ NotStore
   unfolding walkedOver surveyedOver _&_
   surveyed-none rs e = rw (← (settled-counted s rs)) (go (sorted 0 alone rs & tallied noCharacters noCharacters s rs) e)
     where
-      go : (b : Bool) → cond b (Run (markRecord + total rs) (opened m rs)) NotStore ≡ NotStore → cond (b & (not must || opened m rs)) (Is (markRecord + total rs)) NotStore ≡ NotStore
+      go : (b : Bool) → cond b (Run (markRecord + total rs) (keyAfter 0 rs) (opened m rs)) NotStore ≡ NotStore → cond (b & (not must || opened m rs)) (Is (markRecord + total rs) (keyAfter 0 rs)) NotStore ≡ NotStore
       go true e' = let z : _≡_ {A = ℕ} 0 1 = cc in absurd (omega arith)
       go false e' = refl
 
-  pub surveyed-run : (u : ℕ) (k : Bool) → walked m walkStart s ≡ Run u k → surveyed m must s ≡ cond (not must || k) (Is u) NotStore
-  surveyed-run u k e = go (split s) e
+  pub surveyed-run : (u l : ℕ) (k : Bool) → walked m walkStart s ≡ Run u l k → surveyed m must s ≡ cond (not must || k) (Is u l) NotStore
+  surveyed-run u l k e = go (split s) e
     where
-      go : (o : Option (List Rec)) → walkedOver m walkStart s o ≡ Run u k → surveyedOver m must s o ≡ cond (not must || k) (Is u) NotStore
+      go : (o : Option (List Rec)) → walkedOver m walkStart s o ≡ Run u l k → surveyedOver m must s o ≡ cond (not must || k) (Is u l) NotStore
       go none e' = unfold walkedOver in let z : _≡_ {A = ℕ} 0 1 = cc in absurd (omega arith)
-      go (some rs) e' = surveyed-some rs u k e'
+      go (some rs) e' = surveyed-some rs u l k e'
 
   pub surveyed-broken : walked m walkStart s ≡ NotStore → surveyed m must s ≡ NotStore
   surveyed-broken e = go (split s) e
@@ -150,7 +151,7 @@ module _ (s : List ℕ) where
   check-is : (m : ℕ) (must : Bool) → begins s ≡ true → ((rs : List Rec) → markOk (markIn s) rs ≡ not must || opened m rs) → checkedStore (decode s) ≡ surveyed m must records
   check-is m must e k = check-by e ∙ go (split records)
     where
-      give : (b : Bool) (rs : List Rec) → checkedStore (guard b (some (record { size = length s; mark = markIn s; recs = rs }))) ≡ cond b (Is (markRecord + total rs)) NotStore
+      give : (b : Bool) (rs : List Rec) → checkedStore (guard b (some (record { size = length s; mark = markIn s; recs = rs }))) ≡ cond b (Is (markRecord + total rs) (keyAfter 0 rs)) NotStore
       give true rs = unfold guard checkedStore in refl
       give false rs = unfold guard checkedStore in refl
 
@@ -165,19 +166,27 @@ module _ (s : List ℕ) where
   check-open k e w = check-is k true e (λ rs. mark-by (markIn s) rs ∙ rw w)
 
 -- ── the places, by the check and the search behind it
-pub inspect-not : (n p : ℕ) (s : List ℕ) → checkedStore (decode s) ≡ NotStore → inspected n p (decode s) ≡ NotStore
-inspect-not n p s e = go (decode s) e
+pub not-checked : (s : List ℕ) → checkedStore (decode s) ≡ NotStore → decode s ≡ none
+not-checked s e = go (decode s) refl e
   where
-    go : (o : Option Store) → checkedStore o ≡ NotStore → inspected n p o ≡ NotStore
-    go none e' = unfold inspected in refl
-    go (some st) e' = unfold checkedStore in let z : _≡_ {A = ℕ} 0 1 = cc in absurd (omega arith)
+    go : (o : Option Store) → decode s ≡ o → checkedStore o ≡ NotStore → decode s ≡ none
+    go none q e' = q
+    go (some st) q e' = unfold checkedStore in let z : _≡_ {A = ℕ} 0 1 = cc in absurd (omega arith)
 
-pub ends-by : (s : List ℕ) (u : ℕ) → checkedStore (decode s) ≡ Is u → StoreEnds s u
-ends-by s u e = go (decode s) refl e
+pub inspect-not : (n p : ℕ) (s : List ℕ) → checkedStore (decode s) ≡ NotStore → inspected n p (decode s) ≡ NotStore
+unfolding inspected
+inspect-not n p s e = rw (not-checked s e)
+
+pub ends-by : (s : List ℕ) (u l : ℕ) → checkedStore (decode s) ≡ Is u l → Behind s u l
+ends-by s u l e = go (decode s) refl e
   where
-    go : (o : Option Store) → decode s ≡ o → checkedStore o ≡ Is u → StoreEnds s u
+    go : (o : Option Store) → decode s ≡ o → checkedStore o ≡ Is u l → Behind s u l
     go none q e' = unfold checkedStore in let z : _≡_ {A = ℕ} 0 1 = cc in absurd (omega arith)
-    go (some st) q e' = unfold checkedStore in let a : u ≡ markRecord + total (st .recs) = cc in record { store = st; is = q; used = a }
+    go (some st) q e' =
+        unfold checkedStore in
+        let a : u ≡ markRecord + total (st .recs) = cc in
+        let b : l ≡ keyAfter 0 (st .recs) = cc in
+        record { ends = record { store = st; is = q; used = a }; last = b }
 
 pub inspect-found : (n p : ℕ) (s : List ℕ) (w : Places) → Stands n p s w → inspected n p (decode s) ≡ Found w
 unfolding inspected

@@ -12,8 +12,8 @@ use Rattle.form.specs.Num.{field}
 use Rattle.form.specs.Model.{Rec, Store, Under, under, alone, sorted, number, place, key, headRec, sizeOf, total, split, decode}
 use Rattle.form.specs.Order.{keep, below, from, after}
 use Rattle.form.specs.Records.{isStore}
-use Rattle.form.specs.Walk.{Stands}
-use Rattle.form.specs.Cursor.{keyAt, StoreEnds, Reaches, Seeking, Points}
+use Rattle.form.specs.Walk.{keyAfter, Stands}
+use Rattle.form.specs.Cursor.{keyAt, StoreEnds, Behind, Reaches, Seeking, Points}
 use Rattle.form.specs.declared.locate.Cursor.{Cursor}
 use Rattle.form.proofs.Fields.{field-drop}
 use Rattle.form.proofs.RecordBytes.{Headed, is-font, is-character, head-inv}
@@ -224,3 +224,24 @@ module _ (s : List ℕ) (end : ℕ) (x : StoreEnds s end) where
       let d' : markRecord + total (below (keyOf n p + 1) rs) ≡ to = at (keyOf n p + 1) to d in
       let e' : markRecord + total (below (keyOf (n + 1) 0) rs) ≡ hi = at (keyOf (n + 1) 0) hi e in
       record { store = x .store; is = x .is; at = rw (a', b', d', e', ← (x .used)) }
+
+-- ── behind the last key
+key-up : (j : ℕ) (u : Under) (rs : List Rec) → sorted j u rs ≡ true → j ≤ keyAfter j rs
+unfolding keyAfter
+key-up j u [] e = omega arith
+key-up j u (r ∷ rs) e =
+    let w = sorted-inv j u r rs e in
+    omega (arith, w .least, key-up (key r + 1) (under u r) rs (w .rest))
+
+all-below : (k j : ℕ) (u : Under) (rs : List Rec) → sorted j u rs ≡ true → keyAfter j rs ≤ k → below k rs ≡ rs
+unfolding keyAfter
+all-below k j u [] e l = unfold keep in refl
+all-below k j u (r ∷ rs) e l =
+    let w = sorted-inv j u r rs e in
+    below-in k r rs (omega (arith, key-up (key r + 1) (under u r) rs (w .rest))) ∙ ap (λ (x : List Rec). r ∷ x) (all-below k (key r + 1) (under u r) rs (w .rest) l)
+
+pub reached-end : (s : List ℕ) (end least k : ℕ) → Behind s end least → least ≤ k → Reaches s k end
+reached-end s end least k x l =
+    let y = x .ends in
+    let e : total (below k (y .store .recs)) ≡ total (y .store .recs) = ap total (all-below k 0 alone (y .store .recs) (decoded s (y .store) (y .is) .2) (omega (arith, x .last))) in
+    record { store = y .store; is = y .is; at = omega (arith, y .used, e) }

@@ -13,7 +13,7 @@ use borrow.Author.Tests.{eqb-true, ltb-true, le-leb, lt-leb, eq-eqb, ne-eqb}
 use Rattle.form.specs.Layout.{keyOf, characterRecord, lastFont}
 use Rattle.form.specs.Num.{_&_, field, allZero}
 use Rattle.form.specs.Model.{Rec, font, character, Under, under, allowed, sorted, unfinished, opened, number, place, key, noCharacters, oneMore, sameTally, headRec, sizeOf, total, consTo, andThen, split}
-use Rattle.form.specs.Walk.{tallyHeld, itemOf, seen, headOf, standing, tallyBehind, metBehind, settled, behind, passed, tallied, walkedOver, walked, walkAfter, Within, Ahead}
+use Rattle.form.specs.Walk.{tallyHeld, itemOf, seen, headOf, standing, tallyBehind, metBehind, settled, behind, passed, tallied, keyAfter, walkedOver, walked, walkAfter, Within, Ahead}
 use Rattle.form.specs.declared.walk.Item.{Item}
 use Rattle.form.specs.declared.walk.Pos.{Pos}
 use Rattle.form.specs.declared.walk.Head.the-variants.{End, Rec as HeadRec, Bad}
@@ -112,7 +112,7 @@ cond-step false c d e x y = refl
 
 walked-cons : (m : ℕ) (p : Pos) (s : List ℕ) (r : Rec) (o : Option (List Rec)) → allowed (standing p) r ≡ true
     → walkedOver m p s (consTo r o) ≡ cond (leb (p .key) (key r) & settled p (itemOf (standing p) s r)) (walkedOver m (behind m p (itemOf (standing p) s r)) (drop (sizeOf r) s) o) NotStore
-unfolding walkedOver consTo sorted
+unfolding walkedOver consTo sorted keyAfter
 walked-cons m p s r none a = sym (cond-same (leb (p .key) (key r) & settled p (itemOf (standing p) s r)) NotStore)
 walked-cons m p s r (some rs) a =
     let i = itemOf (standing p) s r in
@@ -179,8 +179,8 @@ bad-seen u s e = go (ltb (length s) characterRecord) (eqb (field 4 0 s) 0) e
 
 module _ (m : ℕ) (p : Pos) where
   pub walked-end : (s : List ℕ) → headOf (standing p) s ≡ End
-      → walked m p s ≡ cond (sameTally (p .held) (p .met) && allZero s) (Run (p .at) (p .marked)) NotStore
-  unfolding andThen walkedOver tallied sorted total opened
+      → walked m p s ≡ cond (sameTally (p .held) (p .met) && allZero s) (Run (p .at) (p .key) (p .marked)) NotStore
+  unfolding andThen walkedOver tallied sorted total opened keyAfter
   walked-end s e =
       let w : split s ≡ cond (allZero s) (some []) none = split-eq s ∙ rw (end-none (standing p) s e) in
       ap (walkedOver m p s) w ∙ go (sameTally (p .held) (p .met)) refl (allZero s)
@@ -190,7 +190,7 @@ module _ (m : ℕ) (p : Pos) where
       or-false false = refl
 
       go : (t : Bool) → sameTally (p .held) (p .met) ≡ t → (b : Bool)
-          → walkedOver m p s (cond b (some []) none) ≡ cond (t && b) (Run (p .at) (p .marked)) NotStore
+          → walkedOver m p s (cond b (some []) none) ≡ cond (t && b) (Run (p .at) (p .key) (p .marked)) NotStore
       go true i true = unfold _&_ in rw i (simp (add-zero, or-false))
       go false i true = unfold _&_ in rw i
       go true i false = refl

@@ -106,10 +106,16 @@ tallied t m s [] = sameTally t m
 tallied t m s (font n h ∷ rs) = sameTally t m & tallied (tallyIn s) noCharacters (drop fontRecord s) rs
 tallied t m s (character n c h d ∷ rs) = tallied t (oneMore true (length d) m) (drop (characterRecord + length d) s) rs
 
--- the answer of a walk from p on over these records, which stand in s: where they end, and whether the open character is among them
+-- the least key that may stand behind these records, where k may stand before them
+unfoldable pub keyAfter : ℕ → List Rec → ℕ
+keyAfter k [] = k
+keyAfter k (r ∷ rs) = keyAfter (keyOf (number r) (place r) + 1) rs
+
+-- the answer of a walk from p on over these records, which stand in s: where they end, the least key that may stand there, and whether the open
+-- character is among them
 unfoldable pub walkedOver : ℕ → Pos → List ℕ → Option (List Rec) → Walk
 walkedOver m p s none = NotStore
-walkedOver m p s (some rs) = cond (sorted (p .key) (standing p) rs & tallied (p .held) (p .met) s rs) (Run (p .at + total rs) (p .marked || opened m rs)) NotStore
+walkedOver m p s (some rs) = cond (sorted (p .key) (standing p) rs & tallied (p .held) (p .met) s rs) (Run (p .at + total rs) (keyAfter (p .key) rs) (p .marked || opened m rs)) NotStore
 
 abbrev pub walked : ℕ → Pos → List ℕ → Walk
 walked m p s = walkedOver m p s (split s)
@@ -151,15 +157,15 @@ markSeen m =
 -- the records of a buffer whose first record is right; with `must`, the character with the key m must be there and incomplete
 unfoldable pub surveyedOver : ℕ → Bool → List ℕ → Option (List Rec) → Checked
 surveyedOver m must s none = NotStore
-surveyedOver m must s (some rs) = cond ((sorted 0 alone rs & counted (tallyOf rs) s rs) & (not must || opened m rs)) (Is (markRecord + total rs)) NotStore
+surveyedOver m must s (some rs) = cond ((sorted 0 alone rs & counted (tallyOf rs) s rs) & (not must || opened m rs)) (Is (markRecord + total rs) (keyAfter 0 rs)) NotStore
 
 abbrev pub surveyed : ℕ → Bool → List ℕ → Checked
 surveyed m must s = surveyedOver m must s (split s)
 
--- a store, and where its records end
+-- a store, where its records end, and the least key that may stand there
 unfoldable pub checkedStore : Option Store → Checked
 checkedStore none = NotStore
-checkedStore (some st) = Is (markRecord + total (st .recs))
+checkedStore (some st) = Is (markRecord + total (st .recs)) (keyAfter 0 (st .recs))
 
 unfoldable pub inspected : ℕ → ℕ → Option Store → Inspected
 inspected n p none = NotStore

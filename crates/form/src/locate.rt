@@ -5,7 +5,7 @@ ghost use Prim.Native.Nat.{_+_, _≤_};
 ghost use lib.ListN.{length};
 ghost use Rattle.form.specs.Layout.{keyOf, characterRecord, lastFont, lastCode};
 ghost use Rattle.form.specs.Walk.{Stands};
-ghost use Rattle.form.specs.Cursor.{keyAt, StoreEnds, Seeking, Reaches, Points};
+ghost use Rattle.form.specs.Cursor.{keyAt, Behind, Seeking, Reaches, Points};
 use crate::layout::CODE_AT;
 use crate::layout::FONT_KIND;
 use crate::layout::KEYS_EACH;
@@ -51,27 +51,46 @@ fn advance(s: &[u8], used: usize, from: usize, key: usize) -> usize
     at
 }
 
+// The place of a key, by a search that begins at from, where no key from least on stands.
+fn reach(s: &[u8], used: usize, least: usize, from: usize, key: usize) -> usize
+    requires { ⌜ Behind (now s) used least × Seeking (now s) used key from ⌝ }
+    ensures { λ r. ⌜ Reaches (now (s .entry)) key r ⌝ }
+{
+    if least <= key {
+        return used;
+    }
+    advance(s, used, from, key)
+}
+
 // Where a font and its characters end: from the place of one of its records, if that is known, else from its own.
-fn seek_end(s: &[u8], used: usize, lo: usize, to: usize, font: usize, place: usize) -> usize
-    requires { ⌜ StoreEnds (now s) used × Reaches (now s) (keyOf font 0) lo × Reaches (now s) (keyOf font place + 1) to × (font ≤ 4294967296) ⌝ }
+fn seek_end(
+    s: &[u8],
+    used: usize,
+    least: usize,
+    lo: usize,
+    to: usize,
+    font: usize,
+    place: usize,
+) -> usize
+    requires { ⌜ Behind (now s) used least × Reaches (now s) (keyOf font 0) lo × Reaches (now s) (keyOf font place + 1) to × (font ≤ 4294967296) ⌝ }
     ensures { λ r. ⌜ Reaches (now (s .entry)) (keyOf (font + 1) 0) r ⌝ }
 {
     if place < KEYS_EACH {
-        return advance(s, used, to, (font + 1) * KEYS_EACH + 0);
+        return reach(s, used, least, to, (font + 1) * KEYS_EACH + 0);
     }
-    advance(s, used, lo, (font + 1) * KEYS_EACH + 0)
+    reach(s, used, least, lo, (font + 1) * KEYS_EACH + 0)
 }
 
 // Where font `font` stands in a store whose records end at used, and the record at a place of it, whatever numbers these are.
-pub(crate) fn places_in(s: &[u8], used: usize, font: usize, place: usize) -> Places
-    requires { ⌜ StoreEnds (now s) used × (font ≤ 4294967296) × (place ≤ 4294967296) ⌝ }
+pub(crate) fn places_in(s: &[u8], used: usize, least: usize, font: usize, place: usize) -> Places
+    requires { ⌜ Behind (now s) used least × (font ≤ 4294967296) × (place ≤ 4294967296) ⌝ }
     ensures { λ r. ⌜ Stands font place (now (s .entry)) r ⌝ }
 {
     let key = font * KEYS_EACH + place;
-    let lo = advance(s, used, MARK_RECORD, font * KEYS_EACH + 0);
-    let from = advance(s, used, lo, key);
-    let to = advance(s, used, from, key + 1);
-    let hi = seek_end(s, used, lo, to, font, place);
+    let lo = reach(s, used, least, MARK_RECORD, font * KEYS_EACH + 0);
+    let from = reach(s, used, least, lo, key);
+    let to = reach(s, used, least, from, key + 1);
+    let hi = seek_end(s, used, least, lo, to, font, place);
     Places {
         used: used,
         lo: lo,

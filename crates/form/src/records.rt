@@ -13,7 +13,7 @@ use crate::layout::MARK_RECORD;
 use crate::layout::NUMBER_AT;
 use crate::number;
 use crate::walk;
-use crate::walk::Inspected;
+use crate::walk::Checked;
 
 // Where the run of records begins.
 pub enum Begin {
@@ -43,7 +43,7 @@ pub enum Met {
 pub fn begin_records(s: &[u8]) -> Begin
     ensures { λ b. ⌜ Begun (now (s .entry)) b ⌝ }
 {
-    let Inspected::Found(_) = walk::inspect(s, 0, 0) else {
+    let Checked::Store(_, _) = walk::check(s) else {
         return Begin::NotStore;
     };
     Begin::At(MARK_RECORD)

@@ -76,9 +76,9 @@ pub struct Places {
     pub hi: usize,
 }
 
-// Where the records end, and whether the open character was met.
+// Where the records end, the least key that may stand there, and whether the open character was met.
 pub enum Walk {
-    Run(usize, bool),
+    Run(usize, usize, bool),
     NotStore,
 }
 
@@ -100,9 +100,9 @@ pub enum Lookup {
     Missing,
 }
 
-// A store, and where its records end.
+// A store, where its records end, and the least key that may stand there.
 pub enum Checked {
-    Store(usize),
+    Store(usize, usize),
     NotStore,
 }
 
@@ -281,7 +281,7 @@ fn walk_one(s: &[u8], mark: usize, p: Pos) -> Step
     match look(s, at, p.owner, p.orientation) {
         Head::End => {
             if tally::same_tally(p.held, p.met) & number::zeros(s, at) {
-                Step::Stop(Walk::Run(at, p.marked))
+                Step::Stop(Walk::Run(at, p.key, p.marked))
             } else {
                 Step::Stop(Walk::NotStore)
             }
@@ -364,9 +364,9 @@ fn check_records(s: &[u8], mark: usize, must: bool) -> Checked
     ensures { λ r. ⌜ r ≡ surveyed mark must (drop markRecord (now (s .entry))) ⌝ }
 {
     match survey(s, mark) {
-        Walk::Run(used, marked) => {
+        Walk::Run(used, least, marked) => {
             if !must | marked {
-                Checked::Store(used)
+                Checked::Store(used, least)
             } else {
                 Checked::NotStore
             }
@@ -394,10 +394,10 @@ pub fn inspect(s: &[u8], font: usize, place: usize) -> Inspected
     requires { ⌜ (font ≤ 4294967296) × (place ≤ 4294967296) ⌝ }
     ensures { λ r. ⌜ r ≡ inspected font place (decode (now (s .entry))) ⌝ }
 {
-    let Checked::Store(used) = check(s) else {
+    let Checked::Store(used, least) = check(s) else {
         return Inspected::NotStore;
     };
-    Inspected::Found(locate::places_in(s, used, font, place))
+    Inspected::Found(locate::places_in(s, used, least, font, place))
 }
 
 // Whether the font stands there.

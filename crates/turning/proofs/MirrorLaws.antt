@@ -113,24 +113,16 @@ pub last-as : (s : List ℕ) (from n scale q left : ℕ) → 0 < n → q ≡ n -
 unfolding halfByte
 last-as s from n scale q left l e f = rw (f, e, mirrored-out s from n (n - 1 + 1) (omega arith))
 
--- ---- eight bytes, two of them read at once
+-- ---- two bytes read at once, and runs one behind another
 pub pair-in : (s : List ℕ) (end : ℕ) → pairBefore s end ≡ getD s (end - 2) 0 + getD s (end - 1) 0 * 256
 unfolding pairBefore
 pair-in s end = refl
 
-pub eight-next : (s out out' : List ℕ) (end to pair : ℕ) → 8 ≤ end → pair ≡ pairBefore s end → getD s (end - 2) 0 < 256
-    → MirroredInto s (end - 2) (to + 2) 6 (set (set out to (mirror (pair / 256))) (to + 1) (mirror (pair % 256))) out' → MirroredInto s end to 8 out out'
+pub pair-mirrored : (s out : List ℕ) (end to pair : ℕ) → 2 ≤ end → pair ≡ pairBefore s end → getD s (end - 2) 0 < 256
+    → MirroredInto s end to 2 out (set (set out to (mirror (pair / 256))) (to + 1) (mirror (pair % 256)))
 unfolding MirroredInto
-eight-next s out out' end to pair l e b m all out₀ al ol g p =
-    let x : to + 2 + 6 ≡ to + 8 = omega arith in
-    rw x at (m all out₀ (omega arith) (omega arith) others two)
+pair-mirrored s out end to pair l e b all out₀ al ol g p = row-next all out₀ (set out to (mirror (pair / 256))) to 2 1 (mirror (pair % 256)) (omega arith) al ol second one
   where
-    others : (k : ℕ) → k < 6 → getD all (to + 2 + k) 0 ≡ mirror (getD s (end - 2 - 1 - k) 0)
-    others k q =
-        let y : to + (k + 2) ≡ to + 2 + k = omega arith in
-        let z : end - 1 - (k + 2) ≡ end - 2 - 1 - k = omega arith in
-        rw (y, z) at (g (k + 2) (omega arith))
-
     first : mirror (pair / 256) ≡ getD all (to + 0) 0
     first =
         let z : end - 1 - 0 ≡ end - 1 = omega arith in
@@ -144,10 +136,20 @@ eight-next s out out' end to pair l e b m all out₀ al ol g p =
         ap mirror f ∙ sym (rw z at (g 1 (omega arith)))
 
     one : set out to (mirror (pair / 256)) ≡ take (to + 1) all ++ drop (to + 1) out₀
-    one = rw add-zero at (row-next all out₀ out to 8 0 (mirror (pair / 256)) (omega arith) al ol first (row-none all out₀ out to p))
+    one = rw add-zero at (row-next all out₀ out to 2 0 (mirror (pair / 256)) (omega arith) al ol first (row-none all out₀ out to p))
 
-    two : set (set out to (mirror (pair / 256))) (to + 1) (mirror (pair % 256)) ≡ take (to + 2) all ++ drop (to + 2) out₀
-    two = row-next all out₀ (set out to (mirror (pair / 256))) to 8 1 (mirror (pair % 256)) (omega arith) al ol second one
+-- one run behind another
+pub runs-joined : (s out mid out' : List ℕ) (end to a b : ℕ) → a + b ≤ end → MirroredInto s end to a out mid → MirroredInto s (end - a) (to + a) b mid out' → MirroredInto s end to (a + b) out out'
+unfolding MirroredInto
+runs-joined s out mid out' end to a b l m n all out₀ al ol g p =
+    let x : to + a + b ≡ to + (a + b) = omega arith in
+    rw x at (n all out₀ (omega arith) (omega arith) behind (m all out₀ (omega arith) (omega arith) (λ k q. g k (omega arith)) p))
+  where
+    behind : (k : ℕ) → k < b → getD all (to + a + k) 0 ≡ mirror (getD s (end - a - 1 - k) 0)
+    behind k q =
+        let y : to + (a + k) ≡ to + a + k = omega arith in
+        let z : end - 1 - (a + k) ≡ end - a - 1 - k = omega arith in
+        rw (y, z) at (g (a + k) (omega arith))
 
 -- ---- the turned picture: the dots of a row's bytes
 abbrev halfRow : ℕ → ℕ → List ℕ → ℕ → ℕ → Bool

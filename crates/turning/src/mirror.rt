@@ -363,23 +363,25 @@ fn pair_before(picture: &[u8], end: usize) -> u32
     (picture[end - 2] as u32) + (picture[end - 1] as u32) * 256
 }
 
-// Mirrors two bytes, the high one first.
-fn mirror_pair(table: &[u8; 256], pair: u32, out: &mut [u8], to: usize)
-    requires { ⌜ Mirrors (now table) × (pair < 65536) × (to + 2 ≤ length (now out)) ⌝ }
-    ensures { λ _. ⌜ now (out .exit) ≡ set (set (now (out .entry)) to (mirror (pair / 256))) (to + 1) (mirror (pair % 256)) ⌝ }
+// Mirrors the two bytes before a place. Loads are what takes the time, so both are read at once.
+fn mirror_pair(table: &[u8; 256], picture: &[u8], out: &mut [u8], end: usize, to: usize)
+    requires { ⌜ Mirrors (now table) × (2 ≤ end) × (end ≤ length (now picture)) × (to + 2 ≤ length (now out)) ⌝ }
+    ensures { λ _. ⌜ MirroredInto (now (picture .entry)) end to 2 (now (out .entry)) (now (out .exit)) ⌝ }
 {
+    let pair = pair_before(picture, end);
     out[to] = mirrored(table, (pair / 256) as u8);
     out[to + 1] = mirrored(table, (pair % 256) as u8);
 }
 
-// Mirrors the eight bytes before a place. Loads are what takes the time, so two of them are read at once.
+// Mirrors the eight bytes before a place.
 fn mirror_eight(table: &[u8; 256], picture: &[u8], out: &mut [u8], end: usize, to: usize)
     requires { ⌜ Mirrors (now table) × (8 ≤ end) × (end ≤ length (now picture)) × (to + 8 ≤ length (now out)) ⌝ }
     ensures { λ _. ⌜ MirroredInto (now (picture .entry)) end to 8 (now (out .entry)) (now (out .exit)) ⌝ }
 {
-    let pair = pair_before(picture, end);
-    mirror_pair(table, pair, out, to);
-    mirror_run(table, picture, out, end - 2, to + 2, 6);
+    mirror_pair(table, picture, out, end, to);
+    mirror_pair(table, picture, out, end - 2, to + 2);
+    mirror_pair(table, picture, out, end - 4, to + 4);
+    mirror_pair(table, picture, out, end - 6, to + 6);
 }
 
 // Mirrors a picture without padding: all its bytes, from the last.

@@ -4,17 +4,17 @@ use borrow.Author.Needs.{needs}
 use Rattle.form.proofs.locate.places_in.Statement.{statement}
 use Rattle.form.proofs.locate.places_in.Tie as tie
 
-advance-requires : tie.Need-advance-requires
-advance-requires c κs = from-front _ _ (c .before .pre .0) _
+reach-requires : tie.Need-reach-requires
+reach-requires c κs = let p = c .before .pre in (p .0, from-front _ _ (p .0 .ends) _)
 
-advance-requires-2 : tie.Need-advance-requires-2
-advance-requires-2 c κs = from-found _ _ (c .before .before .pre .0) _ _ _ (c .advance .ensures) (omega arith)
+reach-requires-2 : tie.Need-reach-requires-2
+reach-requires-2 c κs = let p = c .before .before .pre in (p .0, from-found _ _ (p .0 .ends) _ _ _ (c .reach .ensures) (omega arith))
 
-advance-requires-3 : tie.Need-advance-requires-3
-advance-requires-3 c κs = from-found _ _ (c .before .before .before .pre .0) _ _ _ (c .advance2 .ensures) (omega arith)
+reach-requires-3 : tie.Need-reach-requires-3
+reach-requires-3 c κs = let p = c .before .before .before .pre in (p .0, from-found _ _ (p .0 .ends) _ _ _ (c .reach2 .ensures) (omega arith))
 
 returns : tie.Need-returns
-returns c = four _ _ (c .before .before .before .before .before .pre .0) _ _ _ _ _ _ (c .before .before .before .advance .ensures) (c .before .before .advance2 .ensures) (c .before .advance3 .ensures) (c .seek-end .ensures)
+returns c = four _ _ (c .before .before .before .before .before .pre .0 .ends) _ _ _ _ _ _ (c .before .before .before .reach .ensures) (c .before .before .reach2 .ensures) (c .before .reach3 .ensures) (c .seek-end .ensures)
 
 pub places-in-spec : {M : Type 1} → statement M
 places-in-spec =
@@ -24,9 +24,9 @@ places-in-spec =
     (λ c. search needs)
     (λ c. search needs)
     (λ c. search needs)
-    advance-requires
-    advance-requires-2
+    reach-requires
+    reach-requires-2
     (λ c. search needs)
-    advance-requires-3
+    reach-requires-3
     (λ c κs. search needs)
     returns)

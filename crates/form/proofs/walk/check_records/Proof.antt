@@ -8,13 +8,13 @@ returns : tie.Need-returns
 returns c =
     let k4 = c .before .before .before .before in
     let a = k4 .before .before .args in
-    sym (surveyed-run (a .mark) (a .must) _ _ _ (sym (k4 .survey .ensures) ∙ c .before .before .used .given .1) ∙ rw (c .if1 .taken))
+    sym (surveyed-run (a .mark) (a .must) _ _ _ _ (sym (k4 .survey .ensures) ∙ c .before .before .used .given .1) ∙ rw (c .if1 .taken))
 
 returns-2 : tie.Need-returns-2
 returns-2 c =
     let k4 = c .before .before .before .before in
     let a = k4 .before .before .args in
-    sym (surveyed-run (a .mark) (a .must) _ _ _ (sym (k4 .survey .ensures) ∙ c .before .before .used .given .1) ∙ rw (c .if1 .left))
+    sym (surveyed-run (a .mark) (a .must) _ _ _ _ (sym (k4 .survey .ensures) ∙ c .before .before .used .given .1) ∙ rw (c .if1 .left))
 
 returns-3 : tie.Need-returns-3
 returns-3 c =

@@ -1,25 +1,35 @@
-use native.Mathlib.Omega.{arith}
+use Prim.Native.Nat.{_-_}
+use denote.Ref.{now}
 use lib.ListN.{length-set}
+use native.Mathlib.Omega.{arith}
 use borrow.Author.Needs.{needs}
+use Rattle.turning.proofs.MirrorLaws.{pair-in, pair-mirrored}
 use Rattle.turning.proofs.mirror.mirror_pair.Statement.{statement}
 use Rattle.turning.proofs.mirror.mirror_pair.Tie as tie
 
-slice-write-out-2 : tie.Need-slice-write-out-2
-slice-write-out-2 c = simp length-set (omega arith)
+cast-mirrored : tie.Need-cast-mirrored
+cast-mirrored c =
+    let a = c .before .before .before .args in
+    let known = c .before .before .shared-slice-known .given in
+    omega (arith, c .pair-before .ensures, pair-in (now (a .picture)) (a .end), known (a .end - 2), known (a .end - 1))
 
 returns : tie.Need-returns
-returns c = rw (c .before .mirrored .ensures, c .mirrored2 .ensures)
+returns c =
+    let a = c .before .before .before .before .before .args in
+    rw (c .before .mirrored .ensures, c .mirrored2 .ensures)
+    (pair-mirrored (now (a .picture)) (now (a .out)) (a .end) (a .to) (c .before .before .pair-before .result) (omega arith) (c .before .before .pair-before .ensures) (omega (arith, c .before .before .before .before .shared-slice-known .given (a .end - 2))))
 
 pub mirror-pair-spec : {M : Type 1} → statement M
 mirror-pair-spec =
     tie.close
     (tie.spec
-    (λ c. search needs)
+    (λ c κs. search needs)
+    cast-mirrored
     (λ c κs. search needs)
     (λ c. search needs)
     (λ c. search needs)
     (λ c κs. search needs)
     (λ c. search needs)
-    slice-write-out-2
+    (λ c. simp length-set (omega arith))
     (λ c. search needs)
     returns)
