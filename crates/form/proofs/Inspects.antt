@@ -10,11 +10,12 @@ use lib.Dec.{eqb, leb}
 use borrow.Author.Tests.{eqb-true, le-leb, lt-leb, ne-eqb}
 use Rattle.form.specs.Layout.{keyOf, kindAt, lastCode, lastFont, leastStore, markRecord, mostStore, markKind}
 use Rattle.form.specs.Num.{_&_, field}
-use Rattle.form.specs.Model.{Rec, Mark, alone, Store, sorted, noCharacters, tallyOf, counted, opened, total, markOk, guard, split, markIn, begins, validOr, decode}
-use Rattle.form.specs.Cursor.{Behind}
+use Rattle.form.specs.Model.{Rec, Mark, alone, Store, sorted, noCharacters, tallyOf, counted, opened, markOk, guard, split, markIn, begins, validOr, decode}
+use Rattle.form.specs.Cursor.{EndKnown}
 use Rattle.form.proofs.Counts.{settled-counted}
-use Rattle.form.specs.Walk.{walkStart, tallied, keyAfter, walkedOver, walked, markSeen, surveyedOver, surveyed, checkedStore, inspected, Stands}
+use Rattle.form.specs.Walk.{walkStart, tallied, endOf, walkedOver, walked, markSeen, surveyedOver, surveyed, checkedStore, inspected, Stands}
 use Rattle.form.specs.declared.walk.Places.{Places}
+use Rattle.form.specs.declared.walk.RunEnd.{RunEnd}
 use Rattle.form.specs.declared.walk.Walk.the-variants.{Run, NotStore}
 use Rattle.form.specs.declared.walk.MarkSeen.{MarkSeen}
 use Rattle.form.specs.declared.walk.MarkSeen.the-variants.{Shut, Open, Wrong}
@@ -69,39 +70,38 @@ module _ (m : Mark) where
   seen-open a b c = rw (a, le-leb (m .fontOf) lastFont b, le-leb (m .codeOf) lastCode c)
 
 -- ── the records
-module _ (m : ℕ) (must : Bool) (s : List ℕ) where
-  surveyed-some : (rs : List Rec) (u l : ℕ) (k : Bool) → walkedOver m walkStart s (some rs) ≡ Run u l k → surveyedOver m must s (some rs) ≡ cond (not must || k) (Is u l) NotStore
+module _ (n m : ℕ) (must : Bool) (s : List ℕ) where
+  surveyed-some : (rs : List Rec) (u : RunEnd) (k : Bool) → walkedOver n m walkStart s (some rs) ≡ Run u k → surveyedOver n m must s (some rs) ≡ cond (not must || k) (Is u) NotStore
   unfolding walkedOver surveyedOver _&_
-  surveyed-some rs u l k e = rw (← (settled-counted s rs)) (go (sorted 0 alone rs & tallied noCharacters noCharacters s rs) e)
+  surveyed-some rs u k e = rw (← (settled-counted s rs)) (go (sorted 0 alone rs & tallied noCharacters noCharacters s rs) e)
     where
-      go : (b : Bool) → cond b (Run (markRecord + total rs) (keyAfter 0 rs) (opened m rs)) NotStore ≡ Run u l k
-          → cond (b & (not must || opened m rs)) (Is (markRecord + total rs) (keyAfter 0 rs)) NotStore ≡ cond (not must || k) (Is u l) NotStore
+      go : (b : Bool) → cond b (Run (endOf n walkStart rs) (opened m rs)) NotStore ≡ Run u k
+          → cond (b & (not must || opened m rs)) (Is (endOf n walkStart rs)) NotStore ≡ cond (not must || k) (Is u) NotStore
       go true e' =
-          let a : markRecord + total rs ≡ u = cc in
-          let d : keyAfter 0 rs ≡ l = cc in
+          let a : endOf n walkStart rs ≡ u = cc in
           let b : opened m rs ≡ k = cc in
-          rw (← b, ← a, ← d)
+          rw (← b, ← a)
       go false e' = let z : _≡_ {A = ℕ} 0 1 = cc in absurd (omega arith)
 
-  surveyed-none : (rs : List Rec) → walkedOver m walkStart s (some rs) ≡ NotStore → surveyedOver m must s (some rs) ≡ NotStore
+  surveyed-none : (rs : List Rec) → walkedOver n m walkStart s (some rs) ≡ NotStore → surveyedOver n m must s (some rs) ≡ NotStore
   unfolding walkedOver surveyedOver _&_
   surveyed-none rs e = rw (← (settled-counted s rs)) (go (sorted 0 alone rs & tallied noCharacters noCharacters s rs) e)
     where
-      go : (b : Bool) → cond b (Run (markRecord + total rs) (keyAfter 0 rs) (opened m rs)) NotStore ≡ NotStore → cond (b & (not must || opened m rs)) (Is (markRecord + total rs) (keyAfter 0 rs)) NotStore ≡ NotStore
+      go : (b : Bool) → cond b (Run (endOf n walkStart rs) (opened m rs)) NotStore ≡ NotStore → cond (b & (not must || opened m rs)) (Is (endOf n walkStart rs)) NotStore ≡ NotStore
       go true e' = let z : _≡_ {A = ℕ} 0 1 = cc in absurd (omega arith)
       go false e' = refl
 
-  pub surveyed-run : (u l : ℕ) (k : Bool) → walked m walkStart s ≡ Run u l k → surveyed m must s ≡ cond (not must || k) (Is u l) NotStore
-  surveyed-run u l k e = go (split s) e
+  pub surveyed-run : (u : RunEnd) (k : Bool) → walked n m walkStart s ≡ Run u k → surveyed n m must s ≡ cond (not must || k) (Is u) NotStore
+  surveyed-run u k e = go (split s) e
     where
-      go : (o : Option (List Rec)) → walkedOver m walkStart s o ≡ Run u l k → surveyedOver m must s o ≡ cond (not must || k) (Is u l) NotStore
+      go : (o : Option (List Rec)) → walkedOver n m walkStart s o ≡ Run u k → surveyedOver n m must s o ≡ cond (not must || k) (Is u) NotStore
       go none e' = unfold walkedOver in let z : _≡_ {A = ℕ} 0 1 = cc in absurd (omega arith)
-      go (some rs) e' = surveyed-some rs u l k e'
+      go (some rs) e' = surveyed-some rs u k e'
 
-  pub surveyed-broken : walked m walkStart s ≡ NotStore → surveyed m must s ≡ NotStore
+  pub surveyed-broken : walked n m walkStart s ≡ NotStore → surveyed n m must s ≡ NotStore
   surveyed-broken e = go (split s) e
     where
-      go : (o : Option (List Rec)) → walkedOver m walkStart s o ≡ NotStore → surveyedOver m must s o ≡ NotStore
+      go : (o : Option (List Rec)) → walkedOver n m walkStart s o ≡ NotStore → surveyedOver n m must s o ≡ NotStore
       go none e' = unfold surveyedOver in refl
       go (some rs) e' = surveyed-none rs e'
 
@@ -125,68 +125,64 @@ mark-by m rs = go (eqb (m .on) 0) (eqb (m .fontOf) 0 & eqb (m .codeOf) 0) (eqb (
     go false b true false e = unfold _&_ in refl
     go false b false d e = unfold _&_ in refl
 
-module _ (s : List ℕ) where
-  pub check-not : begins s ≡ false → checkedStore (decode s) ≡ NotStore
+module _ (n : ℕ) (s : List ℕ) where
+  pub check-not : begins s ≡ false → checkedStore n (decode s) ≡ NotStore
   unfolding decode guard checkedStore
   check-not e = rw e
 
   abbrev records : List ℕ
   records = drop markRecord s
 
-  check-by : begins s ≡ true → checkedStore (decode s) ≡ checkedStore (validOr (length s) (markIn s) records (split records))
+  check-by : begins s ≡ true → checkedStore n (decode s) ≡ checkedStore n (validOr (length s) (markIn s) records (split records))
   unfolding decode guard
   check-by e = rw e
 
-  pub check-wrong : begins s ≡ true → markSeen (markIn s) ≡ Wrong → checkedStore (decode s) ≡ NotStore
+  pub check-wrong : begins s ≡ true → markSeen (markIn s) ≡ Wrong → checkedStore n (decode s) ≡ NotStore
   check-wrong e w = check-by e ∙ go (split records)
     where
-      go : (o : Option (List Rec)) → checkedStore (validOr (length s) (markIn s) records o) ≡ NotStore
+      go : (o : Option (List Rec)) → checkedStore n (validOr (length s) (markIn s) records o) ≡ NotStore
       go none = unfold validOr checkedStore in refl
       go (some rs) = unfold validOr checkedStore guard in rw (mark-by (markIn s) rs, w) (fail (sorted 0 alone rs & counted (tallyOf rs) records rs) rs)
         where
-          fail : (b : Bool) (rs : List Rec) → checkedStore (guard (b & false) (some (record { size = length s; mark = markIn s; recs = rs }))) ≡ NotStore
+          fail : (b : Bool) (rs : List Rec) → checkedStore n (guard (b & false) (some (record { size = length s; mark = markIn s; recs = rs }))) ≡ NotStore
           fail true rs = unfold _&_ guard checkedStore in refl
           fail false rs = unfold _&_ guard checkedStore in refl
 
-  check-is : (m : ℕ) (must : Bool) → begins s ≡ true → ((rs : List Rec) → markOk (markIn s) rs ≡ not must || opened m rs) → checkedStore (decode s) ≡ surveyed m must records
+  check-is : (m : ℕ) (must : Bool) → begins s ≡ true → ((rs : List Rec) → markOk (markIn s) rs ≡ not must || opened m rs) → checkedStore n (decode s) ≡ surveyed n m must records
   check-is m must e k = check-by e ∙ go (split records)
     where
-      give : (b : Bool) (rs : List Rec) → checkedStore (guard b (some (record { size = length s; mark = markIn s; recs = rs }))) ≡ cond b (Is (markRecord + total rs) (keyAfter 0 rs)) NotStore
+      give : (b : Bool) (rs : List Rec) → checkedStore n (guard b (some (record { size = length s; mark = markIn s; recs = rs }))) ≡ cond b (Is (endOf n walkStart rs)) NotStore
       give true rs = unfold guard checkedStore in refl
       give false rs = unfold guard checkedStore in refl
 
-      go : (o : Option (List Rec)) → checkedStore (validOr (length s) (markIn s) records o) ≡ surveyedOver m must records o
+      go : (o : Option (List Rec)) → checkedStore n (validOr (length s) (markIn s) records o) ≡ surveyedOver n m must records o
       go none = unfold validOr checkedStore surveyedOver in refl
       go (some rs) = unfold validOr surveyedOver in rw (k rs) (give ((sorted 0 alone rs & counted (tallyOf rs) records rs) & (not must || opened m rs)) rs)
 
-  pub check-shut : begins s ≡ true → markSeen (markIn s) ≡ Shut → checkedStore (decode s) ≡ surveyed 0 false records
+  pub check-shut : begins s ≡ true → markSeen (markIn s) ≡ Shut → checkedStore n (decode s) ≡ surveyed n 0 false records
   check-shut e w = check-is 0 false e (λ rs. mark-by (markIn s) rs ∙ rw w)
 
-  pub check-open : (k : ℕ) → begins s ≡ true → markSeen (markIn s) ≡ Open k → checkedStore (decode s) ≡ surveyed k true records
+  pub check-open : (k : ℕ) → begins s ≡ true → markSeen (markIn s) ≡ Open k → checkedStore n (decode s) ≡ surveyed n k true records
   check-open k e w = check-is k true e (λ rs. mark-by (markIn s) rs ∙ rw w)
 
 -- ── the places, by the check and the search behind it
-pub not-checked : (s : List ℕ) → checkedStore (decode s) ≡ NotStore → decode s ≡ none
-not-checked s e = go (decode s) refl e
+pub not-checked : (n : ℕ) (s : List ℕ) → checkedStore n (decode s) ≡ NotStore → decode s ≡ none
+not-checked n s e = go (decode s) refl e
   where
-    go : (o : Option Store) → decode s ≡ o → checkedStore o ≡ NotStore → decode s ≡ none
+    go : (o : Option Store) → decode s ≡ o → checkedStore n o ≡ NotStore → decode s ≡ none
     go none q e' = q
     go (some st) q e' = unfold checkedStore in let z : _≡_ {A = ℕ} 0 1 = cc in absurd (omega arith)
 
-pub inspect-not : (n p : ℕ) (s : List ℕ) → checkedStore (decode s) ≡ NotStore → inspected n p (decode s) ≡ NotStore
+pub inspect-not : (n p : ℕ) (s : List ℕ) → checkedStore n (decode s) ≡ NotStore → inspected n p (decode s) ≡ NotStore
 unfolding inspected
-inspect-not n p s e = rw (not-checked s e)
+inspect-not n p s e = rw (not-checked n s e)
 
-pub ends-by : (s : List ℕ) (u l : ℕ) → checkedStore (decode s) ≡ Is u l → Behind s u l
-ends-by s u l e = go (decode s) refl e
+pub ends-by : (n : ℕ) (s : List ℕ) (e : RunEnd) → checkedStore n (decode s) ≡ Is e → EndKnown n s e
+ends-by n s u e = go (decode s) refl e
   where
-    go : (o : Option Store) → decode s ≡ o → checkedStore o ≡ Is u l → Behind s u l
+    go : (o : Option Store) → decode s ≡ o → checkedStore n o ≡ Is u → EndKnown n s u
     go none q e' = unfold checkedStore in let z : _≡_ {A = ℕ} 0 1 = cc in absurd (omega arith)
-    go (some st) q e' =
-        unfold checkedStore in
-        let a : u ≡ markRecord + total (st .recs) = cc in
-        let b : l ≡ keyAfter 0 (st .recs) = cc in
-        record { ends = record { store = st; is = q; used = a }; last = b }
+    go (some st) q e' = unfold checkedStore in let a : u ≡ endOf n walkStart (st .recs) = cc in record { store = st; is = q; end = a }
 
 pub inspect-found : (n p : ℕ) (s : List ℕ) (w : Places) → Stands n p s w → inspected n p (decode s) ≡ Found w
 unfolding inspected

@@ -1,20 +1,23 @@
 -- Places found by the heads of a store's records alone. Assumes nothing.
 use mathlib.Core.Path.{_≡_, refl, sym, ap, _∙_}
 use mathlib.Core.List.{List, [], _∷_}
-use mathlib.Core.Bool.{true}
+use mathlib.Core.Bool.{Bool, true, false}
 use mathlib.Core.Option.{Option, none, some}
 use Prim.Native.Nat.{ℕ, _+_, _-_, _<_, _≤_}
 use native.Mathlib.Omega.{arith}
 use lib.ListN.{length, drop, length-drop}
 use lib.Seq.{drop-drop}
+use lib.Dec.{eqb, leb}
+use borrow.Author.Tests.{eqb-true, leb-true}
 use Rattle.form.specs.Layout.{keyOf, characterKind, characterRecord, codeAt, fontKind, kindAt, markRecord, mostStore, numberAt}
 use Rattle.form.specs.Num.{field}
 use Rattle.form.specs.Model.{Rec, Store, Under, under, alone, sorted, number, place, key, headRec, sizeOf, total, split, decode}
 use Rattle.form.specs.Order.{keep, below, from, after}
 use Rattle.form.specs.Records.{isStore}
-use Rattle.form.specs.Walk.{keyAfter, Stands}
-use Rattle.form.specs.Cursor.{keyAt, StoreEnds, Behind, Reaches, Seeking, Points}
+use Rattle.form.specs.Walk.{keyAfter, nearer, nearAfter, lastAfter, Stands}
+use Rattle.form.specs.Cursor.{keyAt, StoreEnds, Behind, EndKnown, Reaches, Seeking, Points}
 use Rattle.form.specs.declared.locate.Cursor.{Cursor}
+use Rattle.form.specs.declared.walk.RunEnd.{RunEnd}
 use Rattle.form.proofs.Fields.{field-drop}
 use Rattle.form.proofs.RecordBytes.{Headed, is-font, is-character, head-inv}
 use Rattle.form.proofs.Codec.{Sorted, sorted-inv, begins-parts}
@@ -245,3 +248,86 @@ reached-end s end least k x l =
     let y = x .ends in
     let e : total (below k (y .store .recs)) ≡ total (y .store .recs) = ap total (all-below k 0 alone (y .store .recs) (decoded s (y .store) (y .is) .2) (omega (arith, x .last))) in
     record { store = y .store; is = y .is; at = omega (arith, y .used, e) }
+
+-- ── what a check leaves: the last font up to one, and the last record
+none-total : (j : ℕ) (u : Under) (r : Rec) (rs : List Rec) → sorted j u (r ∷ rs) ≡ true → total (below (key r) (r ∷ rs)) ≡ 0
+unfolding total
+none-total j u r rs e = ap total (below-out (key r) r rs (omega arith) ∙ none-below (key r) (key r + 1) (under u r) rs (sorted-inv j u r rs e .rest) (omega arith))
+
+more-total : (k : ℕ) (r : Rec) (rs : List Rec) → key r < k → total (below k (r ∷ rs)) ≡ sizeOf r + total (below k rs)
+unfolding total
+more-total k r rs l = ap total (below-in k r rs l)
+
+-- from a place that was known before, or that of some key up to font n's
+data Nearby (n near at j value : ℕ) (rs : List Rec) : Type 0 where
+  before-all : value ≡ near → Nearby n near at j value rs
+  at-key : (base : ℕ) → j ≤ base → base ≤ keyOf n 0 → value ≡ at + total (below base rs) → Nearby n near at j value rs
+
+nearby-more : (n near near' at j value : ℕ) (u : Under) (r : Rec) (rs : List Rec) → sorted j u (r ∷ rs) ≡ true
+    → (value ≡ near' → Nearby n near at j value (r ∷ rs)) → Nearby n near' (at + sizeOf r) (key r + 1) value rs → Nearby n near at j value (r ∷ rs)
+nearby-more n near near' at j value u r rs e f (before-all q) = f q
+nearby-more n near near' at j value u r rs e f (at-key base l h q) =
+    at-key base (omega (arith, sorted-inv j u r rs e .least)) h (omega (arith, q, more-total base r rs (omega arith)))
+
+nearby : (n near at j : ℕ) (u : Under) (rs : List Rec) → sorted j u rs ≡ true → Nearby n near at j (nearAfter n near at rs) rs
+unfolding nearAfter nearer
+nearby n near at j u [] e = before-all refl
+nearby n near at j u (r ∷ rs) e =
+    step (eqb (place r) 0) refl (leb (number r) n) refl (λ near'. nearby n near' (at + sizeOf r) (key r + 1) (under u r) rs (sorted-inv j u r rs e .rest))
+  where
+    here : place r ≡ 0 → number r ≤ n → (value : ℕ) → value ≡ at → Nearby n near at j value (r ∷ rs)
+    here z l value q = at-key (key r) (sorted-inv j u r rs e .least) (omega arith) (omega (arith, q, none-total j u r rs e))
+
+    step : (b : Bool) → eqb (place r) 0 ≡ b → (c : Bool) → leb (number r) n ≡ c
+        → ((near' : ℕ) → Nearby n near' (at + sizeOf r) (key r + 1) (nearAfter n near' (at + sizeOf r) rs) rs)
+        → Nearby n near at j (nearAfter n (nearer n (number r) (place r) at near) (at + sizeOf r) rs) (r ∷ rs)
+    step true p true q on = rw (p, q) (nearby-more n near at at j _ u r rs e (here (eqb-true _ _ p) (leb-true _ _ q) _) (on at))
+    step true p false q on = rw (p, q) (nearby-more n near near at j _ u r rs e before-all (on near))
+    step false p c q on = rw p (nearby-more n near near at j _ u r rs e before-all (on near))
+
+last-of : (last at j : ℕ) (u : Under) (r : Rec) (rs : List Rec) → sorted j u (r ∷ rs) ≡ true → lastAfter last at (r ∷ rs) ≡ at + total (below (keyAfter j (r ∷ rs) - 1) (r ∷ rs))
+unfolding lastAfter keyAfter
+last-of last at j u r [] e =
+    let k : key r + 1 - 1 ≡ key r = omega arith in
+    rw k (omega (arith, none-total j u r [] e))
+last-of last at j u r (x ∷ ys) e =
+    let w = sorted-inv j u r (x ∷ ys) e in
+    let v = sorted-inv (key r + 1) (under u r) x ys (w .rest) in
+    let d = more-total (keyAfter (key x + 1) ys - 1) r (x ∷ ys) (omega (arith, v .least, key-up (key x + 1) (under (under u r) x) ys (v .rest))) in
+    last-of at (at + sizeOf r) (key r + 1) (under u r) x ys (w .rest) ∙ omega (arith, d)
+
+module _ (n : ℕ) (s : List ℕ) (e : RunEnd) (x : EndKnown n s e) where
+  order : sorted 0 alone (x .store .recs) ≡ true
+  order = decoded s (x .store) (x .is) .2
+
+  ends-so : StoreEnds s (e .used)
+  ends-so = record { store = x .store; is = x .is; used = ap (λ (y : RunEnd). y .used) (x .end) }
+
+  pub behind-it : Behind s (e .used) (e .least)
+  behind-it = record { ends = record { store = x .store; is = x .is; used = ap (λ (y : RunEnd). y .used) (x .end) }; last = ap (λ (y : RunEnd). y .least) (x .end) }
+
+  pub from-near : Seeking s (e .used) (keyOf n 0) (e .near)
+  from-near = go (nearby n markRecord markRecord 0 alone (x .store .recs) order)
+    where
+      v : e .near ≡ nearAfter n markRecord markRecord (x .store .recs)
+      v = ap (λ (y : RunEnd). y .near) (x .end)
+
+      go : Nearby n markRecord markRecord 0 (nearAfter n markRecord markRecord (x .store .recs)) (x .store .recs) → Seeking s (e .used) (keyOf n 0) (e .near)
+      go (before-all q) = rw (v ∙ q) (from-front s (e .used) ends-so (keyOf n 0))
+      go (at-key base l h q) = record { store = x .store; is = x .is; used = ap (λ (y : RunEnd). y .used) (x .end); base = base; low = h; at = v ∙ q }
+
+  pub last-reached : (k : ℕ) → k + 1 ≡ e .least → Reaches s k (e .last)
+  last-reached k l = go (x .store .recs) refl
+    where
+      v : e .last ≡ lastAfter 0 markRecord (x .store .recs)
+      v = ap (λ (y : RunEnd). y .last) (x .end)
+
+      u : e .least ≡ keyAfter 0 (x .store .recs)
+      u = ap (λ (y : RunEnd). y .least) (x .end)
+
+      go : (rs : List Rec) → x .store .recs ≡ rs → Reaches s k (e .last)
+      go [] q = unfold keyAfter in absurd (omega (arith, l, u ∙ ap (keyAfter 0) q))
+      go (r ∷ rs) q =
+          let z : k ≡ keyAfter 0 (r ∷ rs) - 1 = omega (arith, l, u ∙ ap (keyAfter 0) q) in
+          let y : e .last ≡ markRecord + total (below k (r ∷ rs)) = v ∙ ap (lastAfter 0 markRecord) q ∙ last-of 0 markRecord 0 alone r rs (rw q at order) ∙ rw z in
+          record { store = x .store; is = x .is; at = rw q y }

@@ -13,7 +13,7 @@ use borrow.Author.Tests.{eqb-true, ltb-true, le-leb, lt-leb, eq-eqb, ne-eqb}
 use Rattle.form.specs.Layout.{keyOf, characterRecord, lastFont}
 use Rattle.form.specs.Num.{_&_, field, allZero}
 use Rattle.form.specs.Model.{Rec, font, character, Under, under, allowed, sorted, unfinished, opened, number, place, key, noCharacters, oneMore, sameTally, headRec, sizeOf, total, consTo, andThen, split}
-use Rattle.form.specs.Walk.{tallyHeld, itemOf, seen, headOf, standing, tallyBehind, metBehind, settled, behind, passed, tallied, keyAfter, walkedOver, walked, walkAfter, Within, Ahead}
+use Rattle.form.specs.Walk.{tallyHeld, itemOf, seen, headOf, standing, tallyBehind, metBehind, settled, behind, passed, tallied, keyAfter, nearer, nearAfter, lastAfter, walkedOver, walked, walkAfter, Within, Ahead}
 use Rattle.form.specs.declared.walk.Item.{Item}
 use Rattle.form.specs.declared.walk.Pos.{Pos}
 use Rattle.form.specs.declared.walk.Head.the-variants.{End, Rec as HeadRec, Bad}
@@ -110,11 +110,11 @@ cond-step true false true e x y = refl
 cond-step true false false e x y = refl
 cond-step false c d e x y = refl
 
-walked-cons : (m : ℕ) (p : Pos) (s : List ℕ) (r : Rec) (o : Option (List Rec)) → allowed (standing p) r ≡ true
-    → walkedOver m p s (consTo r o) ≡ cond (leb (p .key) (key r) & settled p (itemOf (standing p) s r)) (walkedOver m (behind m p (itemOf (standing p) s r)) (drop (sizeOf r) s) o) NotStore
-unfolding walkedOver consTo sorted keyAfter
-walked-cons m p s r none a = sym (cond-same (leb (p .key) (key r) & settled p (itemOf (standing p) s r)) NotStore)
-walked-cons m p s r (some rs) a =
+walked-cons : (n m : ℕ) (p : Pos) (s : List ℕ) (r : Rec) (o : Option (List Rec)) → allowed (standing p) r ≡ true
+    → walkedOver n m p s (consTo r o) ≡ cond (leb (p .key) (key r) & settled p (itemOf (standing p) s r)) (walkedOver n m (behind n m p (itemOf (standing p) s r)) (drop (sizeOf r) s) o) NotStore
+unfolding walkedOver consTo sorted keyAfter nearAfter lastAfter
+walked-cons n m p s r none a = sym (cond-same (leb (p .key) (key r) & settled p (itemOf (standing p) s r)) NotStore)
+walked-cons n m p s r (some rs) a =
     let i = itemOf (standing p) s r in
     rw (tallied-more p (standing p) s r rs, a, cond-step (leb (p .key) (key r)) (sorted (key r + 1) (under (standing p) r) rs) (settled p i) (tallied (tallyBehind p i) (metBehind p i) (drop (sizeOf r) s) rs), total-more r rs (p .at), marked-more (p .marked) m r rs)
     (rw (under-is (standing p) r a))
@@ -177,60 +177,60 @@ bad-seen u s e = go (ltb (length s) characterRecord) (eqb (field 4 0 s) 0) e
     go false true e' = cc
     go false false e' = e'
 
-module _ (m : ℕ) (p : Pos) where
+module _ (n m : ℕ) (p : Pos) where
   pub walked-end : (s : List ℕ) → headOf (standing p) s ≡ End
-      → walked m p s ≡ cond (sameTally (p .held) (p .met) && allZero s) (Run (p .at) (p .key) (p .marked)) NotStore
-  unfolding andThen walkedOver tallied sorted total opened keyAfter
+      → walked n m p s ≡ cond (sameTally (p .held) (p .met) && allZero s) (Run (record { used = p .at; least = p .key; near = p .near; last = p .last }) (p .marked)) NotStore
+  unfolding andThen walkedOver tallied sorted total opened keyAfter nearAfter lastAfter
   walked-end s e =
       let w : split s ≡ cond (allZero s) (some []) none = split-eq s ∙ rw (end-none (standing p) s e) in
-      ap (walkedOver m p s) w ∙ go (sameTally (p .held) (p .met)) refl (allZero s)
+      ap (walkedOver n m p s) w ∙ go (sameTally (p .held) (p .met)) refl (allZero s)
     where
       or-false : (b : Bool) → (b || false) ≡ b
       or-false true = refl
       or-false false = refl
 
       go : (t : Bool) → sameTally (p .held) (p .met) ≡ t → (b : Bool)
-          → walkedOver m p s (cond b (some []) none) ≡ cond (t && b) (Run (p .at) (p .key) (p .marked)) NotStore
+          → walkedOver n m p s (cond b (some []) none) ≡ cond (t && b) (Run (record { used = p .at; least = p .key; near = p .near; last = p .last }) (p .marked)) NotStore
       go true i true = unfold _&_ in rw i (simp (add-zero, or-false))
       go false i true = unfold _&_ in rw i
       go true i false = refl
       go false i false = refl
 
-  pub walked-bad : (s : List ℕ) → headOf (standing p) s ≡ Bad → walked m p s ≡ NotStore
+  pub walked-bad : (s : List ℕ) → headOf (standing p) s ≡ Bad → walked n m p s ≡ NotStore
   unfolding walkedOver seen consTo sorted _&_
   walked-bad s e = go (headRec s) refl
     where
-      refused : (r : Rec) (o : Option (List Rec)) → allowed (standing p) r ≡ false → walkedOver m p s (consTo r o) ≡ NotStore
+      refused : (r : Rec) (o : Option (List Rec)) → allowed (standing p) r ≡ false → walkedOver n m p s (consTo r o) ≡ NotStore
       refused r none x = refl
       refused r (some rs) x = rw x
 
-      unsound : (r : Rec) → headRec s ≡ some r → (b : Bool) → allowed (standing p) r ≡ b → walked m p s ≡ NotStore
+      unsound : (r : Rec) → headRec s ≡ some r → (b : Bool) → allowed (standing p) r ≡ b → walked n m p s ≡ NotStore
       unsound r h true x = let y : HeadRec (itemOf (standing p) s r) ≡ Bad = rw (h, x) at (bad-seen (standing p) s e) in cc
-      unsound r h false x = ap (walkedOver m p s) (split-cons s r h) ∙ refused r (split (drop (sizeOf r) s)) x
+      unsound r h false x = ap (walkedOver n m p s) (split-cons s r h) ∙ refused r (split (drop (sizeOf r) s)) x
 
-      go : (o : Option Rec) → headRec s ≡ o → walked m p s ≡ NotStore
+      go : (o : Option Rec) → headRec s ≡ o → walked n m p s ≡ NotStore
       go none h = rw (split-none s h (not-zero (standing p) s (λ x. let z : _≡_ {A = ℕ} 0 1 = cc in omega arith)))
       go (some r) h = unsound r h (allowed (standing p) r) refl
 
   pass-rec : (r : Rec) (s : List ℕ) → headRec (drop (p .at) s) ≡ some r → allowed (standing p) r ≡ true
-      → walkAfter m s (passed m p (itemOf (standing p) (drop (p .at) s) r)) ≡ walked m p (drop (p .at) s)
+      → walkAfter n m s (passed n m p (itemOf (standing p) (drop (p .at) s) r)) ≡ walked n m p (drop (p .at) s)
   unfolding passed walkAfter
   pass-rec r s h o =
       let t = drop (p .at) s in
       let i = itemOf (standing p) t r in
-      go (leb (p .key) (key r) & settled p i) ∙ sym (walked-cons m p t r (split (drop (sizeOf r) t)) o) ∙ ap (walkedOver m p t) (sym (split-cons t r h))
+      go (leb (p .key) (key r) & settled p i) ∙ sym (walked-cons n m p t r (split (drop (sizeOf r) t)) o) ∙ ap (walkedOver n m p t) (sym (split-cons t r h))
     where
-      go : (b : Bool) → walkAfter m s (cond b (Go (behind m p (itemOf (standing p) (drop (p .at) s) r))) (Stop NotStore))
-          ≡ cond b (walkedOver m (behind m p (itemOf (standing p) (drop (p .at) s) r)) (drop (sizeOf r) (drop (p .at) s)) (split (drop (sizeOf r) (drop (p .at) s)))) NotStore
+      go : (b : Bool) → walkAfter n m s (cond b (Go (behind n m p (itemOf (standing p) (drop (p .at) s) r))) (Stop NotStore))
+          ≡ cond b (walkedOver n m (behind n m p (itemOf (standing p) (drop (p .at) s) r)) (drop (sizeOf r) (drop (p .at) s)) (split (drop (sizeOf r) (drop (p .at) s)))) NotStore
       go true = rw (drop-drop (sizeOf r) (p .at) s)
       go false = refl
 
-  pub walked-pass : (i : Item) (s : List ℕ) → headOf (standing p) (drop (p .at) s) ≡ HeadRec i → walkAfter m s (passed m p i) ≡ walked m p (drop (p .at) s)
+  pub walked-pass : (i : Item) (s : List ℕ) → headOf (standing p) (drop (p .at) s) ≡ HeadRec i → walkAfter n m s (passed n m p i) ≡ walked n m p (drop (p .at) s)
   walked-pass i s e =
       let w = looked-rec (standing p) (drop (p .at) s) i e in
-      subst (λ (j : Item). walkAfter m s (passed m p j) ≡ walked m p (drop (p .at) s)) (w .item) (pass-rec (w .rec) s (w .head) (w .ok))
+      subst (λ (j : Item). walkAfter n m s (passed n m p j) ≡ walked n m p (drop (p .at) s)) (w .item) (pass-rec (w .rec) s (w .head) (w .ok))
 
-  pub ahead-pass : (i : Item) (s : List ℕ) → headOf (standing p) (drop (p .at) s) ≡ HeadRec i → Within (length s) p → Ahead (length s) p (passed m p i)
+  pub ahead-pass : (i : Item) (s : List ℕ) → headOf (standing p) (drop (p .at) s) ≡ HeadRec i → Within (length s) p → Ahead (length s) p (passed n m p i)
   unfolding passed Ahead metBehind
   ahead-pass i s e w = go (leb (p .key) (keyOf (i .font) (i .place)) & settled p i)
     where
@@ -242,7 +242,7 @@ module _ (m : ℕ) (p : Pos) where
       met true = (omega arith, omega arith)
       met false = (omega arith, omega arith)
 
-      go : (b : Bool) → Ahead (length s) p (cond b (Go (behind m p i)) (Stop NotStore))
+      go : (b : Bool) → Ahead (length s) p (cond b (Go (behind n m p i)) (Stop NotStore))
       go true = (
         omega (arith, k),
         record {
@@ -254,25 +254,25 @@ module _ (m : ℕ) (p : Pos) where
       go false = tt
 
 -- ── passing a record, by its numbers
-pub pass-low : (m : ℕ) (p : Pos) (i : Item) → keyOf (i .font) (i .place) < p .key → passed m p i ≡ Stop NotStore
+pub pass-low : (n m : ℕ) (p : Pos) (i : Item) → keyOf (i .font) (i .place) < p .key → passed n m p i ≡ Stop NotStore
 unfolding passed _&_
-pass-low m p i h = rw (lt-leb (p .key) (keyOf (i .font) (i .place)) h)
+pass-low n m p i h = rw (lt-leb (p .key) (keyOf (i .font) (i .place)) h)
 
-module _ (m : ℕ) (p : Pos) (i : Item) (h : p .key ≤ keyOf (i .font) (i .place)) where
+module _ (n m : ℕ) (p : Pos) (i : Item) (h : p .key ≤ keyOf (i .font) (i .place)) where
   -- a font
-  pub pass-untrue : i .place ≡ 0 → sameTally (p .held) (p .met) ≡ false → passed m p i ≡ Stop NotStore
+  pub pass-untrue : i .place ≡ 0 → sameTally (p .held) (p .met) ≡ false → passed n m p i ≡ Stop NotStore
   unfolding passed settled _&_
   pass-untrue z e = rw (le-leb (p .key) (keyOf (i .font) (i .place)) h, eq-eqb (i .place) 0 z, e)
 
   pub pass-font : i .place ≡ 0 → sameTally (p .held) (p .met) ≡ true
-      → passed m p i ≡ Go (record { at = p .at + i .len; marked = p .marked || (eqb (keyOf (i .font) (i .place)) m && i .unfinished); key = keyOf (i .font) (i .place) + 1; owner = i .font + 1; orientation = i .orientation; held = i .held; met = noCharacters })
-  unfolding passed settled tallyBehind metBehind _&_
+      → passed n m p i ≡ Go (record { at = p .at + i .len; near = nearer n (i .font) 0 (p .at) (p .near); last = p .at; marked = p .marked || (eqb (keyOf (i .font) (i .place)) m && i .unfinished); key = keyOf (i .font) (i .place) + 1; owner = i .font + 1; orientation = i .orientation; held = i .held; met = noCharacters })
+  unfolding passed settled tallyBehind metBehind nearer _&_
   pass-font z e = rw (le-leb (p .key) (keyOf (i .font) (i .place)) h, eq-eqb (i .place) 0 z, e)
 
   -- a character
   pub pass-character : (i .place ≡ 0 → ⊥)
-      → passed m p i ≡ Go (record { at = p .at + i .len; marked = p .marked || (eqb (keyOf (i .font) (i .place)) m && i .unfinished); key = keyOf (i .font) (i .place) + 1; owner = i .font + 1; orientation = i .orientation; held = p .held; met = oneMore true (i .len - characterRecord) (p .met) })
-  unfolding passed settled tallyBehind metBehind _&_
+      → passed n m p i ≡ Go (record { at = p .at + i .len; near = p .near; last = p .at; marked = p .marked || (eqb (keyOf (i .font) (i .place)) m && i .unfinished); key = keyOf (i .font) (i .place) + 1; owner = i .font + 1; orientation = i .orientation; held = p .held; met = oneMore true (i .len - characterRecord) (p .met) })
+  unfolding passed settled tallyBehind metBehind nearer _&_
   pass-character z = rw (le-leb (p .key) (keyOf (i .font) (i .place)) h, ne-eqb (i .place) 0 z)
 
 pub within-more : (n m : ℕ) (p : Pos) → Within n p → n ≤ m → Within m p

@@ -9,7 +9,8 @@ use Rattle.form.specs.Layout.{lastFont, keyOf, kindAt, numberAt, codeAt,
 use Rattle.form.specs.Num.{field}
 use Rattle.form.specs.Model.{Store, total, decode}
 use Rattle.form.specs.Order.{below}
-use Rattle.form.specs.Walk.{keyAfter}
+use Rattle.form.specs.Walk.{keyAfter, endOf, walkStart}
+use Rattle.form.specs.declared.walk.RunEnd.{RunEnd}
 use Rattle.form.specs.declared.locate.Cursor.{Cursor}
 
 -- the place of a record of this kind: 0 a font, its code and 1 a character
@@ -30,6 +31,12 @@ pub record StoreEnds (s : List ℕ) (end : ℕ) : Type 0 where
 pub record Behind (s : List ℕ) (end least : ℕ) : Type 0 where
   pub ends : StoreEnds s end
   pub last : least ≡ keyAfter 0 (ends .store .recs)
+
+-- s is a store, and e says how its records end, where font n was asked for
+pub record EndKnown (n : ℕ) (s : List ℕ) (e : RunEnd) : Type 0 where
+  pub store : Store
+  pub is : decode s ≡ some store
+  pub end : e ≡ endOf n walkStart (store .recs)
 
 -- here is the place of the key k: behind all records with lower keys
 pub record Reaches (s : List ℕ) (k here : ℕ) : Type 0 where

@@ -22,6 +22,7 @@ use Rattle.form.specs.declared.walk.Head.{Head}
 use Rattle.form.specs.declared.walk.Head.the-variants.{End, Rec as HeadRec, Bad}
 use Rattle.form.specs.declared.walk.Pos.{Pos}
 use Rattle.form.specs.declared.walk.Places.{Places}
+use Rattle.form.specs.declared.walk.RunEnd.{RunEnd}
 use Rattle.form.specs.declared.walk.Walk.{Walk}
 use Rattle.form.specs.declared.walk.Walk.the-variants.{Run, NotStore}
 use Rattle.form.specs.declared.walk.Step.{Step}
@@ -67,7 +68,7 @@ pub record Heading (s : List ℕ) (at len : ℕ) : Type 0 where
 
 -- where a walk begins: behind the first record
 abbrev pub walkStart : Pos
-walkStart = record { at = markRecord; marked = false; key = 0; owner = 0; orientation = 0; held = noCharacters; met = noCharacters }
+walkStart = record { at = markRecord; near = markRecord; last = 0; marked = false; key = 0; owner = 0; orientation = 0; held = noCharacters; met = noCharacters }
 
 abbrev pub standing : Pos → Under
 standing p = record { owner = p .owner; orientation = p .orientation }
@@ -83,11 +84,17 @@ metBehind p i = cond (eqb (i .place) 0) noCharacters (oneMore true (i .len - cha
 unfoldable pub settled : Pos → Item → Bool
 settled p i = not (eqb (i .place) 0) || sameTally (p .held) (p .met)
 
--- a walk behind a record, where m is the key of the open character
-abbrev pub behind : ℕ → Pos → Item → Pos
-behind m p i =
+-- the place of the last font with a number up to n, from one that is known on: the record at `at` may be it
+unfoldable pub nearer : ℕ → ℕ → ℕ → ℕ → ℕ → ℕ
+nearer n number place at near = cond (eqb place 0) (cond (leb number n) at near) near
+
+-- a walk behind a record, where font n is asked for and m is the key of the open character
+abbrev pub behind : ℕ → ℕ → Pos → Item → Pos
+behind n m p i =
     record {
       at = p .at + i .len;
+      near = nearer n (i .font) (i .place) (p .at) (p .near);
+      last = p .at;
       marked = p .marked || (eqb (keyOf (i .font) (i .place)) m && i .unfinished);
       key = keyOf (i .font) (i .place) + 1;
       owner = i .font + 1;
@@ -97,8 +104,8 @@ behind m p i =
     }
 
 -- a record's key rises, and the font before it held what is true
-unfoldable pub passed : ℕ → Pos → Item → Step
-passed m p i = cond (leb (p .key) (keyOf (i .font) (i .place)) & settled p i) (Go (behind m p i)) (Stop NotStore)
+unfoldable pub passed : ℕ → ℕ → Pos → Item → Step
+passed n m p i = cond (leb (p .key) (keyOf (i .font) (i .place)) & settled p i) (Go (behind n m p i)) (Stop NotStore)
 
 -- the numbers that fonts hold are true, where the font before these records, which stand in s, holds t and its characters so far have m
 unfoldable pub tallied : Tally → Tally → List ℕ → List Rec → Bool
@@ -111,19 +118,30 @@ unfoldable pub keyAfter : ℕ → List Rec → ℕ
 keyAfter k [] = k
 keyAfter k (r ∷ rs) = keyAfter (keyOf (number r) (place r) + 1) rs
 
--- the answer of a walk from p on over these records, which stand in s: where they end, the least key that may stand there, and whether the open
--- character is among them
-unfoldable pub walkedOver : ℕ → Pos → List ℕ → Option (List Rec) → Walk
-walkedOver m p s none = NotStore
-walkedOver m p s (some rs) = cond (sorted (p .key) (standing p) rs & tallied (p .held) (p .met) s rs) (Run (p .at + total rs) (keyAfter (p .key) rs) (p .marked || opened m rs)) NotStore
+-- the place of the last font with a number up to n, and of the last record, from those known before these records, which stand from `at` on
+unfoldable pub nearAfter : ℕ → ℕ → ℕ → List Rec → ℕ
+nearAfter n near at [] = near
+nearAfter n near at (r ∷ rs) = nearAfter n (nearer n (number r) (place r) at near) (at + sizeOf r) rs
 
-abbrev pub walked : ℕ → Pos → List ℕ → Walk
-walked m p s = walkedOver m p s (split s)
+unfoldable pub lastAfter : ℕ → ℕ → List Rec → ℕ
+lastAfter last at [] = last
+lastAfter last at (r ∷ rs) = lastAfter at (at + sizeOf r) rs
+
+abbrev pub endOf : ℕ → Pos → List Rec → RunEnd
+endOf n p rs = record { used = p .at + total rs; least = keyAfter (p .key) rs; near = nearAfter n (p .near) (p .at) rs; last = lastAfter (p .last) (p .at) rs }
+
+-- the answer of a walk from p on over these records, which stand in s: how they end, and whether the open character is among them
+unfoldable pub walkedOver : ℕ → ℕ → Pos → List ℕ → Option (List Rec) → Walk
+walkedOver n m p s none = NotStore
+walkedOver n m p s (some rs) = cond (sorted (p .key) (standing p) rs & tallied (p .held) (p .met) s rs) (Run (endOf n p rs) (p .marked || opened m rs)) NotStore
+
+abbrev pub walked : ℕ → ℕ → Pos → List ℕ → Walk
+walked n m p s = walkedOver n m p s (split s)
 
 -- the answer after a step
-unfoldable pub walkAfter : ℕ → List ℕ → Step → Walk
-walkAfter m s (Go p) = walked m p (drop (p .at) s)
-walkAfter m s (Stop w) = w
+unfoldable pub walkAfter : ℕ → ℕ → List ℕ → Step → Walk
+walkAfter n m s (Go p) = walked n m p (drop (p .at) s)
+walkAfter n m s (Stop w) = w
 
 -- the sums of a walk stay within what it passed
 pub record Within (n : ℕ) (p : Pos) : Type 0 where
@@ -155,17 +173,17 @@ markSeen m =
     (cond (eqb (m .on) 1 & leb (m .fontOf) lastFont & leb (m .codeOf) lastCode) (Open (keyOf (m .fontOf) (m .codeOf + 1))) Wrong)
 
 -- the records of a buffer whose first record is right; with `must`, the character with the key m must be there and incomplete
-unfoldable pub surveyedOver : ℕ → Bool → List ℕ → Option (List Rec) → Checked
-surveyedOver m must s none = NotStore
-surveyedOver m must s (some rs) = cond ((sorted 0 alone rs & counted (tallyOf rs) s rs) & (not must || opened m rs)) (Is (markRecord + total rs) (keyAfter 0 rs)) NotStore
+unfoldable pub surveyedOver : ℕ → ℕ → Bool → List ℕ → Option (List Rec) → Checked
+surveyedOver n m must s none = NotStore
+surveyedOver n m must s (some rs) = cond ((sorted 0 alone rs & counted (tallyOf rs) s rs) & (not must || opened m rs)) (Is (endOf n walkStart rs)) NotStore
 
-abbrev pub surveyed : ℕ → Bool → List ℕ → Checked
-surveyed m must s = surveyedOver m must s (split s)
+abbrev pub surveyed : ℕ → ℕ → Bool → List ℕ → Checked
+surveyed n m must s = surveyedOver n m must s (split s)
 
--- a store, where its records end, and the least key that may stand there
-unfoldable pub checkedStore : Option Store → Checked
-checkedStore none = NotStore
-checkedStore (some st) = Is (markRecord + total (st .recs)) (keyAfter 0 (st .recs))
+-- a store, and how its records end
+unfoldable pub checkedStore : ℕ → Option Store → Checked
+checkedStore n none = NotStore
+checkedStore n (some st) = Is (endOf n walkStart (st .recs))
 
 unfoldable pub inspected : ℕ → ℕ → Option Store → Inspected
 inspected n p none = NotStore

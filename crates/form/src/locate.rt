@@ -5,7 +5,7 @@ ghost use Prim.Native.Nat.{_+_, _≤_};
 ghost use lib.ListN.{length};
 ghost use Rattle.form.specs.Layout.{keyOf, characterRecord, lastFont, lastCode};
 ghost use Rattle.form.specs.Walk.{Stands};
-ghost use Rattle.form.specs.Cursor.{keyAt, Behind, Seeking, Reaches, Points};
+ghost use Rattle.form.specs.Cursor.{keyAt, Behind, EndKnown, Seeking, Reaches, Points};
 use crate::layout::CODE_AT;
 use crate::layout::FONT_KIND;
 use crate::layout::KEYS_EACH;
@@ -14,6 +14,7 @@ use crate::layout::MARK_RECORD;
 use crate::layout::NUMBER_AT;
 use crate::number;
 use crate::walk::Places;
+use crate::walk::RunEnd;
 
 // What is known of a store: where its records end, where a font's place is, and where the place of one more key is.
 pub struct Cursor {
@@ -81,18 +82,29 @@ fn seek_end(
     reach(s, used, least, lo, (font + 1) * KEYS_EACH + 0)
 }
 
-// Where font `font` stands in a store whose records end at used, and the record at a place of it, whatever numbers these are.
-pub(crate) fn places_in(s: &[u8], used: usize, least: usize, font: usize, place: usize) -> Places
-    requires { ⌜ Behind (now s) used least × (font ≤ 4294967296) × (place ≤ 4294967296) ⌝ }
-    ensures { λ r. ⌜ Stands font place (now (s .entry)) r ⌝ }
+// The place of a record: the last one's is known.
+fn seek_record(s: &[u8], end: RunEnd, lo: usize, font: usize, place: usize) -> usize
+    requires { ⌜ EndKnown font (now s) end × Reaches (now s) (keyOf font 0) lo × (font ≤ 4294967296) × (place ≤ 4294967296) ⌝ }
+    ensures { λ r. ⌜ Reaches (now (s .entry)) (keyOf font place) r ⌝ }
 {
     let key = font * KEYS_EACH + place;
-    let lo = reach(s, used, least, MARK_RECORD, font * KEYS_EACH + 0);
-    let from = reach(s, used, least, lo, key);
-    let to = reach(s, used, least, from, key + 1);
-    let hi = seek_end(s, used, least, lo, to, font, place);
+    if key + 1 == end.least {
+        return end.last;
+    }
+    reach(s, end.used, end.least, lo, key)
+}
+
+// Where font `font` stands in a store whose records end so, and the record at a place of it, whatever numbers these are.
+pub(crate) fn places_in(s: &[u8], end: RunEnd, font: usize, place: usize) -> Places
+    requires { ⌜ EndKnown font (now s) end × (font ≤ 4294967296) × (place ≤ 4294967296) ⌝ }
+    ensures { λ r. ⌜ Stands font place (now (s .entry)) r ⌝ }
+{
+    let lo = reach(s, end.used, end.least, end.near, font * KEYS_EACH + 0);
+    let from = seek_record(s, end, lo, font, place);
+    let to = reach(s, end.used, end.least, from, font * KEYS_EACH + place + 1);
+    let hi = seek_end(s, end.used, end.least, lo, to, font, place);
     Places {
-        used: used,
+        used: end.used,
         lo: lo,
         from: from,
         to: to,

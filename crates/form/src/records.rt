@@ -43,7 +43,7 @@ pub enum Met {
 pub fn begin_records(s: &[u8]) -> Begin
     ensures { λ b. ⌜ Begun (now (s .entry)) b ⌝ }
 {
-    let Checked::Store(_, _) = walk::check(s) else {
+    let Checked::Store(_) = walk::check(s, 0) else {
         return Begin::NotStore;
     };
     Begin::At(MARK_RECORD)

@@ -7,7 +7,7 @@ ghost use Rattle.blocks.specs.Character.{descriptorBytes};
 ghost use Rattle.form.specs.Layout.{characterKeptAt, characterRecord, kindAt, lastFont, leastStore, markRecord, mostStore, characterKind, fontKind, lastCode};
 ghost use Rattle.form.specs.Num.{field};
 ghost use Rattle.form.specs.Model.{Under, heldUnder, decode, begins, markIn};
-ghost use Rattle.form.specs.Walk.{headOf, Heading, passed, walked, walkAfter, Ahead, Within, walkStart, markSeen, surveyed, checkedStore, inspected, fontLookup, characterLookup};
+ghost use Rattle.form.specs.Walk.{headOf, Heading, passed, walked, walkAfter, Ahead, Within, nearer, walkStart, markSeen, surveyed, checkedStore, inspected, fontLookup, characterLookup};
 use crate::layout::CHARACTER_KEPT_AT;
 use crate::layout::CHARACTER_KIND;
 use crate::layout::CHARACTER_RECORD;
@@ -55,10 +55,12 @@ pub enum Head {
     Bad,
 }
 
-// How far a walk has come: the place; whether the open character was met; the least key, the font and the orientation that the next record must
+// How far a walk has come: the place; that of the last font up to the one asked for, and of the last record; whether the open character was met; the least key, the font and the orientation that the next record must
 // have; the numbers that the font's record holds, and those of its characters met so far.
 pub struct Pos {
     pub at: usize,
+    pub near: usize,
+    pub last: usize,
     pub marked: bool,
     pub key: usize,
     pub owner: usize,
@@ -76,9 +78,17 @@ pub struct Places {
     pub hi: usize,
 }
 
-// Where the records end, the least key that may stand there, and whether the open character was met.
+// Where the records end, and the least key that may stand there; where the last font up to the one asked for stands, and the last record.
+pub struct RunEnd {
+    pub used: usize,
+    pub least: usize,
+    pub near: usize,
+    pub last: usize,
+}
+
+// How the records end, and whether the open character was met.
 pub enum Walk {
-    Run(usize, usize, bool),
+    Run(RunEnd, bool),
     NotStore,
 }
 
@@ -100,9 +110,9 @@ pub enum Lookup {
     Missing,
 }
 
-// A store, where its records end, and the least key that may stand there.
+// A store, and how its records end.
 pub enum Checked {
-    Store(usize, usize),
+    Store(RunEnd),
     NotStore,
 }
 
@@ -229,26 +239,35 @@ fn look(s: &[u8], at: usize, owner: usize, orientation: u8) -> Head
     Head::Bad
 }
 
-// A walk at p, over a record with a key, where mark is the key of the open character: the numbers of the font before it must be true if it is the
+// The place of the last font with a number up to the one asked for, behind a font.
+fn nearer_font(font: usize, number: usize, at: usize, near: usize) -> usize
+    ensures { λ r. ⌜ r ≡ nearer font number 0 at near ⌝ }
+{
+    if number <= font { at } else { near }
+}
+
+// A walk at p, over a record with a key, where font is asked for and mark is the key of the open character: the numbers of the font before it must be true if it is the
 // next font's.
-fn pass(mark: usize, p: Pos, i: Item) -> Step
+fn pass(font: usize, mark: usize, p: Pos, i: Item) -> Step
     requires { ⌜ (i .font ≤ lastFont) × (i .place ≤ lastCode + 1) × (i .len ≤ mostStore) × Within mostStore p ⌝ }
     requires { ⌜ ((i .place ≡ 0 → ⊥) → characterRecord ≤ i .len) ⌝ }
-    ensures { λ r. ⌜ r ≡ passed mark p i ⌝ }
+    ensures { λ r. ⌜ r ≡ passed font mark p i ⌝ }
 {
     let key = i.font * KEYS_EACH + i.place;
     if key < p.key {
         return Step::Stop(Walk::NotStore);
     }
     if i.place == 0 {
-        let font = p.held;
-        let characters = p.met;
-        if !tally::same_tally(font, characters) {
+        let numbers = p.held;
+        let counted = p.met;
+        if !tally::same_tally(numbers, counted) {
             return Step::Stop(Walk::NotStore);
         }
         let held = i.held;
         return Step::Go(Pos {
             at: p.at + i.len,
+            near: nearer_font(font, i.font, p.at, p.near),
+            last: p.at,
             marked: p.marked | ((key == mark) & i.unfinished),
             key: key + 1,
             owner: i.font + 1,
@@ -261,6 +280,8 @@ fn pass(mark: usize, p: Pos, i: Item) -> Step
     let met = p.met;
     Step::Go(Pos {
         at: p.at + i.len,
+        near: p.near,
+        last: p.at,
         marked: p.marked | ((key == mark) & i.unfinished),
         key: key + 1,
         owner: i.font + 1,
@@ -273,31 +294,39 @@ fn pass(mark: usize, p: Pos, i: Item) -> Step
     })
 }
 
-fn walk_one(s: &[u8], mark: usize, p: Pos) -> Step
+fn walk_one(s: &[u8], font: usize, mark: usize, p: Pos) -> Step
     requires { ⌜ (length (now s) ≤ mostStore) × Within (length (now s)) p ⌝ }
-    ensures { λ r. ⌜ (walkAfter mark (now (s .entry)) r ≡ walked mark p (drop (p .at) (now (s .entry)))) × Ahead (length (now (s .entry))) p r ⌝ }
+    ensures { λ r. ⌜ (walkAfter font mark (now (s .entry)) r ≡ walked font mark p (drop (p .at) (now (s .entry)))) × Ahead (length (now (s .entry))) p r ⌝ }
 {
     let at = p.at;
     match look(s, at, p.owner, p.orientation) {
         Head::End => {
             if tally::same_tally(p.held, p.met) & number::zeros(s, at) {
-                Step::Stop(Walk::Run(at, p.key, p.marked))
+                let end = RunEnd {
+                    used: p.at,
+                    least: p.key,
+                    near: p.near,
+                    last: p.last,
+                };
+                Step::Stop(Walk::Run(end, p.marked))
             } else {
                 Step::Stop(Walk::NotStore)
             }
         }
-        Head::Rec(i) => pass(mark, p, i),
+        Head::Rec(i) => pass(font, mark, p, i),
         Head::Bad => Step::Stop(Walk::NotStore),
     }
 }
 
 // The whole run of a buffer, behind its first record.
-fn survey(s: &[u8], mark: usize) -> Walk
+fn survey(s: &[u8], font: usize, mark: usize) -> Walk
     requires { ⌜ (leastStore ≤ length (now s)) × (length (now s) ≤ mostStore) ⌝ }
-    ensures { λ r. ⌜ r ≡ walked mark walkStart (drop markRecord (now (s .entry))) ⌝ }
+    ensures { λ r. ⌜ r ≡ walked font mark walkStart (drop markRecord (now (s .entry))) ⌝ }
 {
     let mut p = Pos {
         at: MARK_RECORD,
+        near: MARK_RECORD,
+        last: 0,
         marked: false,
         key: 0,
         owner: 0,
@@ -306,7 +335,7 @@ fn survey(s: &[u8], mark: usize) -> Walk
         met: NONE,
     };
     loop {
-        match walk_one(s, mark, p) {
+        match walk_one(s, font, mark, p) {
             Step::Go(next) => {
                 p = next;
             }
@@ -359,14 +388,14 @@ fn see_mark(s: &[u8]) -> MarkSeen
 }
 
 // The records of a buffer whose first record is right: with must, the character with the key mark must be there and incomplete.
-fn check_records(s: &[u8], mark: usize, must: bool) -> Checked
+fn check_records(s: &[u8], font: usize, mark: usize, must: bool) -> Checked
     requires { ⌜ (leastStore ≤ length (now s)) × (length (now s) ≤ mostStore) ⌝ }
-    ensures { λ r. ⌜ r ≡ surveyed mark must (drop markRecord (now (s .entry))) ⌝ }
+    ensures { λ r. ⌜ r ≡ surveyed font mark must (drop markRecord (now (s .entry))) ⌝ }
 {
-    match survey(s, mark) {
-        Walk::Run(used, least, marked) => {
+    match survey(s, font, mark) {
+        Walk::Run(end, marked) => {
             if !must | marked {
-                Checked::Store(used, least)
+                Checked::Store(end)
             } else {
                 Checked::NotStore
             }
@@ -375,16 +404,16 @@ fn check_records(s: &[u8], mark: usize, must: bool) -> Checked
     }
 }
 
-// Whether a buffer is a store, and where its records end.
-pub fn check(s: &[u8]) -> Checked
-    ensures { λ r. ⌜ r ≡ checkedStore (decode (now (s .entry))) ⌝ }
+// Whether a buffer is a store, and how its records end, where a font is asked for.
+pub fn check(s: &[u8], font: usize) -> Checked
+    ensures { λ r. ⌜ r ≡ checkedStore font (decode (now (s .entry))) ⌝ }
 {
     if !begins_right(s) {
         return Checked::NotStore;
     }
     match see_mark(s) {
-        MarkSeen::Shut => check_records(s, 0, false),
-        MarkSeen::Open(key) => check_records(s, key, true),
+        MarkSeen::Shut => check_records(s, font, 0, false),
+        MarkSeen::Open(key) => check_records(s, font, key, true),
         MarkSeen::Wrong => Checked::NotStore,
     }
 }
@@ -394,10 +423,10 @@ pub fn inspect(s: &[u8], font: usize, place: usize) -> Inspected
     requires { ⌜ (font ≤ 4294967296) × (place ≤ 4294967296) ⌝ }
     ensures { λ r. ⌜ r ≡ inspected font place (decode (now (s .entry))) ⌝ }
 {
-    let Checked::Store(used, least) = check(s) else {
+    let Checked::Store(end) = check(s, font) else {
         return Inspected::NotStore;
     };
-    Inspected::Found(locate::places_in(s, used, least, font, place))
+    Inspected::Found(locate::places_in(s, end, font, place))
 }
 
 // Whether the font stands there.

@@ -2,7 +2,7 @@
 ghost use mathlib.Core.Path.{_≡_};
 ghost use mathlib.Core.List.{List, _++_};
 ghost use Prim.Native.Nat.{ℕ, _+_, _*_, _-_, _≤_, _<_, _/_, _%_, _^_};
-ghost use lib.ListN.{length, getD, take, drop, set};
+ghost use lib.ListN.{length, getD, take, drop};
 ghost use Rattle.pictures.specs.Size.{sideLimit, pictureSize};
 ghost use Rattle.turning.specs.Mirror.{mirror, Mirrors, joinedDots, halfByte, MirroredInto, pairBefore};
 ghost use Rattle.turning.specs.Turn.{turned};

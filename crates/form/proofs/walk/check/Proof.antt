@@ -8,7 +8,7 @@ use Rattle.form.proofs.walk.check.Statement.{statement}
 use Rattle.form.proofs.walk.check.Tie as tie
 
 returns : tie.Need-returns
-returns c = sym (check-not _ (failed (c .before .begins-right .ensures) (c .if1 .taken)))
+returns c = sym (check-not _ _ (failed (c .before .begins-right .ensures) (c .if1 .taken)))
 
 see-mark-requires : tie.Need-see-mark-requires
 see-mark-requires c κs = begins-parts (now (c .before .before .before .args .s)) (passed (c .before .begins-right .ensures) (c .if1 .left)) .0
@@ -27,18 +27,18 @@ returns-2 : tie.Need-returns-2
 returns-2 c =
     let k3 = c .before .before .before in
     let k4 = k3 .before in
-    c .check-records .ensures ∙ sym (check-shut _ (passed (k4 .before .begins-right .ensures) (k4 .if1 .left)) (sym (k3 .see-mark .ensures) ∙ c .before .enum-told .given .1))
+    c .check-records .ensures ∙ sym (check-shut _ _ (passed (k4 .before .begins-right .ensures) (k4 .if1 .left)) (sym (k3 .see-mark .ensures) ∙ c .before .enum-told .given .1))
 
 returns-3 : tie.Need-returns-3
 returns-3 c =
     let k4 = c .before .before .before .before in
     let k5 = k4 .before in
-    c .check-records2 .ensures ∙ sym (check-open _ _ (passed (k5 .before .begins-right .ensures) (k5 .if1 .left)) (sym (k4 .see-mark .ensures) ∙ c .before .before .key .given .1))
+    c .check-records2 .ensures ∙ sym (check-open _ _ _ (passed (k5 .before .begins-right .ensures) (k5 .if1 .left)) (sym (k4 .see-mark .ensures) ∙ c .before .before .key .given .1))
 
 returns-4 : tie.Need-returns-4
 returns-4 c =
     let k3 = c .before .before .before in
-    sym (check-wrong _ (passed (k3 .before .begins-right .ensures) (k3 .if1 .left)) (sym (c .before .before .see-mark .ensures) ∙ c .enum-told2 .given .1))
+    sym (check-wrong _ _ (passed (k3 .before .begins-right .ensures) (k3 .if1 .left)) (sym (c .before .before .see-mark .ensures) ∙ c .enum-told2 .given .1))
 
 pub check-spec : {M : Type 1} → statement M
 check-spec =

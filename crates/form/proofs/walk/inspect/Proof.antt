@@ -11,7 +11,7 @@ places-in-requires : tie.Need-places-in-requires
 places-in-requires c κs =
     let k3 = c .before .before .before in
     let p = k3 .before .before .pre in
-    (ends-by _ _ _ (sym (k3 .check .ensures) ∙ c .before .used .given .1), p .0, p .1)
+    (ends-by _ _ _ (sym (k3 .check .ensures) ∙ c .before .end .given .1), p .0, p .1)
 
 returns-2 : tie.Need-returns-2
 returns-2 c = sym (inspect-found _ _ _ _ (c .places-in .ensures))

@@ -29,7 +29,7 @@ returns c =
     let a = k5 .before .before .args in
     let t = drop (a .p .at) (now (a .s)) in
     let z : (sameTally (a .p .held) (a .p .met) && allZero t) ≡ true = ap₂ (λ (x y : Bool). x && y) (sym (c .before .before .same-tally .ensures)) (sym (c .before .zeros .ensures)) ∙ c .if1 .taken in
-    (sym (walked-end (a .mark) (a .p) t (sym (k5 .look .ensures) ∙ c .before .before .before .enum-told .given .1) ∙ rw z), tt)
+    (sym (walked-end (a .font) (a .mark) (a .p) t (sym (k5 .look .ensures) ∙ c .before .before .before .enum-told .given .1) ∙ rw z), tt)
 
 returns-2 : tie.Need-returns-2
 unfolding walkAfter Ahead
@@ -38,7 +38,7 @@ returns-2 c =
     let a = k5 .before .before .args in
     let t = drop (a .p .at) (now (a .s)) in
     let z : (sameTally (a .p .held) (a .p .met) && allZero t) ≡ false = ap₂ (λ (x y : Bool). x && y) (sym (c .before .before .same-tally .ensures)) (sym (c .before .zeros .ensures)) ∙ c .if1 .left in
-    (sym (walked-end (a .mark) (a .p) t (sym (k5 .look .ensures) ∙ c .before .before .before .enum-told .given .1) ∙ rw z), tt)
+    (sym (walked-end (a .font) (a .mark) (a .p) t (sym (k5 .look .ensures) ∙ c .before .before .before .enum-told .given .1) ∙ rw z), tt)
 
 returns-3 : tie.Need-returns-3
 returns-3 c =
@@ -47,13 +47,13 @@ returns-3 c =
     let a = k6 .args in
     let i = c .before .before .i .given .0 .0 in
     let e : headOf (standing (a .p)) (drop (a .p .at) (now (a .s))) ≡ HeadRec i = sym (k4 .look .ensures) ∙ c .before .before .i .given .1 in
-    rw (c .pass .ensures) (walked-pass (a .mark) (a .p) i (now (a .s)) e, ahead-pass (a .mark) (a .p) i (now (a .s)) e (k6 .pre .1))
+    rw (c .pass .ensures) (walked-pass (a .font) (a .mark) (a .p) i (now (a .s)) e, ahead-pass (a .font) (a .mark) (a .p) i (now (a .s)) e (k6 .pre .1))
 
 returns-4 : tie.Need-returns-4
 unfolding walkAfter Ahead
 returns-4 c =
     let a = c .before .before .before .before .args in
-    (sym (walked-bad (a .mark) (a .p) (drop (a .p .at) (now (a .s))) (sym (c .before .before .look .ensures) ∙ c .enum-told2 .given .1)), tt)
+    (sym (walked-bad (a .font) (a .mark) (a .p) (drop (a .p .at) (now (a .s))) (sym (c .before .before .look .ensures) ∙ c .enum-told2 .given .1)), tt)
 
 pub walk-one-spec : {M : Type 1} → statement M
 walk-one-spec =

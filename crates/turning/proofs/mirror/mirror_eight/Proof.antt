@@ -1,4 +1,3 @@
-use denote.Ref.{now}
 use native.Mathlib.Omega.{arith}
 use borrow.Author.Needs.{needs}
 use Rattle.turning.proofs.MirrorLaws.{runs-joined}
