@@ -83,9 +83,10 @@
  *   longer than needed keeps its later bytes.
  *
  * What a call costs
- *   Each call on a store checks all of it first: 1 to 17 microseconds for 65,536 bytes, and most
- *   calls take little more. mf_choose_sheet and mf_read_stream check it once, so they are faster
- *   than calls for each request or block. Figures: bench/README.md of the sources.
+ *   Each call on a store checks all of it first: 1 to 40 microseconds for 65,536 bytes, by what
+ *   they hold, and most calls take little more. mf_choose_sheet and mf_read_stream check it
+ *   once, so they are faster than calls for each request or block. Figures: bench/README.md of
+ *   the sources.
  *
  * Saving a store
  *   A store may be saved, copied and taken up again as plain bytes, by the same version on any
