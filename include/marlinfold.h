@@ -84,9 +84,9 @@
  *
  * What a call costs
  *   Each call on a store checks all of it first: 1 to 40 microseconds for 65,536 bytes, by what
- *   they hold, and most calls take little more. mf_choose_sheet and mf_read_stream check it
- *   once, so they are faster than calls for each request or block. Figures: bench/README.md of
- *   the sources.
+ *   they hold, and most calls take little more; a stream of very many small continuations may
+ *   take milliseconds. mf_choose_sheet and mf_read_stream check it once, so they are faster than
+ *   calls for each request or block. Figures: bench/README.md of the sources.
  *
  * Saving a store
  *   A store may be saved, copied and taken up again as plain bytes, by the same version on any
@@ -231,7 +231,7 @@ typedef struct {
     uint32_t refusal;
     uint64_t done;    /* commands */
     uint64_t refused; /* commands */
-    uint64_t place;   /* of the broken command, counted from 0; else 0 */
+    uint64_t place;   /* where it is broken, see mf_read_stream; else 0 */
 } mf_stream_read;
 
 /* One request of a sheet: the numbers of mf_choose, in its order. */
@@ -699,10 +699,10 @@ enum mf_profile_rule {
     MF_PROFILE_DELTA_X = 7    /* its delta X is the font's pitch field, both as kept */
 };
 
-/* Checks whether a font meets that profile, which the binder's machine needs. Answers
- * MF_PROFILE_MET and code 0 if it does; else the first rule that is broken, whatever codes break
- * later ones, and the lowest code that breaks it, which is 0 for the type and the spacing. A font
- * that breaks a rule is no refusal: the answer's refusal is MF_DONE.
+/* Checks whether a font meets that profile, which a bookbinder's machine for spine labels needs.
+ * Answers MF_PROFILE_MET and code 0 if it does; else the first rule that is broken, whatever codes
+ * break later ones, and the lowest code that breaks it, which is 0 for the type and the spacing. A
+ * font that breaks a rule is no refusal: the answer's refusal is MF_DONE.
  * Refuses, in this order:
  *   MF_NOT_A_STORE   not a store
  *   MF_OUT_OF_RANGE  font is above MF_FONT_MAX
@@ -736,8 +736,9 @@ mf_written mf_write_profiled(const uint8_t *store, size_t store_len,
  *   MF_NOT_A_STORE    not a store
  *   MF_STREAM_BROKEN  another byte than ESC where a command should begin, or a command with a
  *                     wrong byte, too large a number of bytes or not all of them. Answers the
- *                     place of that byte, or of the command's ESC, counted from 0, and the
- *                     counts before it; what stands before it stays done */
+ *                     place of the byte that is no ESC, or of the ESC of the wrong command,
+ *                     counted from 0, and the counts before it; what stands before it stays
+ *                     done */
 mf_stream_read mf_read_stream(uint8_t *store, size_t store_len,
                               const uint8_t *stream, size_t stream_len);
 
