@@ -54,8 +54,10 @@ static unsigned tell_incomplete(uint32_t number)
     find_incomplete(number, incomplete);
     for (code = 0; code <= MF_CODE_MAX; code++)
         if (incomplete[code]) {
-            fprintf(stderr, "%s: font %u, code %u: incomplete, rows are missing\n",
-                    origin[number].file, (unsigned)number, (unsigned)code);
+            fprintf(stderr, "%s: font %u", origin[number].file, (unsigned)origin[number].number);
+            if (into.next != OWN_NUMBERS)
+                fprintf(stderr, " (numbered %u)", (unsigned)number);
+            fprintf(stderr, ", code %u: incomplete, rows are missing\n", (unsigned)code);
             found++;
         }
     return found;

@@ -38,6 +38,7 @@ static order read_order(words *from)
     const char *value;
 
     while (at_option(from)) {
+        check_request(*from);
         if (take_request(from, &asked.font))
             continue;
         if (take(from, "--plain"))
@@ -55,6 +56,8 @@ static order read_order(words *from)
     return asked;
 }
 
+#define NONE_TO_CHOOSE "no font has the symbol set asked for or 8U"
+
 /* The number of the font that fits best, and a line about it for the user. */
 static uint32_t choose(const mf_request *asked)
 {
@@ -63,6 +66,10 @@ static uint32_t choose(const mf_request *asked)
                   asked->height, asked->style, asked->weight, asked->typeface, asked->orientation,
                   asked->mode);
 
+    if (chosen.refusal == MF_NONE_TO_CHOOSE)
+        stop("choosing", asked->mode == MF_MODE_300
+                             ? NONE_TO_CHOOSE "; fonts of 600 dpi need --mode 600"
+                             : NONE_TO_CHOOSE);
     if (chosen.refusal)
         refuse("choosing", chosen.refusal);
     print_font(stderr, chosen.font);

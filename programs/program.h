@@ -31,6 +31,13 @@ static inline void stop(const char *what, const char *why)
     exit(FAILED);
 }
 
+/* Stops at an option's value. */
+static inline void stop_value(const char *option, const char *value, const char *why)
+{
+    fprintf(stderr, "%s %s: %s\n", option, value, why);
+    exit(FAILED);
+}
+
 static inline void refuse(const char *what, uint32_t refusal)
 {
     fprintf(stderr, "%s: refusal %u, %s\n", what, (unsigned)refusal, mf_refusal_name(refusal));
@@ -144,24 +151,29 @@ static inline long number_within(const char *option, const char *word, long low,
 }
 
 /* Any whole number that fits, where the library says what is out of range. */
-static inline long whole(const char *word)
+static inline long whole(const char *option, const char *word)
 {
     char *end;
     long number = strtol(word, &end, 10);
     if (*word == '\0' || *end != '\0' || number < -1000000 || number > 1000000)
-        stop(word, "not a number");
+        stop_value(option, word, "not a number");
     return number;
 }
 
-/* A symbol set as 8U or as its number. */
-static inline uint32_t symbol_set(const char *word)
+#define SYMBOL_SET_MAX 2047
+
+/* The value of an option: a symbol set as 8U or as its number, up to a limit. */
+static inline uint32_t symbol_set(const char *option, const char *word, uint32_t high)
 {
     char *end;
     long number = strtol(word, &end, 10);
     int letter = *end >= 'A' && *end <= 'Z';
-    if (end == word || end[letter] != '\0' || number < 0 || number > 1000000)
-        stop(word, "not a symbol set");
-    return letter ? MF_SYMBOL_SET(number, *end) : (uint32_t)number;
+    int read = end != word && end[letter] == '\0' && number >= 0 && number <= 1000000;
+    uint32_t set = !read ? 0 : letter ? MF_SYMBOL_SET(number, *end) : (uint32_t)number;
+
+    if (!read || set > high)
+        stop_value(option, word, "not a symbol set (as 8U, with a capital, or 0 to 2047)");
+    return set;
 }
 
 /* A file read whole. */

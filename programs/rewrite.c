@@ -21,8 +21,8 @@ static const about program = {
     "  --help         print this\n"
     "  --version      print the version\n"
     "  --             what follows is no option\n\n"
-    "Exit status: 0 if the fonts were written, 1 if not: then a message tells the byte and what\n"
-    "is wrong there, and nothing is written.\n"};
+    "Exit status: 0 if the fonts were written, 1 if not: then a message tells what is wrong,\n"
+    "and of a damaged stream the byte. Nothing is written, unless writing itself fails.\n"};
 
 /* A font block's bytes, as far as they are read or written here. */
 #define FORMAT_AT 2
@@ -44,7 +44,7 @@ static const field fields[FIELDS] = {
     {0, 2, 0, NULL, 0, 0}, /* the two that have no option */
     {FORMAT_AT, 1, 0, NULL, 0, 0},
     {13, 1, 0, "--spacing", 0, 1},
-    {14, 2, 0, "--set", 0, 2047},
+    {14, 2, 0, "--set", 0, SYMBOL_SET_MAX},
     {16, 2, 0, "--pitch", 0, 65535},
     {18, 2, 0, "--height", 0, 65535},
     {24, 1, 0, "--weight", MF_ULTRA_THIN, MF_ULTRA_BLACK},
@@ -71,11 +71,9 @@ static int take_field(words *from, order *asked)
             continue;
         asked->given[at] = 1;
         if (at == SYMBOL_SET)
-            asked->values[at] = (long)symbol_set(value);
+            asked->values[at] = (long)symbol_set(of->option, value, (uint32_t)of->high);
         else
             asked->values[at] = number_within(of->option, value, of->low, of->high);
-        if (asked->values[at] > of->high)
-            stop(value, "not a symbol set");
         return 1;
     }
     return 0;
@@ -265,18 +263,27 @@ static void put(uint8_t *block, const field *of, long value)
     }
 }
 
+/* How many bytes of a font block are kept, by its format; stops if it is not taken. */
+static size_t font_bytes(const stream *from, const command *given)
+{
+    uint8_t format = given->length > FORMAT_AT ? given->data[FORMAT_AT] : FORMAT_0;
+    size_t length = format == FORMAT_20 ? FORMAT_20_BYTES : FORMAT_0_BYTES;
+
+    if (format != FORMAT_0 && format != FORMAT_20)
+        broken(from, given->place, "a font block that is not of format 0 or 20");
+    if (given->length < length)
+        broken(from, given->place,
+               "a font block of fewer than 64 bytes, in format 20 of fewer than 68");
+    return length;
+}
+
 /* Writes a font block in its format, or in format 0, with the fields that were given. */
 static void rewrite_font(rewriting *of, const stream *from, const command *given)
 {
     uint8_t block[FORMAT_20_BYTES];
-    size_t length = given->length > FORMAT_AT && given->data[FORMAT_AT] == FORMAT_20
-                        ? FORMAT_20_BYTES
-                        : FORMAT_0_BYTES;
+    size_t length = font_bytes(from, given);
     int at;
 
-    if (given->length < length ||
-        (given->data[FORMAT_AT] != FORMAT_0 && given->data[FORMAT_AT] != FORMAT_20))
-        broken(from, given->place, "a font block that is not of format 0 or 20");
     if (of->asked->format_0)
         length = FORMAT_0_BYTES;
     memcpy(block, given->data, length);

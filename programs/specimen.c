@@ -22,7 +22,8 @@ static const about program = {
     PAGE_HELP
     "Exit status: 0 if the sheet is whole, 2 if it was written but a character is incomplete or\n"
     "a font file was not taken whole, 1 if it was not written. With --profile: 0 if the font\n"
-    "meets it, 2 if it does not, 1 if that was not found out.\n"};
+    "meets it, 2 if it does not or a font file was not taken whole, 1 if that was not found\n"
+    "out.\n"};
 
 typedef struct {
     uint32_t font; /* NO_FONT if none is named */
