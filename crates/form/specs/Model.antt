@@ -26,6 +26,10 @@ pub record Mark : Type 0 where
   pub fontOf : ℕ
   pub codeOf : ℕ
 
+-- "all 0 if none is open"
+abbrev pub shut : Mark
+shut = record { on = 0; fontOf = 0; codeOf = 0 }
+
 pub record Store : Type 0 where
   pub size : ℕ
   pub mark : Mark

@@ -2,13 +2,13 @@
 use Prim.Native.Nat.{ℕ, _+_, _-_, _<_, _≤_}
 use mathlib.Core.Path.{_≡_, refl, _∙_}
 use mathlib.Core.List.{List}
-use mathlib.Core.Bool.{Bool, true, false, not, _&&_, _||_}
+use mathlib.Core.Bool.{Bool, true, false, not, _||_}
 use native.Mathlib.Omega.{arith}
-use borrow.Author.Tests.{lt-ltb, le-ltb, ne-eqb, eq-eqb, le-leb, lt-leb, eqb-true, ltb-true, leb-true}
-use lib.Dec.{ltb, leb, eqb}
+use borrow.Author.Tests.{lt-ltb, le-ltb, ne-eqb, eq-eqb, le-leb, lt-leb, leb-true}
+use lib.Dec.{leb}
 use lib.ListN.{length, drop, getD}
 use Rattle.pictures.specs.Runs.{start, placeOf, fillRow, endRow, runIn, stepAt, stepRun, isFinished, scanFrom}
-use Rattle.pictures.specs.Passing.{isAtRun, isBlack, filledAt, atRun, countRow, endsRow, pairAt, fourAt, eightAt, Passes, PassesRuns}
+use Rattle.pictures.specs.Passing.{isAtRun, isInRow, isBlack, filledAt, atRun, countRow, stoppedIn, finishedAt, pairAt, fourAt, eightAt, Passes, PassesRuns}
 use Rattle.pictures.specs.declared.runs.Place.{Place}
 use Rattle.pictures.specs.declared.runs.Place.the-variants.{Count, White, Black, Finished}
 use Rattle.pictures.specs.declared.runs.Reader.{Reader}
@@ -61,6 +61,9 @@ place-again (White f) e = refl
 place-again (Black f) e = refl
 place-again Finished e = let z : _≡_ {A = ℕ} 0 1 = cc in absurd (omega arith)
 
+pub in-row : (w : ℕ) (p : Place) → isInRow w p ≡ true → filledAt p ≤ w
+in-row w p e = leb-true _ _ (both (isAtRun p) (leb (filledAt p) w) e .1)
+
 -- a place that is neither at a run nor finished is at a count
 count-again : (p : Place) → (isAtRun p || isFinished p) ≡ false → p ≡ Count
 count-again Count e = refl
@@ -98,6 +101,9 @@ not-not : (c : Bool) → not (not c) ≡ c
 not-not true = refl
 not-not false = refl
 
+abbrev pub inside : ℕ → ℕ → Bool → Inside
+inside n l c = record { at = n; left = l; black = c }
+
 -- ---- passing
 module _ (w h : ℕ) (src : List ℕ) where
   pub passes-none : (n : ℕ) (s : Reader) → n < length src → Passes w h src n s (record { reader = s; at = n })
@@ -126,10 +132,12 @@ module _ (w h : ℕ) (src : List ℕ) where
       let q : s .at ≡ Count = count-again (s .at) e in
       passes-step n s (countRow s (getD src n 0)) l (rw q) (rw q)
 
-  -- the run that the state s is at
-  pub passes-begin : (n : ℕ) (s : Reader) (c : Bool) (f : ℕ) → isAtRun (s .at) ≡ true → c ≡ isBlack (s .at) → f ≡ filledAt (s .at) → n < length src
-      → Passes w h src n s (record { reader = atRun s c f; at = n })
-  passes-begin n s c f e p q l = rw (p, q, place-again (s .at) e) (passes-none n s l)
+  -- the run that the state s is at, where the row lacks l dots
+  pub passes-begin : (n l : ℕ) (s : Reader) (c : Bool) → isInRow w (s .at) ≡ true → c ≡ isBlack (s .at) → l + filledAt (s .at) ≡ w → n < length src
+      → Passes w h src n s (record { reader = atRun s c (w - l); at = n })
+  passes-begin n l s c e p q t =
+      let f : w - l ≡ filledAt (s .at) = omega arith in
+      rw (p, f, place-again (s .at) (both (isAtRun (s .at)) (leb (filledAt (s .at)) w) e .0)) (passes-none n s t)
 
   -- over the end of a row that another one follows, and that one's count
   passes-end : (n : ℕ) (s : Reader) (c : Bool) (f : ℕ) → f + getD src n 0 ≡ w → s .row + 1 + s .repeat < h → n + 2 < length src
@@ -143,32 +151,24 @@ module _ (w h : ℕ) (src : List ℕ) where
       (passes-step n (atRun s c f) t (omega arith) (at-run-unfinished c f) (step-whole w h s c f (getD src n 0) e b))
       (passes-count (n + 1) t refl (omega arith)))
 
-  -- over the run that ends the last row
-  pub passes-last : (n : ℕ) (s : Reader) (c : Bool) (f : ℕ) → (eqb (f + getD src n 0) w && leb h (s .row + 1 + s .repeat)) ≡ true → n < length src
-      → Passes w h src n (atRun s c f) (record { reader = record { row = h; repeat = 0; at = Finished }; at = n + 1 })
-  passes-last n s c f e l =
-      let x = both (eqb (f + getD src n 0) w) (leb h (s .row + 1 + s .repeat)) e in
-      record {
-        ahead = omega arith;
-        bounded = omega arith;
-        within = λ q. let z : _≡_ {A = ℕ} 0 1 = cc in absurd (omega arith);
-        scan = λ m. scan-next w h m n (atRun s c f) src l (at-run-unfinished c f) _
-            (step-last w h s c f (getD src n 0) (eqb-true _ _ (x .0)) (leb-true _ _ (x .1)));
-      }
+  -- over the run that ends the last row, or another row and the next one's count
+  module _ (i : Inside) (s : Reader) (e : getD src (i .at) 0 ≡ i .left) (q : i .left ≤ w) where
+    pub passes-last : h ≤ s .row + 1 + s .repeat → i .at < length src → Passes w h src (i .at) (atRun s (i .black) (w - i .left)) (finishedAt h (i .at + 1))
+    passes-last b l =
+        let f = w - i .left in
+        record {
+          ahead = omega arith;
+          bounded = omega arith;
+          within = λ q. let z : _≡_ {A = ℕ} 0 1 = cc in absurd (omega arith);
+          scan = λ m. scan-next w h m (i .at) (atRun s (i .black) f) src l (at-run-unfinished (i .black) f) _
+              (step-last w h s (i .black) f (getD src (i .at) 0) (omega arith) b);
+        }
 
-  pub ends-row : (i : Inside) (b : ℕ) → endsRow w h src i b ≡ true → (i .filled + getD src (i .at) 0 ≡ w) × (b < h) × (i .at + 2 < length src)
-  unfolding endsRow
-  ends-row i b e =
-      let x = both (eqb (i .filled + getD src (i .at) 0) w) (ltb b h && ltb 2 (length src - i .at)) e in
-      let y = both (ltb b h) (ltb 2 (length src - i .at)) (x .1) in
-      (eqb-true _ _ (x .0), ltb-true _ _ (y .0), omega (arith, ltb-true 2 (length src - i .at) (y .1)))
-
-  pub passes-row : (i : Inside) (s : Reader) → endsRow w h src i (s .row + 1 + s .repeat) ≡ true
-      → Passes w h src (i .at) (atRun s (i .black) (i .filled))
-      (record { reader = record { row = s .row + 1 + s .repeat; repeat = getD src (i .at + 1) 0; at = White 0 }; at = i .at + 2 })
-  passes-row i s e =
-      let x = ends-row i (s .row + 1 + s .repeat) e in
-      passes-end (i .at) s (i .black) (i .filled) (x .0) (x .1) (x .2)
+    pub passes-row : s .row + 1 + s .repeat < h → i .at + 2 < length src
+        → Passes w h src (i .at) (atRun s (i .black) (w - i .left)) (stoppedIn w (s .row + 1 + s .repeat) (getD src (i .at + 1) 0) (inside (i .at + 2) w false))
+    passes-row b l =
+        let z : w - w ≡ 0 = omega arith in
+        rw z (passes-end (i .at) s (i .black) (w - i .left) (omega arith) b l)
 
 -- ---- a scan's turn behind what it passed over
 module _ (w h : ℕ) (src : List ℕ) (n : ℕ) (s : Reader) (p : Passed) (x : Passes w h src n s p) (m : ℕ) where
@@ -183,66 +183,62 @@ module _ (w h : ℕ) (src : List ℕ) (n : ℕ) (s : Reader) (p : Passed) (x : P
     pub passed-past : (r f b : ℕ) → stepRun w h (p .reader) (getD src (p .at) 0) ≡ Past r f b → scanFrom w h (m + n) s (drop n src) ≡ PastWidth r f b
     passed-past r f b q = x .scan m ∙ scan-past w h m (p .at) (p .reader) src (x .within e) e r f b q
 
--- the reader at the run i of a row
-abbrev pub readerIn : ℕ → ℕ → Inside → Reader
-readerIn row repeat i = record { row = row; repeat = repeat; at = placeOf (i .black) (i .filled) }
-
-abbrev pub inside : ℕ → ℕ → Bool → Inside
-inside n f c = record { at = n; filled = f; black = c }
-
 -- ---- passing over runs that leave their row unfinished: one, and several at once, by their sum
-module _ (w : ℕ) (src : List ℕ) where
-  pub runs-none : (i : Inside) → i .at < length src → PassesRuns w src i i
-  runs-none i l = record { passes = λ h s. passes-none w h src (i .at) (atRun s (i .black) (i .filled)) l }
+module _ (src : List ℕ) where
+  pub runs-none : (i : Inside) → i .at < length src → PassesRuns src i i
+  runs-none i l = record { less = omega arith; passes = λ w h s q. passes-none w h src (i .at) (atRun s (i .black) (w - i .left)) l }
 
-  pub runs-then : (i j k : Inside) → PassesRuns w src i j → PassesRuns w src j k → PassesRuns w src i k
+  pub runs-then : (i j k : Inside) → PassesRuns src i j → PassesRuns src j k → PassesRuns src i k
   runs-then i j k x y =
-      record { passes = λ h s. passes-then w h src _ _ (record { reader = atRun s (j .black) (j .filled); at = j .at }) _ (x .passes h s) (y .passes h s) }
-
-  pub runs-one : (n f : ℕ) (c : Bool) → n + 1 < length src → f + getD src n 0 < w
-      → PassesRuns w src (inside n f c) (inside (n + 1) (f + getD src n 0) (not c))
-  runs-one n f c l q =
-      let b = getD src n 0 in
       record {
-        passes = λ h s. passes-step w h src n _ (atRun s (not c) (f + b)) l (at-run-unfinished c f) (step-part w h s c f b q);
+        less = omega (arith, x .less, y .less);
+        passes = λ w h s q. passes-then w h src _ _ (record { reader = atRun s (j .black) (w - j .left); at = j .at }) _ (x .passes w h s q)
+            (y .passes w h s (omega (arith, x .less)));
       }
 
-  runs-two : (n f : ℕ) (c : Bool) → n + 2 < length src → f + pairAt src n < w
-      → PassesRuns w src (inside n f c) (inside (n + 2) (f + pairAt src n) c)
-  runs-two n f c l q =
+  pub runs-one : (n l : ℕ) (c : Bool) → n + 1 < length src → getD src n 0 < l → PassesRuns src (inside n l c) (inside (n + 1) (l - getD src n 0) (not c))
+  runs-one n l c t q =
+      let b = getD src n 0 in
+      record {
+        less = omega arith;
+        passes = λ w h s r.
+            let e : w - l + b ≡ w - (l - b) = omega arith in
+            rw e at (passes-step w h src n _ (atRun s (not c) (w - l + b)) t (at-run-unfinished c (w - l)) (step-part w h s c (w - l) b (omega arith)));
+      }
+
+  pub runs-two : (n l : ℕ) (c : Bool) → n + 2 < length src → pairAt src n < l → PassesRuns src (inside n l c) (inside (n + 2) (l - pairAt src n) c)
+  runs-two n l c t q =
       let a = getD src n 0 in
       let b = getD src (n + 1) 0 in
       let i : n + 1 + 1 ≡ n + 2 = omega arith in
-      let j : f + a + b ≡ f + (a + b) = omega arith in
+      let j : l - a - b ≡ l - (a + b) = omega arith in
       rw (not-not c, i, j) at
-      (runs-then (inside n f c) (inside (n + 1) (f + a) (not c)) (inside (n + 1 + 1) (f + a + b) (not (not c)))
-      (runs-one n f c (omega arith) (omega arith)) (runs-one (n + 1) (f + a) (not c) (omega arith) (omega arith)))
+      (runs-then (inside n l c) (inside (n + 1) (l - a) (not c)) (inside (n + 1 + 1) (l - a - b) (not (not c)))
+      (runs-one n l c (omega arith) (omega arith)) (runs-one (n + 1) (l - a) (not c) (omega arith) (omega arith)))
 
-  runs-four : (n f : ℕ) (c : Bool) → n + 4 < length src → f + fourAt src n < w
-      → PassesRuns w src (inside n f c) (inside (n + 4) (f + fourAt src n) c)
-  runs-four n f c l q =
+  runs-four : (n l : ℕ) (c : Bool) → n + 4 < length src → fourAt src n < l → PassesRuns src (inside n l c) (inside (n + 4) (l - fourAt src n) c)
+  runs-four n l c t q =
       let a = pairAt src n in
       let b = pairAt src (n + 2) in
       let i : n + 2 + 2 ≡ n + 4 = omega arith in
-      let j : f + a + b ≡ f + (a + b) = omega arith in
+      let j : l - a - b ≡ l - (a + b) = omega arith in
       rw (i, j) at
-      (runs-then (inside n f c) (inside (n + 2) (f + a) c) (inside (n + 2 + 2) (f + a + b) c)
-      (runs-two n f c (omega arith) (omega arith)) (runs-two (n + 2) (f + a) c (omega arith) (omega arith)))
+      (runs-then (inside n l c) (inside (n + 2) (l - a) c) (inside (n + 2 + 2) (l - a - b) c)
+      (runs-two n l c (omega arith) (omega arith)) (runs-two (n + 2) (l - a) c (omega arith) (omega arith)))
 
-  pub runs-eight : (n f : ℕ) (c : Bool) → n + 8 < length src → f + eightAt src n < w
-      → PassesRuns w src (inside n f c) (inside (n + 8) (f + eightAt src n) c)
-  runs-eight n f c l q =
+  pub runs-eight : (n l : ℕ) (c : Bool) → n + 8 < length src → eightAt src n < l → PassesRuns src (inside n l c) (inside (n + 8) (l - eightAt src n) c)
+  runs-eight n l c t q =
       let a = fourAt src n in
       let b = fourAt src (n + 4) in
       let i : n + 4 + 4 ≡ n + 8 = omega arith in
-      let j : f + a + b ≡ f + (a + b) = omega arith in
+      let j : l - a - b ≡ l - (a + b) = omega arith in
       rw (i, j) at
-      (runs-then (inside n f c) (inside (n + 4) (f + a) c) (inside (n + 4 + 4) (f + a + b) c)
-      (runs-four n f c (omega arith) (omega arith)) (runs-four (n + 4) (f + a) c (omega arith) (omega arith)))
+      (runs-then (inside n l c) (inside (n + 4) (l - a) c) (inside (n + 4 + 4) (l - a - b) c)
+      (runs-four n l c (omega arith) (omega arith)) (runs-four (n + 4) (l - a) c (omega arith) (omega arith)))
 
   -- a byte is left at the run that is gone on from
-  pub runs-within : (i j : Inside) → PassesRuns w src i j → j .at < length src
-  runs-within i j x = x .passes 0 start .within (at-run-unfinished (j .black) (j .filled))
+  pub runs-within : (i j : Inside) → PassesRuns src i j → j .at < length src
+  runs-within i j x = x .passes (i .left) 0 start (omega arith) .within (at-run-unfinished (j .black) (i .left - j .left))
 
-  pub runs-ahead : (i j : Inside) → PassesRuns w src i j → i .at ≤ j .at
-  runs-ahead i j x = x .passes 0 start .ahead
+  pub runs-ahead : (i j : Inside) → PassesRuns src i j → i .at ≤ j .at
+  runs-ahead i j x = x .passes (i .left) 0 start (omega arith) .ahead

@@ -3,7 +3,7 @@ use Prim.Native.Nat.{ℕ, _+_, _-_, _<_, _≤_}
 use mathlib.Core.Path.{_≡_}
 use mathlib.Core.List.{List}
 use mathlib.Core.Bool.{Bool, true, false, _&&_}
-use lib.Dec.{ltb, eqb}
+use lib.Dec.{leb}
 use lib.ListN.{length, drop, getD}
 use Rattle.pictures.specs.declared.runs.Place.{Place}
 use Rattle.pictures.specs.declared.runs.Place.the-variants.{Count, White, Black, Finished}
@@ -31,6 +31,10 @@ filledAt (White f) = f
 filledAt (Black f) = f
 filledAt Finished = 0
 
+-- at a run before which no more dots are filled than the w of the row
+abbrev pub isInRow : ℕ → Place → Bool
+isInRow w p = isAtRun p && leb (filledAt p) w
+
 -- the reader s at a run of its row
 abbrev pub atRun : Reader → Bool → ℕ → Reader
 atRun s c f = record { row = s .row; repeat = s .repeat; at = placeOf c f }
@@ -49,9 +53,12 @@ fourAt src n = pairAt src n + pairAt src (n + 2)
 abbrev pub eightAt : List ℕ → ℕ → ℕ
 eightAt src n = fourAt src n + fourAt src (n + 4)
 
--- the run i ends its row of w dots, a row below is left of h, and src has that row's count and a byte more
-unfoldable pub endsRow : ℕ → ℕ → List ℕ → Inside → ℕ → Bool
-endsRow w h src i below = eqb (i .filled + getD src (i .at) 0) w && (ltb below h && ltb 2 (length src - i .at))
+-- a scan that stops at the run i of a row of w dots, or whose picture of h rows is complete with the bytes before place n
+abbrev pub stoppedIn : ℕ → ℕ → ℕ → Inside → Passed
+stoppedIn w row repeat i = record { reader = record { row = row; repeat = repeat; at = placeOf (i .black) (w - i .left) }; at = i .at }
+
+abbrev pub finishedAt : ℕ → ℕ → Passed
+finishedAt h n = record { reader = record { row = h; repeat = 0; at = Finished }; at = n }
 
 -- a scan of src that is at place n in the state s may go on from p instead: a byte is left there unless p is finished, and the answer is the same
 pub record Passes (w h : ℕ) (src : List ℕ) (n : ℕ) (s : Reader) (p : Passed) : Type 0 where
@@ -60,6 +67,8 @@ pub record Passes (w h : ℕ) (src : List ℕ) (n : ℕ) (s : Reader) (p : Passe
   pub within : isFinished (p .reader .at) ≡ false → p .at < length src
   pub scan : (m : ℕ) → scanFrom w h (m + n) s (drop n src) ≡ scanFrom w h (m + p .at) (p .reader) (drop (p .at) src)
 
--- a scan that is at the run i of a row may go on from the run j of it instead
-pub record PassesRuns (w : ℕ) (src : List ℕ) (i j : Inside) : Type 0 where
-  pub passes : (h : ℕ) (s : Reader) → Passes w h src (i .at) (atRun s (i .black) (i .filled)) (record { reader = atRun s (j .black) (j .filled); at = j .at })
+-- a scan that is at the run i of a row, whatever its width, may go on from the run j of it instead
+pub record PassesRuns (src : List ℕ) (i j : Inside) : Type 0 where
+  pub less : j .left ≤ i .left
+  pub passes : (w h : ℕ) (s : Reader) → i .left ≤ w
+      → Passes w h src (i .at) (atRun s (i .black) (w - i .left)) (record { reader = atRun s (j .black) (w - j .left); at = j .at })

@@ -4,7 +4,10 @@ ghost use mathlib.Core.List.{[], _++_};
 ghost use Prim.Native.Nat.{ℕ, _+_, _-_, _^_, _≤_, _<_};
 ghost use lib.ListN.{length};
 ghost use Rattle.pictures.specs.Runs.{fillRow, endRow, placeOf, runIn, stepRun, isFinished, scanFrom, start};
-ghost use Rattle.pictures.specs.Passing.{isAtRun, isBlack, filledAt, atRun, countRow, endsRow, pairAt, fourAt, eightAt, Passes, PassesRuns};
+ghost use Rattle.pictures.specs.Passing.{isAtRun, isInRow, isBlack, filledAt, atRun, countRow, stoppedIn, finishedAt, pairAt, fourAt, eightAt, Passes, PassesRuns};
+
+// From this width on, eight runs at a time are tried: in a narrower row they seldom leave it unfinished.
+const WIDE: u16 = 64;
 
 // Where the reader is: at a repeat count, in a white or a black run with dots filled, finished.
 pub enum Place {
@@ -47,10 +50,10 @@ pub struct Passed {
     pub at: usize,
 }
 
-// A run of the row in progress: its place in the data, the dots filled before it, its colour.
+// A run of the row in progress: its place in the data, the dots that the row lacks before it, its colour.
 pub struct Inside {
     pub at: usize,
-    pub filled: u16,
+    pub left: u32,
     pub black: bool,
 }
 
@@ -96,14 +99,14 @@ fn sum_of_eight(src: &[u8], at: usize) -> u32
     sum_of_four(src, at) + sum_of_four(src, at + 4)
 }
 
-// The places before it have eight bytes from there on, and one more.
-fn before_eight(len: usize) -> usize
-    ensures { λ r. ⌜ r ≡ len - 8 ⌝ }
+// The places before it have n bytes from there on, and one more.
+fn before_last(len: usize, n: usize) -> usize
+    ensures { λ r. ⌜ r ≡ len - n ⌝ }
 {
-    if len < 8 {
+    if len < n {
         return 0;
     }
-    len - 8
+    len - n
 }
 
 // The place in a row of the next run's colour.
@@ -117,80 +120,109 @@ fn place_of(black: bool, filled: u16) -> Place
     }
 }
 
+// A scan whose picture is complete with the bytes before a place.
+fn finished(height: u16, at: usize) -> Passed
+    ensures { λ r. ⌜ r ≡ finishedAt height at ⌝ }
+{
+    Passed {
+        reader: Reader {
+            row: height,
+            repeat: 0,
+            at: Place::Finished,
+        },
+        at: at,
+    }
+}
+
 impl Inside {
     // Over eight runs at a time that leave the row unfinished: their sum alone tells, several times as fast as run by run.
-    fn pass_eights(self, src: &[u8], width: u16) -> Inside
+    fn pass_eights(self, src: &[u8]) -> Inside
         requires { ⌜ self .at < length (now src) ⌝ }
-        ensures { λ r. ⌜ PassesRuns width (now (src .entry)) self r ⌝ }
+        ensures { λ r. ⌜ PassesRuns (now (src .entry)) self r ⌝ }
     {
-        let last = before_eight(src.len());
+        let last = before_last(src.len(), 8);
         let mut at = self.at;
-        let mut filled: u32 = self.filled as u32;
+        let mut left = self.left;
         while at < last {
-            let end = filled + sum_of_eight(src, at);
-            if (width as u32) <= end {
+            let sum = sum_of_eight(src, at);
+            if left <= sum {
                 return Inside {
                     at: at,
-                    filled: filled as u16,
+                    left: left,
                     black: self.black,
                 };
             }
-            filled = end;
+            left -= sum;
             at += 8;
         }
         Inside {
             at: at,
-            filled: filled as u16,
+            left: left,
             black: self.black,
         }
     }
 
-    // The same run by run.
-    fn pass_ones(self, src: &[u8], width: u16) -> Inside
+    // Over two runs at a time, which have both colours, to the one that does not leave the row unfinished or the last two bytes.
+    fn pass_pairs(self, src: &[u8]) -> Inside
         requires { ⌜ self .at < length (now src) ⌝ }
-        ensures { λ r. ⌜ PassesRuns width (now (src .entry)) self r ⌝ }
+        ensures { λ r. ⌜ PassesRuns (now (src .entry)) self r ⌝ }
     {
-        let last = src.len() - 1;
+        let last = before_last(src.len(), 2);
         let mut at = self.at;
-        let mut filled: u32 = self.filled as u32;
-        let mut black = self.black;
+        let mut left = self.left;
         while at < last {
-            let end = filled + (src[at] as u32);
-            if (width as u32) <= end {
+            let first = wide(src[at]);
+            if left <= first {
                 return Inside {
                     at: at,
-                    filled: filled as u16,
-                    black: black,
+                    left: left,
+                    black: self.black,
                 };
             }
-            filled = end;
-            black = !black;
-            at += 1;
+            let second = wide(src[at + 1]);
+            if left - first <= second {
+                return Inside {
+                    at: at + 1,
+                    left: left - first,
+                    black: !self.black,
+                };
+            }
+            left -= first + second;
+            at += 2;
         }
         Inside {
             at: at,
-            filled: filled as u16,
-            black: black,
+            left: left,
+            black: self.black,
         }
     }
 
-    // Over the runs that leave the row unfinished, to the one that does not or the last byte.
+    // Over the runs that leave the row unfinished.
     fn pass_runs(self, src: &[u8], width: u16) -> Inside
         requires { ⌜ self .at < length (now src) ⌝ }
-        ensures { λ r. ⌜ PassesRuns width (now (src .entry)) self r ⌝ }
+        ensures { λ r. ⌜ PassesRuns (now (src .entry)) self r ⌝ }
     {
-        let e = self.pass_eights(src, width);
-        e.pass_ones(src, width)
+        if width < WIDE {
+            return self.pass_pairs(src);
+        }
+        let e = self.pass_eights(src);
+        e.pass_pairs(src)
     }
 
-    // Whether the run ends its row, a row below is left, and the data has that row's count and a byte more.
-    fn ends_row(self, src: &[u8], width: u16, below: u32, height: u16) -> bool
-        requires { ⌜ self .at < length (now src) ⌝ }
-        ensures { λ r. ⌜ r ≡ endsRow width height (now (src .entry)) self below ⌝ }
+    // A scan that stops at the run, in a row with so many repeats.
+    fn stopped(self, row: u32, repeat: u32, width: u16) -> Passed
+        requires { ⌜ (self .left ≤ width) × (row ≤ 65535) × (repeat ≤ 255) ⌝ }
+        ensures { λ r. ⌜ r ≡ stoppedIn width row repeat self ⌝ }
     {
-        let at = self.at;
-        let end = (self.filled as u32) + wide(src[at]);
-        (end == (width as u32)) & ((below < (height as u32)) & (2 < src.len() - at))
+        let filled = (width as u32) - self.left;
+        Passed {
+            reader: Reader {
+                row: row as u16,
+                repeat: repeat as u8,
+                at: place_of(self.black, filled as u16),
+            },
+            at: self.at,
+        }
     }
 }
 
@@ -213,6 +245,18 @@ impl Place {
             Place::Count => false,
             Place::White(_) => true,
             Place::Black(_) => true,
+            Place::Finished => false,
+        }
+    }
+
+    // At a run before which no more dots are filled than the row has.
+    fn is_in_row(self, width: u16) -> bool
+        ensures { λ r. ⌜ r ≡ isInRow width self ⌝ }
+    {
+        match self {
+            Place::Count => false,
+            Place::White(f) => f <= width,
+            Place::Black(f) => f <= width,
             Place::Finished => false,
         }
     }
@@ -347,69 +391,55 @@ impl Reader {
         }
     }
 
-    // At a run of its row, or finished behind it where the run ends the last row.
-    fn stop_at(self, i: Inside, src: &[u8], width: u16, height: u16) -> Passed
-        requires { ⌜ i .at < length (now src) ⌝ }
-        ensures { λ r. ⌜ Passes width height (now (src .entry)) (i .at) (atRun self (i .black) (i .filled)) r ⌝ }
+    // From a run of its row on, over whole rows and the runs that leave a row unfinished. The state is taken apart once and put together once, not for each row.
+    fn pass_from(self, begin: Inside, src: &[u8], width: u16, height: u16) -> Passed
+        requires { ⌜ (begin .at < length (now src)) × (begin .left ≤ width) ⌝ }
+        ensures { λ r. ⌜ Passes width height (now (src .entry)) (begin .at) (atRun self (begin .black) (width - begin .left)) r ⌝ }
     {
-        let at = i.at;
-        let end = (i.filled as u32) + wide(src[at]);
-        let below = (self.row as u32) + 1 + (self.repeat as u32);
-        if (end == (width as u32)) & ((height as u32) <= below) {
-            return Passed {
-                reader: Reader {
-                    row: height,
-                    repeat: 0,
-                    at: Place::Finished,
-                },
-                at: at + 1,
+        let mut row = self.row as u32;
+        let mut repeat = self.repeat as u32;
+        let mut i = begin;
+        loop {
+            let stop = i.pass_runs(src, width);
+            let at = stop.at;
+            if wide(src[at]) != stop.left {
+                return stop.stopped(row, repeat, width);
+            }
+            let below = row + 1 + repeat;
+            if (height as u32) <= below {
+                return finished(height, at + 1);
+            }
+            if src.len() - at < 3 {
+                return stop.stopped(row, repeat, width);
+            }
+            row = below;
+            repeat = wide(src[at + 1]);
+            i = Inside {
+                at: at + 2,
+                left: width as u32,
+                black: false,
             };
-        }
-        Passed {
-            reader: self.at_run(i.black, i.filled),
-            at: at,
         }
     }
 
-    // Over whole rows and the runs that leave a row unfinished. The state is taken apart once and put together once, not for each row.
+    // The same from any state.
     fn pass_rows(self, src: &[u8], from: usize, width: u16, height: u16) -> Passed
         requires { ⌜ from < length (now src) ⌝ }
         ensures { λ r. ⌜ Passes width height (now (src .entry)) from self r ⌝ }
     {
         let place = self.at;
-        if !place.is_at_run() {
+        if !place.is_in_row(width) {
             return Passed {
                 reader: self,
                 at: from,
             };
         }
-        let mut row = self.row;
-        let mut repeat = self.repeat;
-        let mut i = Inside {
+        let begin = Inside {
             at: from,
-            filled: place.filled(),
+            left: (width - place.filled()) as u32,
             black: place.is_black(),
         };
-        loop {
-            let stop = i.pass_runs(src, width);
-            let at = stop.at;
-            let below = (row as u32) + 1 + (repeat as u32);
-            if !stop.ends_row(src, width, below, height) {
-                let s = Reader {
-                    row: row,
-                    repeat: repeat,
-                    at: Place::Count,
-                };
-                return s.stop_at(stop, src, width, height);
-            }
-            row = below as u16;
-            repeat = src[at + 1];
-            i = Inside {
-                at: at + 2,
-                filled: 0,
-                black: false,
-            };
-        }
+        self.pass_from(begin, src, width, height)
     }
 
     // Over a count, whole rows and runs, to the picture's end or to a byte that is left to `step`: a run past the width, or one near the data's end.

@@ -21,11 +21,11 @@ use Rattle.blocks.proofs.KeptFirst.{is-kept-block, is-kept-length}
 use Rattle.pictures.proofs.KeptData.{whole-judged, unfinished-judged, kept-complete, kept-incomplete, incomplete-prefix, complete-prefix}
 use Rattle.form.specs.Layout.{keyOf, characterRecord, lastCode, lastFont, markRecord, mostStore, fontRecord}
 use Rattle.form.specs.Num.{_&_}
-use Rattle.form.specs.Model.{Rec, font, character, Store, key, number, place, heldOf, heldUnder, isKept, isUnfinished, sorted, markOk, encode, total, sizeOf}
+use Rattle.form.specs.Model.{Rec, font, character, Store, key, number, place, heldOf, heldUnder, isKept, isUnfinished, sorted, markOk, encode, total, sizeOf, shut}
 use Rattle.form.specs.Order.{keep, below, from, replaced, find}
 use Rattle.form.specs.Checks.{onStore, finding}
 use Rattle.store.specs.Answer.{done}
-use Rattle.store.specs.Calls.{shut, fresh, used, closedFor, putFont, downloadingFont, withCharacter}
+use Rattle.store.specs.Calls.{fresh, used, closedFor, putFont, downloadingFont, withCharacter}
 use Rattle.store.specs.Download.{names, markFor, putCharacter, downloadingCharacter}
 use Rattle.store.specs.Putting.{placing, receiving, receivingFirst, receivingMore}
 use Rattle.form.proofs.RecordBytes.{held-kept}

@@ -11,7 +11,7 @@ use Rattle.form.specs.Layout.{keyOf, lastCode, fontCharactersAt, fontRecord, ma
 use Rattle.form.specs.Model.{Rec, font, Mark, Store, noCharacters, tallyOf, tallyBytes, tallyIn, bytesOf, run, markBytes, encode, alone, sorted, opened, unfinished, markOk, sizeOf, total}
 use Rattle.form.specs.Num.{_&_}
 use Rattle.form.specs.Order.{below, from, find, replaced}
-use Rattle.store.specs.Change.{splicedAt, withBytes, tallyBy, recount, Recounting, recounted, unmarkedFor}
+use Rattle.change.specs.Change.{splicedAt, withBytes, tallyBy, recount, Recounting, recounted, unmarkedFor}
 use Rattle.store.specs.Calls.{closedFor, closedAt, withFont, used, withCharacter, removeCharacter}
 use Rattle.form.proofs.Codec.{Valid, spare, encode-parts, mark-length, mark-fits, length-run, tally-total, tally-fits}
 use Rattle.form.proofs.Totals.{run-append, total-append, total-at}
@@ -19,7 +19,7 @@ use Rattle.store.proofs.Tallies.{no-font-below, no-font-from, font-off,
 use Rattle.form.specs.declared.tally.Tally.{Tally}
 use Rattle.form.proofs.Lookup.{below-mono}
 use Rattle.store.proofs.Replaced.{NewFont, no-font, new-font, font-replaced, NewChar, no-char, char-replaced}
-use Rattle.store.proofs.Splices.{replace-bytes}
+use Rattle.change.proofs.Splices.{replace-bytes}
 use Rattle.store.proofs.Marks.{Small, markKey, closed-for, closed-at, unmark-for}
 
 pub spare-is : (st : Store) → sorted 0 alone (st .recs) ≡ true → spare st ≡ st .size - (markRecord + total (st .recs))

@@ -7,10 +7,10 @@ use lib.ListN.{replicate}
 use Rattle.form.specs.Layout.{keyOf, markRecord}
 use Rattle.form.specs.Model.{tallyOf, run, encode, total}
 use Rattle.form.specs.Order.{below}
-use Rattle.store.specs.Change.{splicedAt, Recounting, recounted, unmarkedAt}
+use Rattle.change.specs.Change.{splicedAt, Recounting, recounted, unmarkedAt}
 use Rattle.store.specs.Calls.{closedAt, withCharacter, removeCharacter}
 use Rattle.form.specs.declared.walk.Places.{Places}
-use Rattle.store.proofs.Puts.{put-nil}
+use Rattle.change.proofs.Puts.{put-nil}
 use Rattle.store.proofs.Marks.{unmark-at}
 use Rattle.store.proofs.Replaced.{no-char}
 use Rattle.store.proofs.Changed.{small-mark, encode-changed, total-replaced, order-char, bytes-char, bytes-counted, recounting, uncounted}

@@ -13,11 +13,11 @@ use Rattle.blocks.specs.Character.{descriptorBytes}
 use Rattle.pictures.specs.Size.{dataLimit}
 use Rattle.form.specs.Layout.{keyOf, characterRecord, lastCode, lastFont, markRecord}
 use Rattle.form.specs.Num.{_&_, le, Bytes}
-use Rattle.form.specs.Model.{Rec, font, character, under, alone, tallyOf, characterBytes, bytesOf, run, markBytes, encode, allowed, heldOf, heldUnder, isKept, isUnfinished, unfinished, opened, markOk, number, place, sizeOf, total}
+use Rattle.form.specs.Model.{Rec, font, character, under, alone, tallyOf, characterBytes, bytesOf, run, markBytes, encode, allowed, heldOf, heldUnder, isKept, isUnfinished, unfinished, opened, markOk, number, place, sizeOf, total, shut}
 use Rattle.form.specs.Order.{below, from, find}
-use Rattle.store.specs.Change.{splicedAt, withBytes, Recounting, recounted, remarked, unmarkedFor}
+use Rattle.change.specs.Change.{splicedAt, withBytes, Recounting, recounted, remarked, unmarkedFor}
 use Rattle.form.specs.Checks.{onStore}
-use Rattle.store.specs.Calls.{shut, used, withCharacter}
+use Rattle.store.specs.Calls.{used, withCharacter}
 use Rattle.store.specs.Download.{markFor, putCharacter}
 use Rattle.store.specs.Putting.{placing, placed}
 use Rattle.form.specs.Walk.{Fitting, Growing, keptAt, dataAt}
@@ -32,7 +32,7 @@ use Rattle.form.specs.declared.tally.Tally.{Tally}
 use Rattle.form.proofs.Ready.{Ready, standing, record-bytes, same-store}
 use Rattle.form.proofs.Seeks.{KeptChar}
 use Rattle.store.proofs.Spots.{char-span, char-shape}
-use Rattle.store.proofs.Extends.{extended}
+use Rattle.change.proofs.Extends.{extended}
 use Rattle.store.proofs.FontCalls.{cut-done}
 
 -- a part that goes to the end

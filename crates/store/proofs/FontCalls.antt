@@ -14,15 +14,15 @@ use Rattle.blocks.specs.declared.Verdict.the-variants.{Taken, Refused}
 use Rattle.blocks.proofs.KeptHeader.{kept-header, kept-length, header-long}
 use Rattle.form.specs.Layout.{keyOf, fontRecord, lastFont, leastStore, markKind, markRecord, mostStore}
 use Rattle.form.specs.Num.{_&_, le}
-use Rattle.form.specs.Model.{font, noCharacters, fontHead, bytesOf, run, markBytes, encode, decode, sorted, sizeOf, total}
+use Rattle.form.specs.Model.{font, noCharacters, fontHead, bytesOf, run, markBytes, encode, decode, sorted, sizeOf, total, shut}
 use Rattle.form.specs.Order.{below, replaced}
-use Rattle.store.specs.Change.{splicedAt, withBytes, unmarkedFor}
+use Rattle.change.specs.Change.{splicedAt, withBytes, unmarkedFor}
 use Rattle.form.specs.Checks.{onStore}
 use Rattle.store.specs.Answer.{After, refuse, done}
-use Rattle.store.specs.Calls.{shut, fresh, makingFresh, used, removeFont, putFont, downloadingFont}
+use Rattle.store.specs.Calls.{fresh, makingFresh, used, removeFont, putFont, downloadingFont}
 use Rattle.store.specs.Putting.{puttingFont}
 use Rattle.form.specs.declared.walk.Places.{Places}
-use Rattle.store.proofs.Puts.{put-nil}
+use Rattle.change.proofs.Puts.{put-nil}
 use Rattle.store.proofs.Replaced.{no-font, new-font}
 use Rattle.store.proofs.Changed.{spare-is, total-replaced, newBytes, bytes-font}
 use Rattle.form.proofs.Codec.{size-bytes, encode-parts}

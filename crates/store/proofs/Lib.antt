@@ -1,8 +1,4 @@
-pub mod Moves
 pub mod Replaced
-pub mod Puts
-pub mod Written
-pub mod Splices
 pub mod Tallies
 pub mod Marks
 pub mod Changed
@@ -10,7 +6,6 @@ pub mod FontCalls
 pub mod Spots
 pub mod CharacterCalls
 pub mod Downloads
-pub mod Extends
 pub mod Host
 pub mod FirstBlocks
 pub mod Continuations

@@ -9,10 +9,10 @@ use lib.Dec.{eqb, leb}
 use borrow.Author.Tests.{eqb-true, eqb-false, leb-true, le-leb, eq-eqb, ne-eqb}
 use Rattle.form.specs.Layout.{keyOf, lastCode, lastFont, markCodeAt, markFontAt, markOnAt}
 use Rattle.form.specs.Num.{_&_, le, field, wordEnd}
-use Rattle.form.specs.Model.{Rec, Mark, markBytes, alone, sorted, opened, markOk}
+use Rattle.form.specs.Model.{Rec, Mark, markBytes, alone, sorted, opened, markOk, shut}
 use Rattle.form.specs.Order.{replaced}
-use Rattle.store.specs.Calls.{shut, closedFor, closedAt}
-use Rattle.store.specs.Change.{withBytes, remarked, unmarkedFor, unmarkedAt}
+use Rattle.store.specs.Calls.{closedFor, closedAt}
+use Rattle.change.specs.Change.{withBytes, remarked, unmarkedFor, unmarkedAt}
 use Rattle.form.proofs.Numbers.{both-l, both-r, both, less-or}
 use Rattle.form.proofs.Codec.{mark-back}
 use Rattle.store.proofs.Replaced.{Outside, opened-replaced}
@@ -123,25 +123,3 @@ unmark-at n c m t f =
     let f8 : field 2 markFontAt (markBytes m ++ t) ≡ m .fontOf = ap (λ (x : Mark). x .fontOf) k in
     let f10 : field 2 markCodeAt (markBytes m ++ t) ≡ m .codeOf = ap (λ (x : Mark). x .codeOf) k in
     rw (f6, f8, f10) (unmark-by (eqb (m .on) 1 & eqb (m .fontOf) n & eqb (m .codeOf) c) m t)
-
--- ── closing by the mark's numbers
-module _ (n c : ℕ) (s : List ℕ) where
-  pub unmark-off : (field 2 markOnAt s ≡ 1 → ⊥) → (unmarkedFor n s ≡ s) × (unmarkedAt n c s ≡ s)
-  unfolding unmarkedFor unmarkedAt _&_
-  unmark-off h = (rw (ne-eqb (field 2 markOnAt s) 1 h), rw (ne-eqb (field 2 markOnAt s) 1 h))
-
-  pub unmark-other : field 2 markOnAt s ≡ 1 → (field 2 markFontAt s ≡ n → ⊥) → (unmarkedFor n s ≡ s) × (unmarkedAt n c s ≡ s)
-  unfolding unmarkedFor unmarkedAt _&_
-  unmark-other e h = (rw (eq-eqb (field 2 markOnAt s) 1 e, ne-eqb (field 2 markFontAt s) n h), rw (eq-eqb (field 2 markOnAt s) 1 e, ne-eqb (field 2 markFontAt s) n h))
-
-  pub unmark-font : field 2 markOnAt s ≡ 1 → field 2 markFontAt s ≡ n → unmarkedFor n s ≡ remarked shut s
-  unfolding unmarkedFor _&_
-  unmark-font e h = rw (eq-eqb (field 2 markOnAt s) 1 e, eq-eqb (field 2 markFontAt s) n h)
-
-  pub unmark-code : field 2 markOnAt s ≡ 1 → field 2 markFontAt s ≡ n → (field 2 markCodeAt s ≡ c → ⊥) → unmarkedAt n c s ≡ s
-  unfolding unmarkedAt _&_
-  unmark-code e h k = rw (eq-eqb (field 2 markOnAt s) 1 e, eq-eqb (field 2 markFontAt s) n h, ne-eqb (field 2 markCodeAt s) c k)
-
-  pub unmark-char : field 2 markOnAt s ≡ 1 → field 2 markFontAt s ≡ n → field 2 markCodeAt s ≡ c → unmarkedAt n c s ≡ remarked shut s
-  unfolding unmarkedAt _&_
-  unmark-char e h k = rw (eq-eqb (field 2 markOnAt s) 1 e, eq-eqb (field 2 markFontAt s) n h, eq-eqb (field 2 markCodeAt s) c k)

@@ -12,7 +12,7 @@ use Rattle.form.specs.Layout.{keyOf, characterKeptAt, characterRecord, fontChar
 use Rattle.form.specs.Model.{font, character, alone, tallyOf, tallyIn, bytesOf, sizeOf, total}
 use Rattle.form.specs.Num.{field}
 use Rattle.form.specs.Order.{below, after}
-use Rattle.store.specs.Change.{withBytes}
+use Rattle.change.specs.Change.{withBytes}
 use Rattle.store.specs.Calls.{charactersOf, onto}
 use Rattle.form.specs.declared.walk.Places.{Places}
 use Rattle.form.specs.declared.tally.Tally.{Tally}

@@ -15,7 +15,7 @@ use Rattle.form.specs.Num.{_&_, le}
 use Rattle.form.specs.Model.{Rec, font, character, Under, under, alone, sorted, number, place, key, noCharacters, oneMore, tallyOf, tallyBytes, tallyIn, fontHead, bytesOf, run, sizeOf, total}
 use Rattle.form.specs.Order.{keep, below, from, find, replaced, after}
 use Rattle.store.specs.Calls.{charactersOf, withCharacter}
-use Rattle.store.specs.Change.{withBytes, tallyBy, recount}
+use Rattle.change.specs.Change.{withBytes, tallyBy, recount}
 use Rattle.form.specs.declared.tally.Tally.{Tally}
 use Rattle.form.proofs.RecordBytes.{Shaped, shaped}
 use Rattle.form.proofs.Codec.{sorted-inv, Fits, font-tally}
@@ -23,7 +23,7 @@ use Rattle.form.proofs.Order.{split-at, sorted-from, below-in}
 use Rattle.form.proofs.Totals.{run-append, length-keep}
 use Rattle.form.proofs.Counts.{plus, Off}
 use Rattle.form.proofs.Lookup.{found, missing, char-at, from-from, below-below}
-use Rattle.store.proofs.Puts.{put-mid}
+use Rattle.change.proofs.Puts.{put-mid}
 use Rattle.store.proofs.Replaced.{NewFont, no-font, new-font, NewChar, no-char, new-char}
 
 pub tally-append : (a b : List Rec) (n : ℕ) → tallyOf (a ++ b) n ≡ plus (tallyOf a n) (tallyOf b n)

@@ -8,15 +8,12 @@ use Rattle.blocks.specs.Header.{headerBytes, readHeader, keptHeader}
 use Rattle.blocks.specs.Character.{descriptorBytes}
 use Rattle.form.specs.Layout.{leastStore, mostStore, markRecord, lastFont, keyOf}
 use Rattle.form.specs.Num.{_&_}
-use Rattle.form.specs.Model.{Rec, font, character, Mark, Store, number, place, total, decode}
+use Rattle.form.specs.Model.{Rec, font, character, Mark, shut, Store, number, place, total, decode}
 use Rattle.form.specs.Order.{keep, replaced}
 use Rattle.form.specs.Checks.{onStore, checked, taking, onFont, onCharacter}
 use Rattle.store.specs.Answer.{After, refuse, done, Telling, untold}
 
 -- ── make fresh: "A fresh store is the kind 1 record with none open, then zeros."
-abbrev pub shut : Mark
-shut = record { on = 0; fontOf = 0; codeOf = 0 }
-
 abbrev pub fresh : ℕ → Store
 fresh size = record { size = size; mark = shut; recs = [] }
 

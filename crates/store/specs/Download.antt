@@ -15,11 +15,11 @@ use Rattle.blocks.specs.declared.character.Kind.the-variants.{First, Continuati
 use Rattle.pictures.specs.declared.picture.Judged.{Judged}
 use Rattle.pictures.specs.declared.picture.Judged.the-variants.{Complete, Incomplete, PastWidth}
 use Rattle.form.specs.Num.{_&_}
-use Rattle.form.specs.Model.{character, Mark, Store, heldOf, isUnfinished, encode, decode}
+use Rattle.form.specs.Model.{character, Mark, Store, heldOf, isUnfinished, encode, decode, shut}
 use Rattle.form.specs.Order.{fontAt, characterAt}
 use Rattle.form.specs.Checks.{onStore, checked, taking, finding, numbered}
 use Rattle.store.specs.Answer.{After, refuse, done}
-use Rattle.store.specs.Calls.{shut, used, removeFont, withCharacter, keptOf, dataOf}
+use Rattle.store.specs.Calls.{used, removeFont, withCharacter, keptOf, dataOf}
 
 -- ── what is kept
 

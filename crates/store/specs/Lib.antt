@@ -3,5 +3,4 @@ pub mod Calls
 pub mod Download
 pub mod Putting
 pub mod Drawing
-pub mod Change
 pub mod Known

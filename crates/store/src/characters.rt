@@ -2,7 +2,6 @@
 ghost use mathlib.Core.Path.{_≡_};
 ghost use Rattle.store.specs.Answer.{toldOf};
 ghost use Rattle.store.specs.Calls.{removingCharacter, tellingCharacter};
-use crate::change;
 use crate::telling;
 use crate::telling::Told;
 use form::layout::CHARACTER_KEPT_AT;

@@ -14,7 +14,6 @@ ghost use Rattle.form.specs.Model.{heldOf, isUnfinished, markIn};
 ghost use Rattle.form.specs.Walk.{Stands, Arriving, Fitting, Growing, Continued, keptAt, dataAt, fontOrientation};
 ghost use Rattle.store.specs.Download.{names, downloadingCharacter};
 ghost use Rattle.store.specs.Putting.{placed, puttingFirst, puttingMore, puttingBlock};
-use crate::change;
 use blocks::Verdict;
 use blocks::character;
 use blocks::character::Kind;

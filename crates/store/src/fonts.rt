@@ -8,7 +8,6 @@ ghost use Rattle.form.specs.Walk.{Stands};
 ghost use Rattle.blocks.specs.Header.{readHeader};
 ghost use Rattle.store.specs.Calls.{makingFresh, removingFont, downloadingFont, tellingFont};
 ghost use Rattle.store.specs.Putting.{puttingFont};
-use crate::change;
 use crate::telling;
 use crate::telling::Told;
 use blocks::Verdict;

@@ -1,5 +1,4 @@
 // The store's calls: download, remove, tell, draw.
-pub mod change;
 pub mod characters;
 pub mod download;
 pub mod drawing;

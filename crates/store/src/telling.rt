@@ -3,7 +3,6 @@ ghost use mathlib.Core.Path.{_≡_};
 ghost use Prim.Native.Nat.{_+_, _≤_};
 ghost use lib.ListN.{length, take, drop};
 ghost use Rattle.store.specs.Calls.{onto};
-use crate::change;
 
 // Document 01's refusal number, and the characters of a font or the data bytes of a character.
 #[repr(C)]

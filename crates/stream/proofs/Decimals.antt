@@ -10,7 +10,7 @@ use lib.ListN.{length, set, length-append}
 use lib.Seq.{append-snoc}
 use Rattle.stream.proofs.Putting.{put-none, put-before}
 use Rattle.stream.specs.Command.{isDigit, digits, spelled}
-use Rattle.store.specs.Change.{withBytes}
+use Rattle.change.specs.Change.{withBytes}
 use Rattle.stream.specs.Digits.{decimalIn, decimal}
 
 -- ---- one digit, or one behind those of its tenth

@@ -6,10 +6,10 @@ use mathlib.Core.Bool.{cond}
 use mathlib.Core.Option.{some}
 use lib.ListN.{length}
 use lib.Dec.{leb}
-use Rattle.form.specs.Model.{Rec, font, character, Mark, Store, encode, decode}
+use Rattle.form.specs.Model.{Rec, font, character, Mark, Store, encode, decode, shut}
 use Rattle.form.specs.Order.{fontAt}
 use Rattle.form.specs.Records.{recordsOf}
-use Rattle.store.specs.Calls.{shut, fresh}
+use Rattle.store.specs.Calls.{fresh}
 use Rattle.store.specs.Download.{markFor}
 use Rattle.stream.specs.Written.{firstData, written}
 use Rattle.stream.specs.Reading.{Reading, reading}

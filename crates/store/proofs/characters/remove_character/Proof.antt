@@ -1,7 +1,7 @@
 use mathlib.Core.Path.{sym, ap, _∙_}
 use Prim.Native.Nat.{_-_}
 use denote.Ref.{now}
-use Rattle.store.specs.Change.{recounted, unmarkedAt}
+use Rattle.change.specs.Change.{recounted, unmarkedAt}
 use Rattle.store.specs.Calls.{removingCharacter, removeCharacter}
 use Rattle.store.specs.Answer.{refuse, done}
 use Rattle.form.proofs.Seeks.{KeptChar, char-sought, char-refused, char-call}

@@ -8,9 +8,8 @@ use Rattle.blocks.specs.Character.{continuationBytes}
 use Rattle.pictures.specs.Size.{dataLimit}
 use Rattle.form.specs.Layout.{characterRecord}
 use Rattle.form.specs.Num.{Bytes, le}
-use Rattle.form.specs.Model.{characterBytes}
-use Rattle.store.specs.Change.{splicedAt, withBytes, Recounting, recounted, remarked}
-use Rattle.store.specs.Calls.{shut}
+use Rattle.form.specs.Model.{characterBytes, shut}
+use Rattle.change.specs.Change.{splicedAt, withBytes, Recounting, recounted, remarked}
 use Rattle.form.specs.Walk.{keptAt, dataAt}
 use Rattle.store.specs.Download.{markFor}
 use Rattle.store.proofs.Downloads.{Space, growing, grow-span, grow-small, grow-put, place-full, place-ready, place-done}

@@ -4,7 +4,7 @@ use Prim.Native.Nat.{ℕ}
 use denote.Ref.{now}
 use Rattle.form.specs.Layout.{kindAt, markKind, markRecord}
 use Rattle.form.specs.Num.{le}
-use Rattle.store.specs.Change.{withBytes}
+use Rattle.change.specs.Change.{withBytes}
 use Rattle.store.proofs.FontCalls.{answered, fresh-short, fresh-long, fresh-done, fresh-bytes}
 use borrow.Author.Needs.{needs}
 use Rattle.store.proofs.fonts.make_fresh.Statement.{statement}

@@ -1,46 +1,42 @@
-use borrow.Author.Needs.{needs}
-use Rattle.pictures.proofs.Passing.{inside, runs-none, runs-then, runs-eight}
-use Rattle.pictures.specs.Passing.{PassesRuns}
+use Prim.Native.Nat.{_-_}
 use native.Mathlib.Omega.{arith}
-use Prim.Native.Nat.{_-_, _≤_}
+use Rattle.pictures.specs.Passing.{PassesRuns}
+use Rattle.pictures.proofs.Passing.{inside, runs-none, runs-then, runs-eight}
+use borrow.Author.Needs.{needs}
 use Rattle.pictures.proofs.runs.Inside.pass_eights.Statement.{statement}
 use Rattle.pictures.proofs.runs.Inside.pass_eights.Tie as tie
 
 abbrev Inv-loop : tie.InvT-loop
-Inv-loop self src width last at₀ filled₀ at filled = (filled ≤ 65535) × PassesRuns width src self (inside at filled (self .black))
+Inv-loop self src last at₀ left₀ at left = PassesRuns src self (inside at left (self .black))
 
 abbrev μ-loop : tie.MeasureT-loop
-μ-loop self src width last at₀ filled₀ at filled = last - at
+μ-loop self src last at₀ left₀ at left = last - at
 
 loop-holds : tie.Need-loop-holds Inv-loop μ-loop
-loop-holds c = (search needs, runs-none _ _ (c .before .before .before .args .self) (c .before .before .before .pre))
+loop-holds c = runs-none _ (c .before .before .args .self) (c .before .before .pre)
 
 sum-of-eight-requires : tie.Need-sum-of-eight-requires Inv-loop μ-loop
-sum-of-eight-requires c κs = omega (arith, c .loop-test .taken, c .before .before .before .before-eight .ensures)
-
-add-end : tie.Need-add-end Inv-loop μ-loop
-add-end c = omega (arith, c .sum-of-eight .ensures .1, c .before .before .loop .inv .0)
-
-cast-t11 : tie.Need-cast-t11 Inv-loop μ-loop
-cast-t11 c = omega (arith, c .before .before .before .loop .inv .0)
+sum-of-eight-requires c κs = omega (arith, c .loop-test .taken, c .before .before .before-last .ensures)
 
 returns : tie.Need-returns Inv-loop μ-loop
-returns c = c .before .before .before .loop .inv .1
+returns c = c .before .before .before .loop .inv
+
+sub-left : tie.Need-sub-left Inv-loop μ-loop
+sub-left c = omega (arith, c .if1 .left)
 
 add-at : tie.Need-add-at Inv-loop μ-loop
-add-at c = omega (arith, c .before .before .loop-test .taken, c .before .before .before .before .before .before-eight .ensures)
+add-at c = omega (arith, c .before .before .loop-test .taken, c .before .before .before .before .before-last .ensures)
+
+loop-less : tie.Need-loop-less Inv-loop μ-loop
+loop-less c = omega (arith, c .before .before .loop-test .taken)
 
 loop-again : tie.Need-loop-again Inv-loop μ-loop
-loop-again c =
-    let k = c .before .before .before .loop in
-    let b = c .before .before .before .before .before .before .before .args .self .black in
-    (omega arith, rw (c .before .sum-of-eight .ensures .0) (runs-then _ _ _ (inside (k .at) (k .filled) b) _ (k .inv .1) (runs-eight _ _ (k .at) (k .filled) b (omega (arith, c .before .before .loop-test .taken, c .before .before .before .before .before .before-eight .ensures)) (omega (arith, c .if1 .left, c .before .sum-of-eight .ensures .0)))))
-
-cast-t12 : tie.Need-cast-t12 Inv-loop μ-loop
-cast-t12 c = omega (arith, c .before .loop .inv .0)
+loop-again c = let k = c .before .before .before .loop in
+    let b = c .before .before .before .before .before .before .args .self .black in
+    rw (c .before .sum-of-eight .ensures .0) (runs-then _ _ (inside (k .at) (k .left) b) _ (k .inv) (runs-eight _ (k .at) (k .left) b (omega (arith, c .before .before .loop-test .taken, c .before .before .before .before .before-last .ensures)) (omega (arith, c .if1 .left, c .before .sum-of-eight .ensures .0))))
 
 returns-2 : tie.Need-returns-2 Inv-loop μ-loop
-returns-2 c = c .before .loop .inv .1
+returns-2 c = c .before .loop .inv
 
 pub pass-eights-spec : {M : Type 1} → statement M
 pass-eights-spec =
@@ -49,14 +45,11 @@ pass-eights-spec =
     Inv-loop
     μ-loop
     (λ c κs. search needs)
-    (λ c. search needs)
     loop-holds
     sum-of-eight-requires
-    add-end
-    cast-t11
     returns
+    sub-left
     add-at
-    (λ c. search needs)
+    loop-less
     loop-again
-    cast-t12
     returns-2)

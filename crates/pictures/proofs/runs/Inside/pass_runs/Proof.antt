@@ -3,13 +3,17 @@ use borrow.Author.Needs.{needs}
 use Rattle.pictures.proofs.runs.Inside.pass_runs.Statement.{statement}
 use Rattle.pictures.proofs.runs.Inside.pass_runs.Tie as tie
 
-pass-ones-requires : tie.Need-pass-ones-requires
-pass-ones-requires c κs = runs-within _ _ _ _ (c .pass-eights .ensures)
-
 returns : tie.Need-returns
-returns c =
-    let k = c .before .pass-eights in
-    runs-then _ _ (c .before .before .before .args .self) (k .result) (c .pass-ones .result) (k .ensures) (c .pass-ones .ensures)
+returns c = c .pass-pairs .ensures
+
+pass-pairs-requires-2 : tie.Need-pass-pairs-requires-2
+pass-pairs-requires-2 c κs = runs-within _ _ _ (c .pass-eights .ensures)
+
+returns-2 : tie.Need-returns-2
+returns-2 c = let k = c .before .pass-eights in
+    runs-then _ (c .before .before .before .before .args .self) (k .result) (c .pass-pairs2 .result) (k .ensures) (c .pass-pairs2 .ensures)
 
 pub pass-runs-spec : {M : Type 1} → statement M
-pass-runs-spec = tie.close (tie.spec (λ c κs. search needs) pass-ones-requires returns)
+pass-runs-spec =
+    tie.close
+    (tie.spec (λ c κs. search needs) returns (λ c κs. search needs) pass-pairs-requires-2 returns-2)

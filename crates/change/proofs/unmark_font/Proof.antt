@@ -1,0 +1,30 @@
+use mathlib.Core.Path.{sym, _∙_}
+use denote.Ref.{now}
+use Rattle.change.proofs.Unmarks.{unmark-off, unmark-other, unmark-font}
+use borrow.Author.Needs.{needs}
+use native.Mathlib.Omega.{arith}
+use Rattle.change.proofs.unmark_font.Statement.{statement}
+use Rattle.change.proofs.unmark_font.Tie as tie
+
+returns : tie.Need-returns
+returns c = sym (unmark-off (c .before .before .before .before .args .font) 0 (now (c .before .before .before .before .args .s)) (λ e. omega arith) .0)
+
+returns-2 : tie.Need-returns-2
+returns-2 c = sym (unmark-other (c .before .before .before .before .before .before .before .args .font) 0 (now (c .before .before .before .before .before .before .before .args .s)) (omega arith) (λ e. omega arith) .0)
+
+returns-3 : tie.Need-returns-3
+returns-3 c = c .before .before .remark .ensures ∙ sym (unmark-font (c .before .before .before .before .before .before .before .before .before .before .before .args .font) 0 (now (c .before .before .before .before .before .before .before .before .before .before .before .args .s)) (omega arith) (omega arith))
+
+pub unmark-font-spec : {M : Type 1} → statement M
+unmark-font-spec =
+    tie.close
+    (tie.spec
+    (λ c κs. search needs)
+    (λ c. search needs)
+    returns
+    (λ c κs. search needs)
+    (λ c. search needs)
+    returns-2
+    (λ c κs. search needs)
+    (λ c. search needs)
+    returns-3)
