@@ -4,3 +4,5 @@ pub mod Fields
 pub mod HeaderBytes
 pub mod KeptHeader
 pub mod KeptFirst
+pub mod Copies
+pub mod Openings

@@ -126,13 +126,15 @@ abbrev pub firstForm : List ℕ → Bool
 firstForm b = eqb (descriptorSize b) sizeTaken && takenClass (class b)
 
 -- "Then, else 5: orientation (4) the font's; left (6) and top offset (8), signed, -16,384..16,384; width (10) and height (12) 1..16,384."
-abbrev pub firstFields : List ℕ → ℕ → Bool
-firstFields b o =
-    eqb (orientation b) o
-    && signedWithin 16 offsetLimit (leftOffset b)
+abbrev pub firstExtent : List ℕ → Bool
+firstExtent b =
+    signedWithin 16 offsetLimit (leftOffset b)
     && signedWithin 16 offsetLimit (topOffset b)
     && within 1 sideLimit (width b)
     && within 1 sideLimit (height b)
+
+abbrev pub firstFields : List ℕ → ℕ → Bool
+firstFields b o = eqb (orientation b) o && firstExtent b
 
 -- "A picture has height rows of width/8 rounded up bytes; above 32,768 bytes in all is 9."
 abbrev pub firstSize : List ℕ → Bool

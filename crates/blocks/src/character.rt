@@ -1,10 +1,12 @@
 // The character block: its kind, a first block's checks, and the bytes that are kept of its descriptor.
 ghost use mathlib.Core.Path.{_≡_};
-ghost use Prim.Native.Nat.{_≤_};
+ghost use Prim.Native.Nat.{_+_, _*_, _<_, _≤_};
 ghost use lib.ListN.{length};
 ghost use Rattle.pictures.specs.Size.{within, sideLimit};
-ghost use Rattle.blocks.specs.Character.{descriptorBytes, continuationBytes, class, leftOffset, width, height, deltaX, characterLength, kindOf, takenClass, heldClass, firstForm, firstFields, firstSize, readFirst, fixFirst, keptFirst, isKeptFirst, fixedFirst};
+ghost use Rattle.blocks.specs.Character.{descriptorBytes, continuationBytes, class, leftOffset, width, height, deltaX, characterLength, kindOf, takenClass, firstForm, firstExtent, firstFields, firstSize, readFirst, fixFirst, keptFirst, isKeptFirst};
+ghost use Rattle.blocks.specs.Openings.{opensKept, facesAs};
 use crate::Verdict;
+use crate::copying;
 use crate::field;
 use crate::header;
 use pictures::size;
@@ -41,6 +43,13 @@ const DELTA_X_AT: usize = 14;
 pub const FORMAT: u8 = 4;
 
 const SIZE_TAKEN: u8 = 14;
+
+// The first four bytes of a kept descriptor as one number, low byte first, by its class.
+const OPENING: u32 = FORMAT as u32 + 65536 * (SIZE_TAKEN as u32);
+
+const BITMAP_OPENING: u32 = OPENING + 16777216 * (size::BITMAP as u32);
+
+const RUNS_OPENING: u32 = OPENING + 16777216 * (size::RUNS as u32);
 
 pub enum Kind {
     First,
@@ -117,13 +126,6 @@ fn taken_class(k: u8) -> bool
     (size::BITMAP <= k) & (k <= size::RUNS)
 }
 
-// The classes of the characters in a store.
-fn held_class(k: u8) -> bool
-    ensures { λ r. ⌜ r ≡ heldClass k ⌝ }
-{
-    (size::BITMAP <= k) & (k <= size::RUNS)
-}
-
 fn first_form(block: &[u8]) -> bool
     requires { ⌜ descriptorBytes ≤ length (now block) ⌝ }
     ensures { λ r. ⌜ r ≡ firstForm (now (block .entry)) ⌝ }
@@ -138,15 +140,22 @@ fn side_allowed(n: u16) -> bool
     (1 <= n) & (n <= size::SIDE_LIMIT)
 }
 
+// The offsets, the width and the height.
+fn first_extent(block: &[u8]) -> bool
+    requires { ⌜ descriptorBytes ≤ length (now block) ⌝ }
+    ensures { λ r. ⌜ r ≡ firstExtent (now (block .entry)) ⌝ }
+{
+    field::offset_allowed(field::word(block, LEFT_OFFSET_AT))
+        & field::offset_allowed(field::word(block, TOP_OFFSET_AT))
+        & side_allowed(width(block))
+        & side_allowed(height(block))
+}
+
 fn first_fields(block: &[u8], orientation: u8) -> bool
     requires { ⌜ descriptorBytes ≤ length (now block) ⌝ }
     ensures { λ r. ⌜ r ≡ firstFields (now (block .entry)) orientation ⌝ }
 {
-    (block[ORIENTATION_AT] == orientation)
-        & field::offset_allowed(field::word(block, LEFT_OFFSET_AT))
-        & field::offset_allowed(field::word(block, TOP_OFFSET_AT))
-        & side_allowed(width(block))
-        & side_allowed(height(block))
+    (block[ORIENTATION_AT] == orientation) & first_extent(block)
 }
 
 fn first_size(block: &[u8]) -> bool
@@ -188,20 +197,34 @@ pub fn keep_first(block: &[u8], out: &mut [u8])
     requires { ⌜ (descriptorBytes ≤ length (now block)) × (length (now out) ≡ descriptorBytes) ⌝ }
     ensures { λ _. ⌜ now (out .exit) ≡ keptFirst (now (block .entry)) ⌝ }
 {
-    field::copy_front(block, out);
+    copying::copy_front(block, out);
     fix_first(out);
 }
 
-// The bytes that an accepted first block always has, or that the rules change, stand as the rules leave them.
-fn fixed_first(k: &[u8]) -> bool
-    requires { ⌜ length (now k) ≡ descriptorBytes ⌝ }
-    ensures { λ r. ⌜ r ≡ fixedFirst (now (k .entry)) ⌝ }
+// Two bytes as one number, low byte first.
+fn pair(low: u8, high: u8) -> u32
+    ensures { λ r. ⌜ (r ≡ low + 256 * high) × (r < 65536) ⌝ }
 {
-    (k[FORMAT_AT] == FORMAT)
-        & (k[CONTINUED_AT] == 0)
-        & (k[DESCRIPTOR_SIZE_AT] == SIZE_TAKEN)
-        & (k[RESERVED_AT] == 0)
-        & !field::is_negative(field::word(k, DELTA_X_AT))
+    low as u32 + 256 * (high as u32)
+}
+
+// The first four bytes are those of a kept descriptor: one number, so that one test does for all four.
+fn opens_kept(k: &[u8]) -> bool
+    requires { ⌜ length (now k) ≡ descriptorBytes ⌝ }
+    ensures { λ r. ⌜ r ≡ opensKept (now (k .entry)) ⌝ }
+{
+    let low = pair(k[FORMAT_AT], k[CONTINUED_AT]);
+    let high = pair(k[DESCRIPTOR_SIZE_AT], k[CLASS_AT]);
+    let n = low + 65536 * high;
+    (n == BITMAP_OPENING) | (n == RUNS_OPENING)
+}
+
+// The next two bytes, the orientation and a byte that is 0, likewise.
+fn faces_as(k: &[u8], orientation: u8) -> bool
+    requires { ⌜ length (now k) ≡ descriptorBytes ⌝ }
+    ensures { λ r. ⌜ r ≡ facesAs (now (k .entry)) orientation ⌝ }
+{
+    pair(k[ORIENTATION_AT], k[RESERVED_AT]) == orientation as u32
 }
 
 // Whether bytes are what an accepted first block leaves of its descriptor, for a font of this orientation.
@@ -211,5 +234,6 @@ pub fn is_kept_first(k: &[u8], orientation: u8) -> bool
     if k.len() != KEPT {
         return false;
     }
-    fixed_first(k) & (held_class(class(k)) & (first_fields(k, orientation) & first_size(k)))
+    let advances = !field::is_negative(field::word(k, DELTA_X_AT));
+    opens_kept(k) & (faces_as(k, orientation) & (advances & (first_extent(k) & first_size(k))))
 }

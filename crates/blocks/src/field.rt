@@ -1,7 +1,7 @@
 // Fields by offset, high byte first; signed numbers by their unsigned bits.
 ghost use mathlib.Core.Path.{_≡_};
-ghost use Prim.Native.Nat.{_+_, _<_, _≤_};
-ghost use lib.ListN.{length, take};
+ghost use Prim.Native.Nat.{_+_, _<_};
+ghost use lib.ListN.{length};
 ghost use Rattle.blocks.specs.Field.{join, word, isWord, negative, signedWithin, putWord, capExtended, floorWord};
 ghost use Rattle.blocks.specs.Header.{weightLimit};
 ghost use Rattle.blocks.specs.Character.{offsetLimit};
@@ -86,13 +86,4 @@ pub(crate) fn floor_word(s: &mut [u8], at: usize)
     if is_negative(word(s, at)) {
         put_word(s, at, 0);
     }
-}
-
-// Copies the front of a slice that is at least as long.
-pub(crate) fn copy_front(from: &[u8], to: &mut [u8])
-    requires { ⌜ length (now to) ≤ length (now from) ⌝ }
-    ensures { λ _. ⌜ now (to .exit) ≡ take (length (now (to .entry))) (now (from .entry)) ⌝ }
-{
-    let n = to.len();
-    bytes::copy(&from[..n], to);
 }

@@ -4,6 +4,7 @@ ghost use Prim.Native.Nat.{_≤_};
 ghost use lib.ListN.{length};
 ghost use Rattle.blocks.specs.Header.{plainBytes, headerBytes, fontType, cellWidth, cellHeight, orientation, spacing, pitch, saysResolution, ownBytes, headerForm, headerFields, bothAre, headerResolution, readHeader, firstBytes, fixHeader, keptHeader, isKeptHeader, fixedHeader};
 use crate::Verdict;
+use crate::copying;
 use crate::field;
 
 // A block has at most so many bytes; so many are kept of every header; one of format 0 has so many itself.
@@ -215,9 +216,9 @@ fn copy_first(block: &[u8], out: &mut [u8])
     ensures { λ _. ⌜ now (out .exit) ≡ firstBytes (now (block .entry)) ⌝ }
 {
     if says_resolution(block) {
-        field::copy_front(block, out);
+        copying::copy_front(block, out);
     } else {
-        field::copy_front(block, &mut out[..PLAIN]);
+        copying::copy_front(block, &mut out[..PLAIN]);
         field::put_word(out, X_RESOLUTION_AT, COARSE_RESOLUTION);
         field::put_word(out, Y_RESOLUTION_AT, COARSE_RESOLUTION);
     }

@@ -1,5 +1,6 @@
 // Reads font and character blocks. Everything here is a function of byte slices.
 pub mod character;
+mod copying;
 pub mod field;
 pub mod header;
 

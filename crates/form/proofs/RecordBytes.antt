@@ -12,7 +12,7 @@ use borrow.Author.Tests.{eqb-true, leb-true, le-leb}
 use Rattle.form.specs.Layout.{characterKeptAt, characterKind, characterRecord, codeAt, fontCharactersAt, fontBytesAt, fontKeptAt, fontKind, fontRecord, kindAt, lastCode, lastFont, numberAt}
 use Rattle.form.specs.Num.{num, le, field, allZero, Bytes}
 use Rattle.blocks.specs.Header.{isKeptHeader, headerBytes}
-use Rattle.blocks.specs.Character.{class, width, height, leftOffset, topOffset, readFirst, firstChecks, isKeptFirst, descriptorBytes}
+use Rattle.blocks.specs.Character.{class, width, height, leftOffset, topOffset, readFirst, firstChecks, isKeptFirst, descriptorBytes, firstExtent}
 use Rattle.pictures.specs.Size.{dataLimit, within}
 use Rattle.pictures.specs.Picture.{held}
 use Rattle.pictures.specs.declared.picture.Held.the-variants.{Foreign}
@@ -116,8 +116,9 @@ pub kept-width : (h : List ℕ) (o : ℕ) → isKeptFirst h o ≡ true → 0 < w
 unfolding readFirst
 kept-width h o e =
     let f = taken (firstChecks h o) (is-kept-first h o e .1) .1 .1 .0 in
-    let a : Bool = eqb (byte h 4) o && signedWithin 16 16384 (leftOffset h) && signedWithin 16 16384 (topOffset h) in
-    let p = both-of (a && within 1 16384 (width h)) (within 1 16384 (height h)) f in
+    let x = both-of (eqb (byte h 4) o) (firstExtent h) f .1 in
+    let a : Bool = signedWithin 16 16384 (leftOffset h) && signedWithin 16 16384 (topOffset h) in
+    let p = both-of (a && within 1 16384 (width h)) (within 1 16384 (height h)) x in
     within-low 1 16384 (width h) (both-of a (within 1 16384 (width h)) (p .0) .1)
 
 -- what a character that may stand behind the font u has

@@ -249,18 +249,6 @@ impl Place {
         }
     }
 
-    // At a run before which no more dots are filled than the row has.
-    fn is_in_row(self, width: u16) -> bool
-        ensures { λ r. ⌜ r ≡ isInRow width self ⌝ }
-    {
-        match self {
-            Place::Count => false,
-            Place::White(f) => f <= width,
-            Place::Black(f) => f <= width,
-            Place::Finished => false,
-        }
-    }
-
     fn is_black(self) -> bool
         ensures { λ r. ⌜ r ≡ isBlack self ⌝ }
     {
@@ -281,6 +269,13 @@ impl Place {
             Place::Black(f) => f,
             Place::Finished => 0,
         }
+    }
+
+    // At a run before which no more dots are filled than the row has.
+    fn is_in_row(self, width: u16) -> bool
+        ensures { λ r. ⌜ r ≡ isInRow width self ⌝ }
+    {
+        self.is_at_run() & (self.filled() <= width)
     }
 }
 
