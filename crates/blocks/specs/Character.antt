@@ -125,7 +125,7 @@ heldClass k = within bitmapClass runsClass k
 abbrev pub firstForm : List ℕ → Bool
 firstForm b = eqb (descriptorSize b) sizeTaken && takenClass (class b)
 
--- "Then, else 5: orientation (4) the font's; left (6) and top offset (8), signed, -16,384..16,384; width (10) and height (12) 1..16,384."
+-- "left (6) and top offset (8), signed, -16,384..16,384; width (10) and height (12) 1..16,384"
 abbrev pub firstExtent : List ℕ → Bool
 firstExtent b =
     signedWithin 16 offsetLimit (leftOffset b)
@@ -133,6 +133,7 @@ firstExtent b =
     && within 1 sideLimit (width b)
     && within 1 sideLimit (height b)
 
+-- "Then, else 5: orientation (4) the font's", and these
 abbrev pub firstFields : List ℕ → ℕ → Bool
 firstFields b o = eqb (orientation b) o && firstExtent b
 
