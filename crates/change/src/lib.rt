@@ -201,7 +201,7 @@ pub fn copy(s: &mut [u8], at: usize, b: &[u8])
 }
 
 // Makes the open mark this one.
-pub fn remark(s: &mut [u8], on: usize, font: usize, code: usize)
+fn remark(s: &mut [u8], on: usize, font: usize, code: usize)
     requires { ⌜ (leastStore ≤ length (now s)) × (on < wordEnd) × (font < wordEnd) × (code < wordEnd) ⌝ }
     ensures { λ _. ⌜ now (s .exit) ≡ remarked (record { on = on; fontOf = font; codeOf = code }) (now (s .entry)) ⌝ }
 {

@@ -19,9 +19,8 @@ use Rattle.form.specs.Model.{Rec, heldOf}
 use Rattle.form.specs.Records.{MetAt, Between, fontFrom, FontMet, characterFrom, CharacterMet}
 use Rattle.form.proofs.FontRecords.{between-none, between-next}
 use Rattle.profile.specs.Profile.{isWhole, rightInside}
-use Rattle.profile.specs.Pass.{CellOf, brokenBy, nextWanted, behindCharacter, behindRecord, passedOver, nothingFound}
+use Rattle.profile.specs.Pass.{brokenBy, nextWanted, behindCharacter, behindRecord, passedOver, nothingFound}
 use Rattle.profile.specs.declared.pass.Findings.{Findings}
-use Rattle.profile.specs.declared.rules.Cell.{Cell}
 
 -- ── rule 5, where the left offset is not negative, and where it is
 from-zero : (l w m : ℕ) → l < 65536 → negative 16 l ≡ false → leb (l + w) m ≡ leZ (signed 16 l +ℤ pos w) (pos m)
@@ -66,24 +65,17 @@ module _ (h : List ℕ) (p : Findings) (c : ℕ) (k d : List ℕ) (w r : ℕ) (e
 pub same-part : (s : List ℕ) (a n : ℕ) → take (a + n - a) (drop a s) ≡ take n (drop a s)
 same-part s a n = let e : a + n - a ≡ n = omega arith in rw e
 
-pub font-behind : (s : List ℕ) (at n kept next : ℕ) → FontMet s at n kept next → (c : Cell) (p : Findings)
-    → (r : Rec) × MetAt s at r next × ((h : List ℕ) → CellOf h c → p ≡ behindRecord h p r)
+pub font-behind : (s : List ℕ) (at n kept next : ℕ) → FontMet s at n kept next → (h : List ℕ) (p : Findings) → (r : Rec) × MetAt s at r next × (p ≡ behindRecord h p r)
 unfolding behindRecord
-font-behind s at n kept next m c p = (fontFrom s n kept, m .met, λ h e. refl)
+font-behind s at n kept next m h p = (fontFrom s n kept, m .met, refl)
 
 module _ (s : List ℕ) (at n c kept bytes next : ℕ) (m : CharacterMet s at n c kept bytes next) where
   pub descriptor-long : descriptorBytes ≤ length (take (kept + descriptorBytes - kept) (drop kept s))
   descriptor-long = simp (length-take, length-drop) (omega (arith, m .join, m .last, m .met .within))
 
-  pub character-behind : (k : Cell) (p x : Findings)
-      → ((h : List ℕ) → CellOf h k → x ≡ behindCharacter h p c (take (kept + descriptorBytes - kept) (drop kept s)) (take (next - bytes) (drop bytes s)))
-      → (r : Rec) × MetAt s at r next × ((h : List ℕ) → CellOf h k → x ≡ behindRecord h p r)
+  pub character-behind : (h : List ℕ) (p x : Findings) → x ≡ behindCharacter h p c (take (kept + descriptorBytes - kept) (drop kept s)) (take (next - bytes) (drop bytes s)) → (r : Rec) × MetAt s at r next × (x ≡ behindRecord h p r)
   unfolding behindRecord
-  character-behind k p x e = (
-    characterFrom s n c kept bytes next,
-    m .met,
-    λ h y. e h y ∙ ap (λ (l : List ℕ). behindCharacter h p c l (take (next - bytes) (drop bytes s))) (same-part s kept descriptorBytes),
-  )
+  character-behind h p x e = (characterFrom s n c kept bytes next, m .met, e ∙ ap (λ (k : List ℕ). behindCharacter h p c k (take (next - bytes) (drop bytes s))) (same-part s kept descriptorBytes))
 
 -- ── a run of records: what is left of it gives the whole's findings
 abbrev pub Passing : List ℕ → List ℕ → ℕ → ℕ → ℕ → Findings → Type 0

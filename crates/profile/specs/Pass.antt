@@ -1,21 +1,13 @@
 -- For the code alone: what one pass over the records of a font, in their order, finds.
 use Prim.Native.Nat.{ℕ, _+_}
-use mathlib.Core.Path.{_≡_}
 use mathlib.Core.List.{List, [], _∷_}
 use mathlib.Core.Bool.{Bool, not, _||_, cond}
 use lib.Dec.{eqb, leb, ltb}
-use Rattle.blocks.specs.Header.{fontType, spacing, cellWidth, cellHeight, pitch as pitchOf}
+use Rattle.blocks.specs.Header.{fontType, spacing}
 use Rattle.form.specs.Model.{Rec, font, character, heldOf}
 use Rattle.profile.specs.Profile.{firstRequired, lastRequired, isWhole, leftInside, rightInside, heightInside, advancesByPitch, noneBroken}
 use Rattle.profile.specs.declared.pass.RuleBroken.{RuleBroken}
 use Rattle.profile.specs.declared.pass.Findings.{Findings}
-use Rattle.profile.specs.declared.rules.Cell.{Cell}
-
--- what the rules ask of a font with the header h
-pub record CellOf (h : List ℕ) (c : Cell) : Type 0 where
-  pub width : c .width ≡ cellWidth h
-  pub height : c .height ≡ cellHeight h
-  pub pitch : c .pitch ≡ pitchOf h
 
 -- the number of the first of the rules 4 to 7 that a character with the kept bytes k breaks; 8, if it breaks none
 unfoldable pub brokenBy : List ℕ → List ℕ → ℕ

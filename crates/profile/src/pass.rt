@@ -1,7 +1,7 @@
 // One pass over the records of a font, which stand by rising code.
 ghost use mathlib.Core.Path.{_≡_};
 ghost use mathlib.Core.List.{List, []};
-ghost use Prim.Native.Nat.{ℕ, _≤_, _<_};
+ghost use Prim.Native.Nat.{_≤_, _<_};
 ghost use lib.ListN.{length};
 ghost use Rattle.blocks.specs.Header.{headerBytes};
 ghost use Rattle.blocks.specs.Character.{descriptorBytes};
@@ -9,9 +9,8 @@ ghost use Rattle.form.specs.Layout.{lastCode};
 ghost use Rattle.form.specs.Model.{Rec, heldOf};
 ghost use Rattle.form.specs.Records.{recordsAt, RecordPlace, MetAt, Between};
 ghost use Rattle.profile.specs.Profile.{isWhole, noneBroken};
-ghost use Rattle.profile.specs.Pass.{CellOf, nextWanted, behindCharacter, behindRecord, passedOver, nothingFound, foundBroken, brokenWith, brokenAmong};
+ghost use Rattle.profile.specs.Pass.{nextWanted, behindCharacter, behindRecord, passedOver, nothingFound, foundBroken, brokenWith, brokenAmong};
 use crate::rules;
-use crate::rules::Cell;
 use blocks::character;
 use blocks::header;
 use form::records;
@@ -66,12 +65,12 @@ fn next_wanted(wanted: u32, code: u32, k: &[u8], d: &[u8]) -> u32
 }
 
 // Behind a character with the kept bytes k and the data d.
-fn behind_character(c: Cell, p: Findings, code: u32, k: &[u8], d: &[u8]) -> Findings
-    requires { ⌜ (code ≤ lastCode) × (descriptorBytes ≤ length (now k)) ⌝ }
-    ensures { λ r. ⌜ ((h : List ℕ) → CellOf h c → r ≡ behindCharacter h p code (now (k .entry)) (now (d .entry))) ⌝ }
+fn behind_character(h: &[u8], p: Findings, code: u32, k: &[u8], d: &[u8]) -> Findings
+    requires { ⌜ (headerBytes ≤ length (now h)) × (code ≤ lastCode) × (descriptorBytes ≤ length (now k)) ⌝ }
+    ensures { λ r. ⌜ r ≡ behindCharacter (now (h .entry)) p code (now (k .entry)) (now (d .entry)) ⌝ }
 {
     let wanted = next_wanted(p.wanted, code, k, d);
-    let rule = rules::broken_by(c, k);
+    let rule = rules::broken_by(h, k);
     if rule < p.rule {
         return Findings { wanted, rule, code };
     }
@@ -83,9 +82,9 @@ fn behind_character(c: Cell, p: Findings, code: u32, k: &[u8], d: &[u8]) -> Find
 }
 
 // Behind the record at a place of the run.
-fn pass_record(s: &[u8], c: Cell, at: usize, p: Findings) -> RecordPassed
-    requires { ⌜ RecordPlace (now s) at × (recordsAt (now s) at ≡ [] → ⊥) ⌝ }
-    ensures { λ x. ⌜ ((r : Rec) × MetAt (now (s .entry)) at r (x .next) × ((h : List ℕ) → CellOf h c → x .findings ≡ behindRecord h p r)) ⌝ }
+fn pass_record(s: &[u8], h: &[u8], at: usize, p: Findings) -> RecordPassed
+    requires { ⌜ RecordPlace (now s) at × (recordsAt (now s) at ≡ [] → ⊥) × (headerBytes ≤ length (now h)) ⌝ }
+    ensures { λ x. ⌜ ((r : Rec) × MetAt (now (s .entry)) at r (x .next) × (x .findings ≡ behindRecord (now (h .entry)) p r)) ⌝ }
 {
     match records::next_record(s, at) {
         Met::Font {
@@ -101,7 +100,7 @@ fn pass_record(s: &[u8], c: Cell, at: usize, p: Findings) -> RecordPassed
             next,
         } => {
             let end = kept + character::KEPT;
-            let findings = behind_character(c, p, code, &s[kept..end], &s[bytes..next]);
+            let findings = behind_character(h, p, code, &s[kept..end], &s[bytes..next]);
             RecordPassed { findings, next }
         }
         Met::End => RecordPassed {
@@ -111,10 +110,10 @@ fn pass_record(s: &[u8], c: Cell, at: usize, p: Findings) -> RecordPassed
     }
 }
 
-// The records from one place up to another, of a font with this cell.
-fn pass_records(s: &[u8], c: Cell, lo: usize, hi: usize) -> Findings
-    requires { ⌜ ((rs : List Rec) × Between (now s) lo hi rs) × ((h : List ℕ) × CellOf h c) ⌝ }
-    ensures { λ p. ⌜ ((h : List ℕ) → CellOf h c → (rs : List Rec) → Between (now (s .entry)) lo hi rs → p ≡ passedOver rs h nothingFound) ⌝ }
+// The records from one place up to another, of a font with the header h.
+fn pass_records(s: &[u8], h: &[u8], lo: usize, hi: usize) -> Findings
+    requires { ⌜ ((rs : List Rec) × Between (now s) lo hi rs) × (headerBytes ≤ length (now h)) ⌝ }
+    ensures { λ p. ⌜ ((rs : List Rec) → Between (now (s .entry)) lo hi rs → p ≡ passedOver rs (now (h .entry)) nothingFound) ⌝ }
 {
     let mut p = Findings {
         wanted: FIRST_REQUIRED,
@@ -123,7 +122,7 @@ fn pass_records(s: &[u8], c: Cell, lo: usize, hi: usize) -> Findings
     };
     let mut at = lo;
     while at < hi {
-        let x = pass_record(s, c, at, p);
+        let x = pass_record(s, h, at, p);
         p = x.findings;
         at = x.next;
     }
@@ -160,7 +159,7 @@ fn broken_with(s: &[u8], h: &[u8], lo: usize, hi: usize) -> RuleBroken
     if header::spacing(h) != 0 {
         return RuleBroken { rule: 2, code: 0 };
     }
-    found_broken(pass_records(s, rules::cell_of(h), lo, hi))
+    found_broken(pass_records(s, h, lo, hi))
 }
 
 // A font whose records stand from one place up to another.

@@ -1,13 +1,12 @@
 // The rules of the profile that look at a character's kept bytes.
 ghost use mathlib.Core.Path.{_≡_};
-ghost use mathlib.Core.List.{List};
-ghost use Prim.Native.Nat.{ℕ, _≤_};
+ghost use Prim.Native.Nat.{_≤_};
 ghost use lib.ListN.{length};
 ghost use Rattle.blocks.specs.Header.{headerBytes};
 ghost use Rattle.blocks.specs.Character.{descriptorBytes};
 ghost use Rattle.form.specs.Model.{heldOf};
 ghost use Rattle.profile.specs.Profile.{isWhole, leftInside, rightInside, heightInside, advancesByPitch};
-ghost use Rattle.profile.specs.Pass.{CellOf, brokenBy};
+ghost use Rattle.profile.specs.Pass.{brokenBy};
 use blocks::character;
 use blocks::field;
 use blocks::header;
@@ -20,38 +19,20 @@ pub(crate) const NO_RULE: u32 = 8;
 // A 16-bit field that is negative as a signed number stands for itself less this.
 const WORD_END: u32 = 65536;
 
-// What the rules ask of a font's header: the width and the height of the cell, and the pitch. They are read once, not for each character.
-pub(crate) struct Cell {
-    pub width: u16,
-    pub height: u16,
-    pub pitch: u16,
-}
-
-pub(crate) fn cell_of(h: &[u8]) -> Cell
-    requires { ⌜ headerBytes ≤ length (now h) ⌝ }
-    ensures { λ r. ⌜ CellOf (now (h .entry)) r ⌝ }
-{
-    Cell {
-        width: header::cell_width(h),
-        height: header::cell_height(h),
-        pitch: header::pitch(h),
-    }
-}
-
-fn left_inside(k: &[u8]) -> bool
+fn left_inside(h: &[u8], k: &[u8]) -> bool
     requires { ⌜ descriptorBytes ≤ length (now k) ⌝ }
-    ensures { λ r. ⌜ ((h : List ℕ) → r ≡ leftInside h (now (k .entry))) ⌝ }
+    ensures { λ r. ⌜ r ≡ leftInside (now (h .entry)) (now (k .entry)) ⌝ }
 {
     !field::is_negative(character::left_offset(k))
 }
 
-fn right_inside(c: Cell, k: &[u8]) -> bool
-    requires { ⌜ descriptorBytes ≤ length (now k) ⌝ }
-    ensures { λ r. ⌜ ((h : List ℕ) → CellOf h c → r ≡ rightInside h (now (k .entry))) ⌝ }
+fn right_inside(h: &[u8], k: &[u8]) -> bool
+    requires { ⌜ (headerBytes ≤ length (now h)) × (descriptorBytes ≤ length (now k)) ⌝ }
+    ensures { λ r. ⌜ r ≡ rightInside (now (h .entry)) (now (k .entry)) ⌝ }
 {
     let left = character::left_offset(k);
     let right = left as u32 + character::width(k) as u32;
-    let cell = c.width as u32;
+    let cell = header::cell_width(h) as u32;
     if field::is_negative(left) {
         right <= cell + WORD_END
     } else {
@@ -59,35 +40,35 @@ fn right_inside(c: Cell, k: &[u8]) -> bool
     }
 }
 
-fn height_inside(c: Cell, k: &[u8]) -> bool
-    requires { ⌜ descriptorBytes ≤ length (now k) ⌝ }
-    ensures { λ r. ⌜ ((h : List ℕ) → CellOf h c → r ≡ heightInside h (now (k .entry))) ⌝ }
+fn height_inside(h: &[u8], k: &[u8]) -> bool
+    requires { ⌜ (headerBytes ≤ length (now h)) × (descriptorBytes ≤ length (now k)) ⌝ }
+    ensures { λ r. ⌜ r ≡ heightInside (now (h .entry)) (now (k .entry)) ⌝ }
 {
-    character::height(k) <= c.height
+    character::height(k) <= header::cell_height(h)
 }
 
-fn advances_by_pitch(c: Cell, k: &[u8]) -> bool
-    requires { ⌜ descriptorBytes ≤ length (now k) ⌝ }
-    ensures { λ r. ⌜ ((h : List ℕ) → CellOf h c → r ≡ advancesByPitch h (now (k .entry))) ⌝ }
+fn advances_by_pitch(h: &[u8], k: &[u8]) -> bool
+    requires { ⌜ (headerBytes ≤ length (now h)) × (descriptorBytes ≤ length (now k)) ⌝ }
+    ensures { λ r. ⌜ r ≡ advancesByPitch (now (h .entry)) (now (k .entry)) ⌝ }
 {
-    character::delta_x(k) == c.pitch
+    character::delta_x(k) == header::pitch(h)
 }
 
 // The first of the rules 4 to 7 that a character breaks.
-pub(crate) fn broken_by(c: Cell, k: &[u8]) -> u32
-    requires { ⌜ descriptorBytes ≤ length (now k) ⌝ }
-    ensures { λ r. ⌜ ((h : List ℕ) → CellOf h c → r ≡ brokenBy h (now (k .entry))) ⌝ }
+pub(crate) fn broken_by(h: &[u8], k: &[u8]) -> u32
+    requires { ⌜ (headerBytes ≤ length (now h)) × (descriptorBytes ≤ length (now k)) ⌝ }
+    ensures { λ r. ⌜ r ≡ brokenBy (now (h .entry)) (now (k .entry)) ⌝ }
 {
-    if !left_inside(k) {
+    if !left_inside(h, k) {
         return 4;
     }
-    if !right_inside(c, k) {
+    if !right_inside(h, k) {
         return 5;
     }
-    if !height_inside(c, k) {
+    if !height_inside(h, k) {
         return 6;
     }
-    if !advances_by_pitch(c, k) {
+    if !advances_by_pitch(h, k) {
         return 7;
     }
     NO_RULE

@@ -1,7 +1,7 @@
 use mathlib.Core.Path.{ap, _∙_}
+use borrow.Author.Needs.{needs}
 use borrow.Author.Tests.{eq-eqb, ne-eqb}
 use Rattle.profile.specs.Pass.{foundBroken, brokenWith}
-use borrow.Author.Needs.{needs}
 use Rattle.profile.proofs.pass.broken_with.Statement.{statement}
 use Rattle.profile.proofs.pass.broken_with.Tie as tie
 
@@ -18,9 +18,9 @@ returns-2 c rs b =
 returns-3 : tie.Need-returns-3
 unfolding brokenWith
 returns-3 c rs b =
-    let k = c .before .before .before in
+    let k = c .before .before in
     let j = k .before .before in
-    rw (← (j .before .font-type .ensures), ← (k .before .spacing .ensures), eq-eqb _ _ (j .if1 .left), eq-eqb _ _ (k .if2 .left)) (c .found-broken .ensures ∙ ap foundBroken (c .before .pass-records .ensures _ (c .before .before .cell-of .ensures) rs b))
+    rw (← (j .before .font-type .ensures), ← (k .before .spacing .ensures), eq-eqb _ _ (j .if1 .left), eq-eqb _ _ (k .if2 .left)) (c .found-broken .ensures ∙ ap foundBroken (c .before .pass-records .ensures rs b))
 
 pub broken-with-spec : {M : Type 1} → statement M
 broken-with-spec =
@@ -30,7 +30,6 @@ broken-with-spec =
     returns
     (λ c κs. search needs)
     returns-2
-    (λ c κs. search needs)
     (λ c κs. search needs)
     (λ c κs. search needs)
     returns-3)

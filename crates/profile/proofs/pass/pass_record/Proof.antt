@@ -9,7 +9,7 @@ use Rattle.profile.proofs.pass.pass_record.Tie as tie
 
 -- what was met, where a pattern has bound it
 at-character : (c : tie.After-known-told2)
-    → CharacterMet (now (c .before .before .before .before .before .args .s)) (c .before .before .before .before .before .args .at) (c .before .code .given .0 .0) (c .before .code .given .0 .1 .0) (c .before .code .given .0 .1 .1 .0)
+    → CharacterMet (now (c .before .before .before .before .before .before .args .s)) (c .before .before .before .before .before .before .args .at) (c .before .code .given .0 .0) (c .before .code .given .0 .1 .0) (c .before .code .given .0 .1 .1 .0)
     (c .before .code .given .0 .1 .1 .1 .0) (c .before .code .given .0 .1 .1 .1 .1 .0)
 at-character c = met-character _ _ _ (c .before .before .before .next-record .ensures) _ _ _ _ _ (c .before .code .given .1)
 
@@ -31,7 +31,7 @@ part-behind-character-end-2 c = at-character (c .before) .met .within
 behind-character-requires : tie.Need-behind-character-requires
 behind-character-requires c κs =
     let m = at-character (c .before .before) in
-    (m .code, descriptor-long _ _ _ _ _ _ _ m)
+    (search needs, m .code, descriptor-long _ _ _ _ _ _ _ m)
 
 returns : tie.Need-returns
 returns c = font-behind _ _ _ _ _ (met-font _ _ _ (c .before .before .before .next-record .ensures) _ _ _ (c .before .next .given .1)) _ _
@@ -40,7 +40,7 @@ returns-2 : tie.Need-returns-2
 returns-2 c = character-behind _ _ _ _ _ _ _ (at-character (c .before .before .before)) _ _ _ (c .behind-character .ensures)
 
 returns-3 : tie.Need-returns-3
-returns-3 c = absurd (c .before .before .before .before .pre .1 (met-end _ _ _ (c .before .before .next-record .ensures) (c .enum-told .given .1)))
+returns-3 c = absurd (c .before .before .before .before .before .pre .1 (met-end _ _ _ (c .before .before .next-record .ensures) (c .enum-told .given .1)))
 
 pub pass-record-spec : {M : Type 1} → statement M
 pass-record-spec =

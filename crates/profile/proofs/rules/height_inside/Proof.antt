@@ -5,7 +5,7 @@ use Rattle.profile.proofs.rules.height_inside.Tie as tie
 
 returns : tie.Need-returns
 unfolding heightInside
-returns c h x = rw (x .height, c .before .height .ensures)
+returns c = rw (c .cell-height .ensures, c .before .height .ensures)
 
 pub height-inside-spec : {M : Type 1} → statement M
-height-inside-spec = tie.close (tie.spec (λ c κs. search needs) returns)
+height-inside-spec = tie.close (tie.spec (λ c κs. search needs) (λ c κs. search needs) returns)
