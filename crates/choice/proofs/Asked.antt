@@ -7,7 +7,7 @@ use native.Mathlib.Omega.{arith}
 use lib.Dec.{leb, ltb, eqb}
 use lib.IntN.{pos}
 use borrow.Author.Tests.{leb-true, leb-false, eq-eqb, ne-eqb}
-use Rattle.form.specs.Fonts.{Font}
+use Rattle.choice.specs.Candidates.{Candidate}
 use Rattle.blocks.specs.Field.{byte, signedWithin}
 use Rattle.blocks.specs.Header.{lastSymbolSet, lastSpacing, lastStyle, weightLimit, lastOrientation}
 use Rattle.choice.specs.Fields.{headerOf, weightOf}
@@ -49,7 +49,7 @@ both a b = go (leb a b) refl (leb b a) refl
 
 -- the comparisons of step 6, by unsigned numbers
 pub weights : (r : Request) → inRange r ≡ true → r .weight < 2 ^ 32 → (a : ℕ) → a ≡ (r .weight + 128) % 2 ^ 32
-    → (f : Font) (w : ℕ) → w ≡ thickness f → weightNumber (eqb a w) (leb 128 a) (ltb a w) (ltb w a) w ≡ weightScore r f
+    → (f : Candidate) (w : ℕ) → w ≡ thickness f → weightNumber (eqb a w) (leb 128 a) (ltb a w) (ltb w a) w ≡ weightScore r f
 unfolding weightScore exact isThicker isThinner askedWeight weightOf
 weights r t h a ea f w ew =
     let rr = weight-asked r t h in

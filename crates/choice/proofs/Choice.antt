@@ -3,58 +3,87 @@ use Prim.Native.Nat.{ℕ, suc, _≤_}
 use mathlib.Core.Path.{_≡_, refl, sym, ap, _∙_}
 use mathlib.Core.Logic.{_⊎_, inl, inr, ⊎-elim}
 use mathlib.Core.List.{List, [], _∷_}
-use mathlib.Core.Bool.{true, false}
+use mathlib.Core.Bool.{Bool, true, false}
 use native.Mathlib.Nat.{le-antisymm}
 use native.Mathlib.Omega.{arith}
 use Rattle.form.specs.Fonts.{Font, RisingFrom}
+use Rattle.choice.specs.Candidates.{Candidate, candidates, ofBoth}
 use Rattle.choice.specs.Lists.{In}
-use Rattle.choice.specs.Steps.{fontsLeft, firstNumber, choice, takesPart}
-use Rattle.choice.specs.Scores.{scoreOf}
+use Rattle.choice.specs.Steps.{hasOrientation, fontsLeft, firstNumber, choice, takesPart}
+use Rattle.choice.specs.Scores.{miss, minorOf, scoreOf}
 use Rattle.choice.specs.Right.{Keyed}
 use Rattle.choice.specs.declared.Request.{Request}
 use Rattle.choice.specs.declared.Chosen.the-variants.{Number, NoFont}
-use Rattle.choice.proofs.Least.{whether, not-both}
+use Rattle.choice.proofs.Least.{whether, not-both, miss-bound}
 use Rattle.choice.proofs.Steps.{Before, is-left}
+use Rattle.choice.proofs.Members.{soft-in, cartridge-in}
 
 module _ (r : Request) where
-  pub same-number : (x y : Font) → Before r x y → Before r y x → x .number ≡ y .number
+  -- two that are level are of one store and have one number
+  same-soft : (a b : Bool) → miss a ≡ miss b → a ≡ b
+  same-soft true true e = refl
+  same-soft false false e = refl
+  same-soft true false e = absurd (omega (arith, e))
+  same-soft false true e = absurd (omega (arith, e))
+
+  pub one-store : (x y : Candidate) → Before r x y → Before r y x → x .soft ≡ y .soft
+  unfolding Before scoreOf minorOf
+  one-store x y h k =
+      let hm = h .1 (k .0) in
+      let km = k .1 (h .0) in
+      let e = le-antisymm (hm .0) (km .0) in
+      same-soft (x .soft) (y .soft) (omega (arith, e, miss-bound (x .soft), miss-bound (y .soft), miss-bound (hasOrientation r x), miss-bound (hasOrientation r y)))
+
+  pub same-number : (x y : Candidate) → Before r x y → Before r y x → x .number ≡ y .number
   unfolding Before scoreOf
   same-number x y h k =
       let hm = h .1 (k .0) in
       let km = k .1 (h .0) in
       le-antisymm (hm .1 (km .0)) (km .1 (hm .0))
 
-  -- what is left is one font
-  pub only-one : (l : List Font) → Keyed l → (x y : Font) → In x (fontsLeft r l) → In y (fontsLeft r l) → x ≡ y
-  only-one l kd x y mx my =
-      kd x y (is-left r l .base x mx .0) (is-left r l .base y my .0)
-      (same-number x y (is-left r l .low x y mx (is-left r l .base y my)) (is-left r l .low y x my (is-left r l .base x mx)))
+  pub level : (l : List Candidate) → Keyed l → (x y : Candidate) → In x l → In y l → Before r x y → Before r y x → x ≡ y
+  level l kd x y mx my h k = kd x y mx my (one-store x y h k) (same-number x y h k)
 
-  pub choice-is : (l : List Font) → Keyed l → (c : Font) → In c (fontsLeft r l) → choice r l ≡ Number (c .number)
+  -- what is left is one font
+  pub only-one : (l : List Candidate) → Keyed l → (x y : Candidate) → In x (fontsLeft r l) → In y (fontsLeft r l) → x ≡ y
+  only-one l kd x y mx my =
+      level l kd x y (is-left r l .base x mx .0) (is-left r l .base y my .0)
+      (is-left r l .low x y mx (is-left r l .base y my)) (is-left r l .low y x my (is-left r l .base x mx))
+
+  pub choice-is : (l : List Candidate) → Keyed l → (c : Candidate) → In c (fontsLeft r l) → choice r l ≡ Number (c .soft) (c .number)
   unfolding choice firstNumber
   choice-is l kd c m = go (fontsLeft r l) (λ x mx. only-one l kd x c mx m) m
     where
-      go : (k : List Font) → ((x : Font) → In x k → x ≡ c) → In c k → firstNumber k ≡ Number (c .number)
+      go : (k : List Candidate) → ((x : Candidate) → In x k → x ≡ c) → In c k → firstNumber k ≡ Number (c .soft) (c .number)
       go [] h mc = absurd mc
-      go (f ∷ k) h mc = ap (λ (x : Font). Number (x .number)) (h f (inl refl))
+      go (f ∷ k) h mc = ap (λ (x : Candidate). Number (x .soft) (x .number)) (h f (inl refl))
+
+  -- what is named is one of the fonts
+  pub choice-in : (l : List Candidate) (p : Bool) (n : ℕ) → choice r l ≡ Number p n → (c : Candidate) × In c l × (c .soft ≡ p) × (c .number ≡ n)
+  unfolding choice firstNumber
+  choice-in l p n e = go (fontsLeft r l) (λ x m. is-left r l .base x m .0) e
+    where
+      go : (k : List Candidate) → ((x : Candidate) → In x k → In x l) → firstNumber k ≡ Number p n → (c : Candidate) × In c l × (c .soft ≡ p) × (c .number ≡ n)
+      go [] h q = let z : _≡_ {A = ℕ} 0 1 = cc in absurd (omega arith)
+      go (f ∷ k) h q = (f, h f (inl refl), cc, cc)
 
   -- either none takes part, and the answer is a refusal, or a font is left
-  pub either : (l : List Font) → ((choice r l ≡ NoFont) × ((x : Font) → In x l → takesPart r x ≡ false)) ⊎ ((c : Font) × In c (fontsLeft r l))
+  pub either : (l : List Candidate) → ((choice r l ≡ NoFont) × ((x : Candidate) → In x l → takesPart r x ≡ false)) ⊎ ((c : Candidate) × In c (fontsLeft r l))
   unfolding choice firstNumber
   either l = go (fontsLeft r l) (is-left r l .some)
     where
-      go : (k : List Font) → ((x : Font) → In x l × (takesPart r x ≡ true) → (y : Font) × In y k)
-          → ((firstNumber k ≡ NoFont) × ((x : Font) → In x l → takesPart r x ≡ false)) ⊎ ((c : Font) × In c k)
+      go : (k : List Candidate) → ((x : Candidate) → In x l × (takesPart r x ≡ true) → (y : Candidate) × In y k)
+          → ((firstNumber k ≡ NoFont) × ((x : Candidate) → In x l → takesPart r x ≡ false)) ⊎ ((c : Candidate) × In c k)
       go [] s = inl (refl, λ x m. ⊎-elim (λ t. absurd (s x (m, t) .1)) (λ e. e) (whether (takesPart r x)))
       go (f ∷ k) s = inr (f, inl refl)
 
-  pub choice-none : (l : List Font) → ((x : Font) → In x l → takesPart r x ≡ false) → choice r l ≡ NoFont
+  pub choice-none : (l : List Candidate) → ((x : Candidate) → In x l → takesPart r x ≡ false) → choice r l ≡ NoFont
   choice-none l h =
       ⊎-elim (λ a. a .0)
       (λ c. absurd (not-both (takesPart r (c .0)) (is-left r l .base (c .0) (c .1) .1) (h (c .0) (is-left r l .base (c .0) (c .1) .0)))) (either l)
 
   -- of fewer fonts, among which is the one chosen before, the choice is the same
-  pub stands : (l k : List Font) → Keyed l → ((x : Font) → In x k → In x l) → ((c : Font) → In c (fontsLeft r l) → In c k) → choice r k ≡ choice r l
+  pub stands : (l k : List Candidate) → Keyed l → ((x : Candidate) → In x k → In x l) → ((c : Candidate) → In c (fontsLeft r l) → In c k) → choice r k ≡ choice r l
   stands l k kd sub has =
       ⊎-elim (λ a. choice-none k (λ x m. a .1 x (sub x m)) ∙ sym (a .0))
       (λ c.
@@ -63,17 +92,27 @@ module _ (r : Request) where
       (λ y m. is-left r l .low (c .0) y (c .1) (sub y (m .0), m .1))) ∙ sym (choice-is l kd (c .0) (c .1)))
       (either l)
 
--- fonts by rising number: no two have one number
-rising-low : (n : ℕ) (l : List Font) → RisingFrom n l → (x : Font) → In x l → n ≤ x .number
-rising-low n [] r x m = absurd m
-rising-low n (f ∷ l) r x (inl e) = rw e (r .0)
-rising-low n (f ∷ l) r x (inr m) = let h = rising-low (suc (f .number)) l (r .1) x m in omega arith
+-- fonts of one store by rising number: no two have one number
+rising-low : (p : Bool) (n : ℕ) (l : List Font) → RisingFrom n l → (x : Candidate) → In x (candidates p l) → n ≤ x .number
+unfolding candidates
+rising-low p n [] r x m = absurd m
+rising-low p n (f ∷ l) r x (inl e) = rw e (r .0)
+rising-low p n (f ∷ l) r x (inr m) = let h = rising-low p (suc (f .number)) l (r .1) x m in omega arith
 
-pub rising-keyed : (n : ℕ) (l : List Font) → RisingFrom n l → Keyed l
-rising-keyed n [] r x y mx my h = absurd mx
-rising-keyed n (f ∷ l) r x y (inl ex) (inl ey) h = ex ∙ sym ey
-rising-keyed n (f ∷ l) r x y (inl ex) (inr my) h =
-    let k = rising-low (suc (f .number)) l (r .1) y my in let e : x .number ≡ f .number = ap (λ (g : Font). g .number) ex in absurd (omega arith)
-rising-keyed n (f ∷ l) r x y (inr mx) (inl ey) h =
-    let k = rising-low (suc (f .number)) l (r .1) x mx in let e : y .number ≡ f .number = ap (λ (g : Font). g .number) ey in absurd (omega arith)
-rising-keyed n (f ∷ l) r x y (inr mx) (inr my) h = rising-keyed (suc (f .number)) l (r .1) x y mx my h
+pub rising-keyed : (p : Bool) (n : ℕ) (l : List Font) → RisingFrom n l → Keyed (candidates p l)
+unfolding candidates
+rising-keyed p n [] r x y mx my s h = absurd mx
+rising-keyed p n (f ∷ l) r x y (inl ex) (inl ey) s h = ex ∙ sym ey
+rising-keyed p n (f ∷ l) r x y (inl ex) (inr my) s h =
+    let k = rising-low p (suc (f .number)) l (r .1) y my in let e : x .number ≡ f .number = ap (λ (g : Candidate). g .number) ex in absurd (omega arith)
+rising-keyed p n (f ∷ l) r x y (inr mx) (inl ey) s h =
+    let k = rising-low p (suc (f .number)) l (r .1) x mx in let e : y .number ≡ f .number = ap (λ (g : Candidate). g .number) ey in absurd (omega arith)
+rising-keyed p n (f ∷ l) r x y (inr mx) (inr my) s h = rising-keyed p (suc (f .number)) l (r .1) x y mx my s h
+
+-- of two stores, no two of one store
+pub two-keyed : (a b : List Font) → Keyed (candidates true a) → Keyed (candidates false b) → Keyed (ofBoth a b)
+two-keyed a b ka kb x y mx my s h = go (y .soft) refl
+  where
+    go : (p : Bool) → y .soft ≡ p → x ≡ y
+    go true q = ka x y (soft-in a b x mx (s ∙ q)) (soft-in a b y my q) s h
+    go false q = kb x y (cartridge-in a b x mx (s ∙ q)) (cartridge-in a b y my q) s h

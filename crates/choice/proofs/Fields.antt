@@ -8,7 +8,7 @@ use native.Mathlib.Nat.{mod-eq-of-lt}
 use native.Mathlib.Omega.{arith}
 use Rattle.blocks.specs.Field.{byte}
 use Rattle.blocks.specs.Header.{pitchAt, pitchExtendedAt, pitch, pitchExtended, resolution, fineResolution}
-use Rattle.form.specs.Fonts.{Font}
+use Rattle.choice.specs.Candidates.{Candidate}
 use Rattle.choice.specs.Fields.{asBytes, headerOf, quarterDotParts, in2400ths, comparedPitch}
 use Rattle.choice.specs.Scores.{mostCompared}
 
@@ -31,6 +31,6 @@ in-2400ths-bound resolution n h = go (eqb resolution fineResolution)
     go true = omega arith
     go false = omega arith
 
-pub pitch-bound : (f : Font) → comparedPitch f ≤ mostCompared
+pub pitch-bound : (f : Candidate) → comparedPitch f ≤ mostCompared
 unfolding comparedPitch
 pitch-bound f = in-2400ths-bound (resolution (headerOf f)) (quarterDotParts * pitch (headerOf f) + pitchExtended (headerOf f)) (omega (arith, byte-bound (f .kept) pitchAt, byte-bound (f .kept) (pitchAt + 1), byte-bound (f .kept) pitchExtendedAt))

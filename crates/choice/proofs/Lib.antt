@@ -2,6 +2,7 @@ pub mod Least
 pub mod Signed
 pub mod Fields
 pub mod Steps
+pub mod Members
 pub mod Choice
 pub mod Single
 pub mod Right

@@ -7,7 +7,7 @@ use mathlib.Core.Bool.{Bool, true, false, _&&_, _||_}
 use native.Mathlib.Omega.{arith}
 use lib.Dec.{eqb, ltb}
 use borrow.Author.Tests.{ltb-true, ltb-false, eqb-true, eqb-false, eq-eqb, ne-eqb, le-ltb}
-use Rattle.form.specs.Fonts.{Font}
+use Rattle.choice.specs.Candidates.{Candidate}
 use Rattle.choice.specs.Lists.{In}
 use Rattle.choice.specs.Steps.{hasSet, hasSpacing, fontsLeft, choice, takesPart}
 use Rattle.choice.specs.Scores.{majorOf, minorOf, scoreOf, comesBefore, better, noMajor, noScore, weighed, pass, scoreAnswer}
@@ -17,7 +17,7 @@ use Rattle.choice.specs.declared.Score.{Score}
 use Rattle.choice.specs.declared.Chosen.the-variants.{Number}
 use Rattle.choice.proofs.Least.{whether, carry, not-both, miss-bound}
 use Rattle.choice.proofs.Steps.{pitch-score-bound, Ahead, Before, is-left}
-use Rattle.choice.proofs.Choice.{same-number, choice-is, choice-none, either, stands}
+use Rattle.choice.proofs.Choice.{level as level-one, choice-is, choice-none, either, stands}
 
 -- a test that decides by the numbers a and b and, where they are level, by the test that follows
 module _ (a b : ℕ) (rest : Bool) {R : Type 0} where
@@ -51,49 +51,49 @@ behind : (b s : Score) → b .major < s .major → better b s ≡ b
 unfolding better
 behind b s h = simp (le-ltb (s .major) (b .major) (omega arith), ne-eqb (s .major) (b .major) (λ e. omega arith))
 
-major-bound : (r : Request) (f : Font) → majorOf r f < noMajor
+major-bound : (r : Request) (f : Candidate) → majorOf r f < noMajor
 unfolding majorOf
 major-bound r f = omega (arith, miss-bound (hasSet (r .«symbol_set») f), miss-bound (hasSpacing r f), pitch-score-bound r f)
 
 module _ (r : Request) where
   -- the best so far is the score of one of the fonts, or of none
-  data BestOf (b : Score) : List Font → Type 0 where
+  data BestOf (b : Score) : List Candidate → Type 0 where
     nothing : b .major ≡ noMajor → BestOf b []
-    some : (f : Font) → takesPart r f ≡ true → b ≡ scoreOf r f → BestOf b (f ∷ [])
+    some : (f : Candidate) → takesPart r f ≡ true → b ≡ scoreOf r f → BestOf b (f ∷ [])
 
-  Carried : Score → List Font → List Font → Type 0
-  Carried b l k = (h : List Font) × BestOf b h × Keyed (h ++ l) × (choice r (h ++ l) ≡ choice r k)
+  Carried : Score → List Candidate → List Candidate → Type 0
+  Carried b l k = (h : List Candidate) × BestOf b h × Keyed (h ++ l) × (choice r (h ++ l) ≡ choice r k)
 
   -- a font that takes no part may go
-  passed-over : (h : List Font) (f : Font) (l : List Font) → takesPart r f ≡ false → Keyed (h ++ f ∷ l)
+  passed-over : (h : List Candidate) (f : Candidate) (l : List Candidate) → takesPart r f ≡ false → Keyed (h ++ f ∷ l)
       → Keyed (h ++ l) × (choice r (h ++ l) ≡ choice r (h ++ f ∷ l))
   passed-over h f l t kd =
       (λ x y mx my. kd x y (sub h x mx) (sub h y my), stands r (h ++ f ∷ l) (h ++ l) kd (sub h) (λ c m. has h c (is-left r (h ++ f ∷ l) .base c m .1) (is-left r (h ++ f ∷ l) .base c m .0)))
     where
-      sub : (h : List Font) (x : Font) → In x (h ++ l) → In x (h ++ f ∷ l)
+      sub : (h : List Candidate) (x : Candidate) → In x (h ++ l) → In x (h ++ f ∷ l)
       sub [] x m = inr m
       sub (g ∷ h) x (inl e) = inl e
       sub (g ∷ h) x (inr m) = inr (sub h x m)
 
-      has : (h : List Font) (c : Font) → takesPart r c ≡ true → In c (h ++ f ∷ l) → In c (h ++ l)
+      has : (h : List Candidate) (c : Candidate) → takesPart r c ≡ true → In c (h ++ f ∷ l) → In c (h ++ l)
       has [] c p (inl e) = absurd (not-both (takesPart r c) p (ap (takesPart r) e ∙ t))
       has [] c p (inr m) = m
       has (g ∷ h) c p (inl e) = inl e
       has (g ∷ h) c p (inr m) = inr (has h c p m)
 
-  compared : (b : Score) (h : List Font) (f : Font) (l : List Font) → takesPart r f ≡ true → BestOf b h → Keyed (h ++ f ∷ l)
+  compared : (b : Score) (h : List Candidate) (f : Candidate) (l : List Candidate) → takesPart r f ≡ true → BestOf b h → Keyed (h ++ f ∷ l)
       → Carried (better b (scoreOf r f)) l (h ++ f ∷ l)
   unfolding Carried scoreOf Before
   compared b [] f l t (nothing e) kd =
       ⊎-elim (λ w. (f ∷ [], some f t (w .0), kd, refl)) (λ w. absurd (omega (arith, w .1 .0, major-bound r f))) (which b (scoreOf r f))
   compared b (g ∷ []) f l t (some _ u e) kd = ⊎-elim new old (which b (scoreOf r f))
     where
-      all : List Font
+      all : List Candidate
       all = g ∷ f ∷ l
 
       -- of two that are level there is one
       level : Before r g f → Before r f g → g ≡ f
-      level h k = kd g f (inl refl) (inr (inl refl)) (same-number r g f h k)
+      level h k = level-one r all kd g f (inl refl) (inr (inl refl)) h k
 
       new : (better b (scoreOf r f) ≡ scoreOf r f) × Ahead (scoreOf r f) b → Carried (better b (scoreOf r f)) l (g ∷ f ∷ l)
       new w = (
@@ -115,31 +115,37 @@ module _ (r : Request) where
             (is-left r all .base c m .0)),
       )
 
-  one-more : (b : Score) (h : List Font) (f : Font) (l : List Font) → BestOf b h → Keyed (h ++ f ∷ l) → Carried (weighed r b f) l (h ++ f ∷ l)
+  one-more : (b : Score) (h : List Candidate) (f : Candidate) (l : List Candidate) → BestOf b h → Keyed (h ++ f ∷ l) → Carried (weighed r b f) l (h ++ f ∷ l)
   unfolding weighed Carried
   one-more b h f l hb kd =
       ⊎-elim (λ t. rw t (compared b h f l t hb kd)) (λ t. rw t (h, hb, passed-over h f l t kd .0, passed-over h f l t kd .1)) (whether (takesPart r f))
 
-  passes : (l : List Font) (b : Score) (h : List Font) → BestOf b h → Keyed (h ++ l) → scoreAnswer (pass r b l) ≡ choice r (h ++ l)
+  passes : (l : List Candidate) (b : Score) (h : List Candidate) → BestOf b h → Keyed (h ++ l) → scoreAnswer (pass r b l) ≡ choice r (h ++ l)
   unfolding pass scoreOf Carried
   passes [] b [] (nothing e) kd = simp (eq-eqb _ _ e) (sym (choice-none r [] (λ x m. absurd m)))
   passes [] b (f ∷ []) (some _ t e) kd = rw e (simp (ne-eqb (majorOf r f) noMajor (λ z. omega (arith, major-bound r f))) (sym one))
     where
-      one : choice r (f ∷ []) ≡ Number (f .number)
+      one : choice r (f ∷ []) ≡ Number (f .soft) (f .number)
       one =
           ⊎-elim (λ a. absurd (not-both (takesPart r f) t (a .1 f (inl refl))))
-          (λ c. ⊎-elim (λ i. choice-is r (f ∷ []) kd (c .0) (c .1) ∙ ap (λ (x : Font). Number (x .number)) i) (λ n. absurd n) (is-left r (f ∷ []) .base (c .0) (c .1) .0))
+          (λ c. ⊎-elim (λ i. choice-is r (f ∷ []) kd (c .0) (c .1) ∙ ap (λ (x : Candidate). Number (x .soft) (x .number)) i) (λ n. absurd n) (is-left r (f ∷ []) .base (c .0) (c .1) .0))
           (either r (f ∷ []))
   passes (f ∷ l) b h hb kd =
       let n = one-more b h f l hb kd in
       passes l (weighed r b f) (n .0) (n .1) (n .2) ∙ n .3
 
   -- the pass over all the fonts gives the choice
-  pub once : (l : List Font) → Keyed l → scoreAnswer (pass r noScore l) ≡ choice r l
+  pub once : (l : List Candidate) → Keyed l → scoreAnswer (pass r noScore l) ≡ choice r l
   once l kd = passes l noScore [] (nothing refl) kd
 
+-- a pass over two lists, one after the other
+pub pass-append : (r : Request) (b : Score) (l k : List Candidate) → pass r b (l ++ k) ≡ pass r (pass r b l) k
+unfolding pass
+pass-append r b [] k = refl
+pass-append r b (f ∷ l) k = pass-append r (weighed r b f) l k
+
 -- one font more, from what the code's calls give
-module _ (r : Request) (b : Score) (f : Font) where
+module _ (r : Request) (b : Score) (f : Candidate) where
   pub weighed-out : takesPart r f ≡ false → b ≡ weighed r b f
   unfolding weighed
   weighed-out t = rw t
@@ -149,6 +155,6 @@ module _ (r : Request) (b : Score) (f : Font) where
     unfolding weighed scoreOf
     weighed-behind h = rw (t, behind b (scoreOf r f) (rw em at h))
 
-    pub weighed-in : (k : ℕ) → k ≡ minorOf r f → (s : Score) → s ≡ better b (record { major = m; minor = k; number = f .number }) → s ≡ weighed r b f
+    pub weighed-in : (k : ℕ) → k ≡ minorOf r f → (s : Score) → s ≡ better b (record { major = m; minor = k; number = f .number; soft = f .soft }) → s ≡ weighed r b f
     unfolding weighed scoreOf
     weighed-in k ek s es = rw (t, ← em, ← ek) es

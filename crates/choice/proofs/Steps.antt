@@ -10,11 +10,11 @@ use lib.Dec.{leb, eqb}
 use lib.IntN.{ℤ, pos}
 use lib.Signed.{leZ, ltZ}
 use Rattle.blocks.specs.Field.{byte}
-use Rattle.form.specs.Fonts.{Font}
+use Rattle.choice.specs.Candidates.{Candidate}
 use Rattle.choice.specs.Lists.{In, having, every, orElse, least, greatest}
 use Rattle.choice.specs.Fields.{headerOf, isFixed, isFine, comparedPitch, weightOf}
 use Rattle.choice.specs.Request.{askedWeight}
-use Rattle.choice.specs.Steps.{hasSet, bySet, hasSpacing, bySpacing, qualifies, byPitch, heightOff, byHeight, hasStyle, byStyle, exact, isThicker, isThinner, nearestThicker, nearestThinner, byWeight, hasTypeface, byTypeface, byResolution, hasOrientation, byOrientation, byNumber, steps, worked, fontsLeft, takesPart}
+use Rattle.choice.specs.Steps.{hasSet, bySet, hasSpacing, bySpacing, qualifies, byPitch, heightOff, byHeight, hasStyle, byStyle, exact, isThicker, isThinner, nearestThicker, nearestThinner, byWeight, hasTypeface, byTypeface, byResolution, byStore, hasOrientation, byOrientation, byNumber, steps, worked, fontsLeft, takesPart}
 use Rattle.choice.specs.Scores.{miss, mostCompared, pitchBase, pitchNumber, thickness, weightBase, pitchScore, weightNumber, weightScore, majorOf, minorOf, scoreOf}
 use Rattle.choice.specs.declared.Request.{Request}
 use Rattle.choice.specs.declared.Score.{Score}
@@ -23,10 +23,10 @@ use Rattle.choice.proofs.Signed.{ltZ-not, raise-le, Raised, raised-byte
 use Rattle.choice.proofs.Fields.{byte-bound, pitch-bound}
 
 -- the numbers that are joined have bounds
-thickness-bound : (f : Font) → thickness f ≤ 255
+thickness-bound : (f : Candidate) → thickness f ≤ 255
 thickness-bound f = omega arith
 
-pub pitch-score-bound : (r : Request) (f : Font) → pitchScore r f < pitchBase
+pub pitch-score-bound : (r : Request) (f : Candidate) → pitchScore r f < pitchBase
 unfolding pitchScore
 pitch-score-bound r f = go (isFixed f) (qualifies r f) (pitch-bound f)
   where
@@ -35,7 +35,7 @@ pitch-score-bound r f = go (isFixed f) (qualifies r f) (pitch-bound f)
     go true false h = omega arith
     go false c h = omega arith
 
-weight-score-bound : (r : Request) (f : Font) → weightScore r f < weightBase
+weight-score-bound : (r : Request) (f : Candidate) → weightScore r f < weightBase
 unfolding weightScore
 weight-score-bound r f = go (exact r f) (leZ (pos 0) (askedWeight r)) (isThicker r f) (isThinner r f) (thickness-bound f)
   where
@@ -47,7 +47,7 @@ weight-score-bound r f = go (exact r f) (leZ (pos 0) (askedWeight r)) (isThicker
     go false false k false h = omega arith
 
 -- weights stand as their thicknesses do
-as-thickness : (x y : Font) → leZ (weightOf x) (weightOf y) ≡ leb (thickness x) (thickness y)
+as-thickness : (x y : Candidate) → leZ (weightOf x) (weightOf y) ≡ leb (thickness x) (thickness y)
 unfolding weightOf
 as-thickness x y =
     raise-le 128 (weightOf x) (weightOf y) (rx .low) (ry .low) ∙ ap₂ leb (rx .is) (ry .is)
@@ -73,18 +73,18 @@ or-swap true b c h = refl
 or-swap false b c h = ⊎-elim (λ e. or-right c b e) (λ e. or-left c b (or-rest b c e h)) (whether b)
 
 module _ (r : Request) where
-  is-bySet : (l : List Font) → Is (λ x. In x l × (takesPart r x ≡ true)) (By (λ x. miss (hasSet (r .«symbol_set») x))) (bySet r l)
+  is-bySet : (l : List Candidate) → Is (λ x. In x l × (takesPart r x ≡ true)) (By (λ x. miss (hasSet (r .«symbol_set») x))) (bySet r l)
   unfolding bySet
   is-bySet l =
       is-same (λ x. (having-out (takesPart r) l x, λ w. in-having (takesPart r) l x (w .0) (w .1))) (λ x y _ _. (λ h. h, λ h. h))
       (is-prefer (hasSet (r .«symbol_set»)) (having (takesPart r) l))
 
-  is-bySpacing : (l : List Font) → Is (λ x. In x l) (By (λ x. miss (hasSpacing r x))) (bySpacing r l)
+  is-bySpacing : (l : List Candidate) → Is (λ x. In x l) (By (λ x. miss (hasSpacing r x))) (bySpacing r l)
   unfolding bySpacing
   is-bySpacing l = is-prefer (hasSpacing r) l
 
   -- those that step 2 leaves are all fixed or all proportional
-  one-spacing : (l : List Font) (x y : Font) → In x (bySpacing r l) → In y (bySpacing r l) → isFixed x ≡ isFixed y
+  one-spacing : (l : List Candidate) (x y : Candidate) → In x (bySpacing r l) → In y (bySpacing r l) → isFixed x ≡ isFixed y
   unfolding hasSpacing
   one-spacing l x y mx my =
       same (isFixed x) (isFixed y) (eqb (r .spacing) 0) (is-bySpacing l .low x y mx (is-bySpacing l .base y my)) (is-bySpacing l .low y x my (is-bySpacing l .base x mx))
@@ -97,14 +97,14 @@ module _ (r : Request) where
       same false true true h k = absurd (omega arith)
       same false true false h k = absurd (omega arith)
 
-  is-byPitch : (l : List Font) → ((x y : Font) → In x l → In y l → isFixed x ≡ isFixed y) → Is (λ x. In x l) (By (pitchScore r)) (byPitch r l)
+  is-byPitch : (l : List Candidate) → ((x y : Candidate) → In x l → In y l → isFixed x ≡ isFixed y) → Is (λ x. In x l) (By (pitchScore r)) (byPitch r l)
   unfolding byPitch pitchScore
   is-byPitch l one = go (every isFixed l) refl
     where
-      fixed : every isFixed l ≡ true → (x : Font) → In x l → pitchScore r x ≡ cond (qualifies r x) (mostCompared - comparedPitch x) (mostCompared + 1 + comparedPitch x)
+      fixed : every isFixed l ≡ true → (x : Candidate) → In x l → pitchScore r x ≡ cond (qualifies r x) (mostCompared - comparedPitch x) (mostCompared + 1 + comparedPitch x)
       fixed e x m = rw (every-at isFixed l e x m)
 
-      free : every isFixed l ≡ false → (x : Font) → In x l → pitchScore r x ≡ 0
+      free : every isFixed l ≡ false → (x : Candidate) → In x l → pitchScore r x ≡ 0
       free e x m =
           ⊎-elim (λ h. absurd (not-both (every isFixed l) (at-every isFixed l (λ y my. one y x my m ∙ h)) e)) (λ h. rw h) (whether (isFixed x))
 
@@ -118,11 +118,11 @@ module _ (r : Request) where
           (is-same (λ x. (λ m. (m, refl), λ w. w .0)) (λ x y _ _. (λ h. h, λ h. h)) (is-least leb comparedPitch comparedPitch (λ x y. refl) l))))
       go false e = is-score (pitchScore r) (free e) (is-all l)
 
-  is-byHeight : (l : List Font) → Is (λ x. In x l) (By (heightOff r)) (byHeight r l)
+  is-byHeight : (l : List Candidate) → Is (λ x. In x l) (By (heightOff r)) (byHeight r l)
   unfolding byHeight
   is-byHeight l = is-least leb (heightOff r) (heightOff r) (λ x y. refl) l
 
-  is-byWeight : (l : List Font) → Is (λ x. In x l) (By (weightScore r)) (byWeight r l)
+  is-byWeight : (l : List Candidate) → Is (λ x. In x l) (By (weightScore r)) (byWeight r l)
   unfolding byWeight weightScore nearestThicker nearestThinner exact isThicker isThinner
   is-byWeight l = go (leZ (pos 0) (askedWeight r))
     where
@@ -147,11 +147,11 @@ module _ (r : Request) where
           (is-having (exact r) l)
           (is-orElse l (isThinner r) (isThicker r) (λ x. 255 - thickness x) thickness 256 (λ x. omega arith) thinner thicker))
 
-  is-byNumber : (l : List Font) → Is (λ x. In x l) (By (λ x. x .number)) (byNumber l)
+  is-byNumber : (l : List Candidate) → Is (λ x. In x l) (By (λ x. x .number)) (byNumber l)
   unfolding byNumber
   is-byNumber l = is-least leb (λ x. x .number) (λ x. x .number) (λ x y. refl) l
 
-  is-major : (l : List Font) → Is (λ x. In x l × (takesPart r x ≡ true)) (By (majorOf r)) (byPitch r (bySpacing r (bySet r l)))
+  is-major : (l : List Candidate) → Is (λ x. In x l × (takesPart r x ≡ true)) (By (majorOf r)) (byPitch r (bySpacing r (bySet r l)))
   unfolding majorOf
   is-major l =
       is-join _ (pitchScore r) pitchBase (pitch-score-bound r)
@@ -160,25 +160,26 @@ module _ (r : Request) where
       (is-bySpacing (bySet r l)))
       (is-byPitch (bySpacing r (bySet r l)) (one-spacing (bySet r l)))
 
-  is-minor : (l : List Font) → Is (λ x. In x l) (By (minorOf r)) (byOrientation r (byResolution (byTypeface r (byWeight r (byStyle r (byHeight r l))))))
-  unfolding minorOf byStyle byTypeface byResolution byOrientation
+  is-minor : (l : List Candidate) → Is (λ x. In x l) (By (minorOf r)) (byOrientation r (byStore (byResolution (byTypeface r (byWeight r (byStyle r (byHeight r l)))))))
+  unfolding minorOf byStyle byTypeface byResolution byStore byOrientation
   is-minor l =
       then-prefer (hasOrientation r)
+      (then-prefer (λ f. f .soft)
       (then-prefer isFine
       (then-prefer (hasTypeface r)
       (is-join _ (weightScore r) weightBase (weight-score-bound r)
       (then-prefer (hasStyle r)
       (is-byHeight l))
-      (is-byWeight _))))
+      (is-byWeight _)))))
 
 -- a comes before b or is level with it
 abbrev pub Ahead : Score → Score → Type 0
 Ahead a b = (a .major ≤ b .major) × (b .major ≤ a .major → (a .minor ≤ b .minor) × (b .minor ≤ a .minor → a .number ≤ b .number))
 
-unfoldable pub Before : Request → Font → Font → Type 0
+unfoldable pub Before : Request → Candidate → Candidate → Type 0
 Before r x y = Ahead (scoreOf r x) (scoreOf r y)
 
-pub is-left : (r : Request) (l : List Font) → Is (λ x. In x l × (takesPart r x ≡ true)) (Before r) (fontsLeft r l)
+pub is-left : (r : Request) (l : List Candidate) → Is (λ x. In x l × (takesPart r x ≡ true)) (Before r) (fontsLeft r l)
 unfolding fontsLeft steps worked Before scoreOf
 is-left r l =
     is-then (λ x y z h k. le-trans h k) (is-major r l) (is-then (λ x y z h k. le-trans h k) (is-minor r _) (is-byNumber r _))

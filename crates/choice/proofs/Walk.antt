@@ -2,26 +2,28 @@
 use Prim.Native.Nat.{ℕ, _+_, _-_}
 use mathlib.Core.Path.{_≡_, sym, ap, _∙_}
 use mathlib.Core.List.{List}
-use mathlib.Core.Bool.{true, false}
+use mathlib.Core.Bool.{Bool, true, false}
 use native.Mathlib.Omega.{arith}
 use lib.ListN.{take, drop}
-use Rattle.form.specs.Records.{Begun}
-use Rattle.form.specs.Fonts.{fontsAt, fontsOf, Onward}
+use Rattle.form.specs.Records.{isStore, Begun}
+use Rattle.form.specs.Fonts.{Font, fontsAt, fontsOf, Onward}
 use Rattle.form.specs.declared.records.Begin.{Begin}
 use Rattle.form.specs.declared.records.Begin.the-variants.{At, NotStore}
 use Rattle.form.specs.declared.kept_fonts.NextFont.{NextFont}
 use Rattle.form.specs.declared.kept_fonts.NextFont.the-variants.{Font as found, End}
 use Rattle.form.proofs.KeptFonts.{fonts-rise, fonts-begun}
 use Rattle.blocks.specs.Header.{headerBytes}
+use Rattle.choice.specs.Candidates.{Candidate, candidates, ofBoth}
 use Rattle.choice.specs.Request.{inRange}
-use Rattle.choice.specs.Choosing.{choosingAmong, choosing}
+use Rattle.choice.specs.Choosing.{choosingAmong, choosing, choosingFromTwo}
+use Rattle.choice.specs.Right.{Keyed}
 use Rattle.choice.specs.Scores.{noScore, weighed, pass, scoreAnswer}
 use Rattle.choice.specs.declared.Request.{Request}
 use Rattle.choice.specs.declared.Score.{Score}
 use Rattle.choice.specs.declared.Chosen.{Chosen}
 use Rattle.choice.specs.declared.Chosen.the-variants.{NotStore as not-store, OutOfRange}
-use Rattle.choice.proofs.Choice.{rising-keyed}
-use Rattle.choice.proofs.Pass.{once}
+use Rattle.choice.proofs.Choice.{rising-keyed, two-keyed}
+use Rattle.choice.proofs.Pass.{once, pass-append}
 
 module _ (s : List ℕ) (at : ℕ) (v : NextFont) (h : Onward s at v) where
   -- a font was met
@@ -29,30 +31,47 @@ module _ (s : List ℕ) (at : ℕ) (v : NextFont) (h : Onward s at v) where
   met n k next e = rw e at h
 
   -- the pass goes on with the fonts behind it
-  pub again : (n k next : ℕ) → v ≡ found n k next → (r : Request) (best new end : Score)
-      → new ≡ weighed r best (record { number = n; kept = take ((k + headerBytes) - k) (drop k s) }) → pass r best (fontsAt s at) ≡ end
-      → pass r new (fontsAt s next) ≡ end
-  unfolding pass
-  again n k next e r best new end t i =
+  pub again : (n k next : ℕ) → v ≡ found n k next → (soft : Bool) (r : Request) (best new end : Score)
+      → new ≡ weighed r best (record { soft = soft; number = n; kept = take ((k + headerBytes) - k) (drop k s) }) → pass r best (candidates soft (fontsAt s at)) ≡ end
+      → pass r new (candidates soft (fontsAt s next)) ≡ end
+  unfolding pass candidates
+  again n k next e soft r best new end t i =
       let w : (k + headerBytes) - k ≡ headerBytes = omega arith in
-      rw (t, w) (sym (ap (pass r best) (met n k next e .0)) ∙ i)
+      rw (t, w) (sym (ap (λ (l : List Font). pass r best (candidates soft l)) (met n k next e .0)) ∙ i)
 
   -- no font is left
-  pub stops : v ≡ End → (r : Request) (best end : Score) → pass r best (fontsAt s at) ≡ end → best ≡ end
-  unfolding pass
-  stops e r best end i = let none-left : Onward s at End = rw e at h in sym (ap (pass r best) none-left) ∙ i
+  pub stops : v ≡ End → (soft : Bool) (r : Request) (best end : Score) → pass r best (candidates soft (fontsAt s at)) ≡ end → best ≡ end
+  unfolding pass candidates
+  stops e soft r best end i = let none-left : Onward s at End = rw e at h in sym (ap (λ (l : List Font). pass r best (candidates soft l)) none-left) ∙ i
 
--- the answers among the fonts of a store, whose run begins at p
-module _ (s : List ℕ) (r : Request) (p : ℕ) (h : Begun s (At p)) where
-  pub out-of-range : inRange r ≡ false → OutOfRange ≡ choosingAmong (fontsOf s) r
+-- the answers among fonts
+module _ (l : List Candidate) (r : Request) where
+  pub out-of-range : inRange r ≡ false → OutOfRange ≡ choosingAmong l r
   unfolding choosingAmong
   out-of-range t = rw t
 
-  pub chooses : inRange r ≡ true → (best : Score) → best ≡ pass r noScore (fontsAt s p) → (a : Chosen) → a ≡ scoreAnswer best
-      → a ≡ choosingAmong (fontsOf s) r
+  pub chooses : Keyed l → inRange r ≡ true → (best : Score) → best ≡ pass r noScore l → (a : Chosen) → a ≡ scoreAnswer best → a ≡ choosingAmong l r
   unfolding choosingAmong
-  chooses t best b a f =
-      rw t (f ∙ ap scoreAnswer (b ∙ ap (pass r noScore) (fonts-begun s p h)) ∙ once r (fontsOf s) (rising-keyed 0 (fontsOf s) (fonts-rise s)))
+  chooses kd t best b a f = rw t (f ∙ ap scoreAnswer b ∙ once r l kd)
+
+-- those of one store have numbers of their own, and those of two
+pub store-keyed : (p : Bool) (s : List ℕ) → Keyed (candidates p (fontsOf s))
+store-keyed p s = rising-keyed p 0 (fontsOf s) (fonts-rise s)
+
+pub stores-keyed : (s t : List ℕ) → Keyed (ofBoth (fontsOf s) (fontsOf t))
+stores-keyed s t = two-keyed (fontsOf s) (fontsOf t) (store-keyed true s) (store-keyed false t)
+
+-- one pass over the fonts of a store, whose run begins at p
+pub one-pass : (s : List ℕ) (r : Request) (p : ℕ) → Begun s (At p) → (none best : Score) → none ≡ noScore → best ≡ pass r none (candidates true (fontsAt s p))
+    → best ≡ pass r noScore (candidates true (fontsOf s))
+one-pass s r p h none best e f = f ∙ rw (e, fonts-begun s p h)
+
+-- and one over those of another that goes on from there
+pub two-passes : (s t : List ℕ) (r : Request) (p q : ℕ) → Begun s (At p) → Begun t (At q) → (none first best : Score) → none ≡ noScore
+    → first ≡ pass r none (candidates true (fontsAt s p)) → best ≡ pass r first (candidates false (fontsAt t q)) → best ≡ pass r noScore (ofBoth (fontsOf s) (fontsOf t))
+unfolding ofBoth
+two-passes s t r p q h k none first best e f g =
+    g ∙ rw (one-pass s r p h none first e f, fonts-begun t q k) (sym (pass-append r noScore (candidates true (fontsOf s)) (candidates false (fontsOf t))))
 
 -- the answers on a buffer, by where the run begins
 module _ (s : List ℕ) (r : Request) (v : Begin) (h : Begun s v) where
@@ -64,6 +83,20 @@ module _ (s : List ℕ) (r : Request) (v : Begin) (h : Begun s v) where
     pub begun : Begun s (At p)
     begun = rw e at h
 
-    pub on-store : (a : Chosen) → a ≡ choosingAmong (fontsOf s) r → a ≡ choosing s r
+    pub on-store : (a : Chosen) → a ≡ choosingAmong (candidates true (fontsOf s)) r → a ≡ choosing s r
     unfolding choosing
     on-store a f = rw (begun .0) f
+
+-- ── two stores
+module _ (s t : List ℕ) (r : Request) where
+  pub first-no-store : isStore s ≡ false → not-store ≡ choosingFromTwo s t r
+  unfolding choosingFromTwo
+  first-no-store e = rw e
+
+  pub second-no-store : isStore s ≡ true → isStore t ≡ false → not-store ≡ choosingFromTwo s t r
+  unfolding choosingFromTwo
+  second-no-store e f = rw (e, f)
+
+  pub on-two-stores : isStore s ≡ true → isStore t ≡ true → (a : Chosen) → a ≡ choosingAmong (ofBoth (fontsOf s) (fontsOf t)) r → a ≡ choosingFromTwo s t r
+  unfolding choosingFromTwo
+  on-two-stores e f a h = rw (e, f) h

@@ -6,7 +6,7 @@ use lib.Dec.{eqb}
 use lib.IntN.{ℤ}
 use Rattle.blocks.specs.Field.{signed}
 use Rattle.blocks.specs.Header.{spacing, pitch, height, strokeWeight, pitchExtended, heightExtended, resolution, fineResolution}
-use Rattle.form.specs.Fonts.{Font}
+use Rattle.choice.specs.Candidates.{Candidate}
 
 -- numbers as bytes: those of a buffer are below 256, so that each remainder is the byte itself
 unfoldable pub asBytes : List ℕ → List ℕ
@@ -14,15 +14,15 @@ asBytes [] = []
 asBytes (b ∷ k) = b % 256 ∷ asBytes k
 
 -- the kept header of a font
-abbrev pub headerOf : Font → List ℕ
+abbrev pub headerOf : Candidate → List ℕ
 headerOf f = asBytes (f .kept)
 
 -- fixed, else proportional
-unfoldable pub isFixed : Font → Bool
+unfoldable pub isFixed : Candidate → Bool
 isFixed f = eqb (spacing (headerOf f)) 0
 
 -- W-206: a 600 dpi font, else one of 300 dpi
-unfoldable pub isFine : Font → Bool
+unfoldable pub isFine : Candidate → Bool
 isFine f = eqb (resolution (headerOf f)) fineResolution
 
 -- W-202: the extended bytes count "256ths of a quarter-dot"
@@ -39,11 +39,11 @@ in2400ths resolution n = cond (eqb resolution fineResolution) n (2 * n)
 abbrev pub compared : ℕ → ℕ → ℕ → ℕ
 compared resolution field extended = in2400ths resolution (quarterDotParts * field + extended)
 
-unfoldable pub comparedPitch : Font → ℕ
+unfoldable pub comparedPitch : Candidate → ℕ
 comparedPitch f = compared (resolution (headerOf f)) (pitch (headerOf f)) (pitchExtended (headerOf f))
 
-unfoldable pub comparedHeight : Font → ℕ
+unfoldable pub comparedHeight : Candidate → ℕ
 comparedHeight f = compared (resolution (headerOf f)) (height (headerOf f)) (heightExtended (headerOf f))
 
-unfoldable pub weightOf : Font → ℤ
+unfoldable pub weightOf : Candidate → ℤ
 weightOf f = signed 8 (strokeWeight (headerOf f))

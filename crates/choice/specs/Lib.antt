@@ -1,5 +1,6 @@
 pub mod Lists
 pub mod Request
+pub mod Candidates
 pub mod Fields
 pub mod Steps
 pub mod Choosing

@@ -3,12 +3,12 @@
 -- that the earlier step decides. That the font with the least numbers is the one that the steps leave is proved.
 use Prim.Native.Nat.{ℕ, _+_, _-_, _*_, _%_}
 use mathlib.Core.List.{List, [], _∷_}
-use mathlib.Core.Bool.{Bool, cond, _&&_, _||_}
+use mathlib.Core.Bool.{Bool, true, cond, _&&_, _||_}
 use lib.Dec.{ltb, eqb}
 use lib.IntN.{pos}
 use lib.Signed.{leZ}
 use Rattle.blocks.specs.Header.{strokeWeight}
-use Rattle.form.specs.Fonts.{Font}
+use Rattle.choice.specs.Candidates.{Candidate}
 use Rattle.choice.specs.Request.{askedWeight}
 use Rattle.choice.specs.Fields.{headerOf, isFixed, isFine, comparedPitch}
 use Rattle.choice.specs.Steps.{hasSet, hasSpacing, qualifies, heightOff, hasStyle, exact, isThicker, isThinner, hasTypeface, hasOrientation, takesPart}
@@ -40,7 +40,7 @@ heightBound = 1099511627776
 abbrev pub raised : ℕ → ℕ
 raised w = (w + 128) % 256
 
-abbrev pub thickness : Font → ℕ
+abbrev pub thickness : Candidate → ℕ
 thickness f = raised (strokeWeight (headerOf f))
 
 -- a base above every number of the weight
@@ -52,10 +52,10 @@ abbrev pub weightNumber : Bool → Bool → Bool → Bool → ℕ → ℕ
 weightNumber e up thicker thinner w =
     cond e 0 (1 + cond up (cond thicker w (256 + (255 - w))) (cond thinner (255 - w) (256 + w)))
 
-unfoldable pub pitchScore : Request → Font → ℕ
+unfoldable pub pitchScore : Request → Candidate → ℕ
 pitchScore r f = pitchNumber (isFixed f) (qualifies r f) (comparedPitch f)
 
-unfoldable pub weightScore : Request → Font → ℕ
+unfoldable pub weightScore : Request → Candidate → ℕ
 weightScore r f = weightNumber (exact r f) (leZ (pos 0) (askedWeight r)) (isThicker r f) (isThinner r f) (thickness f)
 
 -- a number with one more digit, the last, of base k
@@ -63,7 +63,7 @@ abbrev pub digit : ℕ → ℕ → ℕ → ℕ
 digit k high d = high * k + d
 
 -- the steps up to pitch, and those from height on
-unfoldable pub majorOf : Request → Font → ℕ
+unfoldable pub majorOf : Request → Candidate → ℕ
 majorOf r f =
     digit pitchBase
     (digit 2
@@ -71,9 +71,10 @@ majorOf r f =
     (miss (hasSpacing r f)))
     (pitchScore r f)
 
-unfoldable pub minorOf : Request → Font → ℕ
+unfoldable pub minorOf : Request → Candidate → ℕ
 minorOf r f =
     digit 2
+    (digit 2
     (digit 2
     (digit 2
     (digit weightBase
@@ -83,10 +84,11 @@ minorOf r f =
     (weightScore r f))
     (miss (hasTypeface r f)))
     (miss (isFine f)))
+    (miss (f .soft)))
     (miss (hasOrientation r f))
 
-unfoldable pub scoreOf : Request → Font → Score
-scoreOf r f = record { major = majorOf r f; minor = minorOf r f; number = f .number }
+unfoldable pub scoreOf : Request → Candidate → Score
+scoreOf r f = record { major = majorOf r f; minor = minorOf r f; number = f .number; soft = f .soft }
 
 -- a comes before b
 abbrev pub comesBefore : Score → Score → Bool
@@ -102,15 +104,15 @@ abbrev pub noMajor : ℕ
 noMajor = 4 * pitchBase
 
 abbrev pub noScore : Score
-noScore = record { major = noMajor; minor = 0; number = 0 }
+noScore = record { major = noMajor; minor = 0; number = 0; soft = true }
 
 -- the best so far after one more font, and after all fonts of a list
-unfoldable pub weighed : Request → Score → Font → Score
+unfoldable pub weighed : Request → Score → Candidate → Score
 weighed r best f = cond (takesPart r f) (better best (scoreOf r f)) best
 
-unfoldable pub pass : Request → Score → List Font → Score
+unfoldable pub pass : Request → Score → List Candidate → Score
 pass r best [] = best
 pass r best (f ∷ l) = pass r (weighed r best f) l
 
 abbrev pub scoreAnswer : Score → Chosen
-scoreAnswer s = cond (eqb (s .major) noMajor) NoFont (Number (s .number))
+scoreAnswer s = cond (eqb (s .major) noMajor) NoFont (Number (s .soft) (s .number))

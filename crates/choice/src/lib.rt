@@ -5,7 +5,7 @@ use form::kept_fonts::NextFont;
 use form::records::Begin;
 ghost use Prim.Native.Nat.{ℕ, _+_, _*_, _%_, _^_, _<_, _≤_};
 ghost use mathlib.Core.Path.{_≡_};
-ghost use mathlib.Core.Bool.{true};
+ghost use mathlib.Core.Bool.{Bool, true};
 ghost use lib.Dec.{eqb, leb, ltb};
 ghost use lib.ListN.{length};
 ghost use Rattle.blocks.specs.Field.{byte, word, join as joinOf};
@@ -16,6 +16,7 @@ ghost use Rattle.form.specs.declared.records.Begin.the-variants.{At};
 ghost use Rattle.choice.specs.Request.{inRange};
 ghost use Rattle.choice.specs.Fields.{asBytes, isFine, compared as comparedOf, comparedPitch, comparedHeight};
 ghost use Rattle.choice.specs.Steps.{pitchTestLimit, heightDistance, inMode, takesPart};
+ghost use Rattle.choice.specs.Candidates.{candidates, ofBoth};
 ghost use Rattle.choice.specs.Choosing.{choosingAmong, choosing};
 ghost use Rattle.choice.specs.Scores.{miss as missOf, mostCompared, pitchBase, pitchNumber, heightBound, weightBase, weightNumber, weightScore, majorOf, minorOf, better as betterOf, noScore, weighed, pass, scoreAnswer};
 
@@ -80,19 +81,20 @@ pub struct Request {
     pub mode: u32,
 }
 
-// The number of the font that is chosen, or why there is none.
+// The font that is chosen, of the soft store or of the cartridge, or why there is none.
 pub enum Chosen {
-    Number(u32),
+    Number { soft: bool, number: u32 },
     NotStore,
     OutOfRange,
     NoFont,
 }
 
-// A font's numbers for the steps, of which the least is chosen: those up to pitch, those from height on, the font number.
+// A font's numbers for the steps, of which the least is chosen: those up to pitch, those from height on, the font number; and whether the soft store holds it.
 struct Score {
     major: u64,
     minor: u64,
     number: u32,
+    soft: bool,
 }
 
 // A kept byte.
@@ -142,7 +144,7 @@ fn typeface_of(f: &[u8]) -> u32
 // Whether a font is one of 600 dpi.
 fn is_fine(f: &[u8]) -> bool
     requires { ⌜ length (now f) ≡ headerBytes ⌝ }
-    ensures { λ b. ⌜ ((n : ℕ) → b ≡ isFine (record { number = n; kept = now (f .entry) })) ⌝ }
+    ensures { λ b. ⌜ ((p : Bool) (n : ℕ) → b ≡ isFine (record { soft = p; number = n; kept = now (f .entry) })) ⌝ }
 {
     kept_word(f, header::X_RESOLUTION_AT) == FINE
 }
@@ -159,7 +161,7 @@ fn compared(f: &[u8], at: usize, extended: usize) -> u64
 // The number that is compared for pitch.
 fn compared_pitch(f: &[u8]) -> u64
     requires { ⌜ length (now f) ≡ headerBytes ⌝ }
-    ensures { λ p. ⌜ ((n : ℕ) → p ≡ comparedPitch (record { number = n; kept = now (f .entry) })) × (p ≤ mostCompared) ⌝ }
+    ensures { λ p. ⌜ ((w : Bool) (n : ℕ) → p ≡ comparedPitch (record { soft = w; number = n; kept = now (f .entry) })) × (p ≤ mostCompared) ⌝ }
 {
     compared(f, header::PITCH_AT, header::PITCH_EXTENDED_AT)
 }
@@ -167,7 +169,7 @@ fn compared_pitch(f: &[u8]) -> u64
 // The number that is compared for height.
 fn compared_height(f: &[u8]) -> u64
     requires { ⌜ length (now f) ≡ headerBytes ⌝ }
-    ensures { λ h. ⌜ ((n : ℕ) → h ≡ comparedHeight (record { number = n; kept = now (f .entry) })) × (h ≤ mostCompared) ⌝ }
+    ensures { λ h. ⌜ ((p : Bool) (n : ℕ) → h ≡ comparedHeight (record { soft = p; number = n; kept = now (f .entry) })) × (h ≤ mostCompared) ⌝ }
 {
     compared(f, header::HEIGHT_AT, header::HEIGHT_EXTENDED_AT)
 }
@@ -231,7 +233,7 @@ fn raised_request(weight: u32) -> u32
 // The number of the weight of a font.
 fn weight_of(f: &[u8], r: Request) -> u64
     requires { ⌜ (length (now f) ≡ headerBytes) × (inRange r ≡ true) ⌝ }
-    ensures { λ w. ⌜ ((n : ℕ) → w ≡ weightScore r (record { number = n; kept = now (f .entry) })) × (w < weightBase) ⌝ }
+    ensures { λ w. ⌜ ((p : Bool) (n : ℕ) → w ≡ weightScore r (record { soft = p; number = n; kept = now (f .entry) })) × (w < weightBase) ⌝ }
 {
     weight_number(
         raised_request(r.weight),
@@ -242,7 +244,7 @@ fn weight_of(f: &[u8], r: Request) -> u64
 // The steps up to pitch, for a font that takes part.
 fn major_of(f: &[u8], r: Request) -> u64
     requires { ⌜ length (now f) ≡ headerBytes ⌝ }
-    ensures { λ m. ⌜ ((n : ℕ) → m ≡ majorOf r (record { number = n; kept = now (f .entry) })) ⌝ }
+    ensures { λ m. ⌜ ((p : Bool) (n : ℕ) → m ≡ majorOf r (record { soft = p; number = n; kept = now (f .entry) })) ⌝ }
 {
     let set = miss(kept_word(f, header::SYMBOL_SET_AT) == r.symbol_set);
     let fixed = kept_byte(f, header::SPACING_AT) == 0;
@@ -252,9 +254,9 @@ fn major_of(f: &[u8], r: Request) -> u64
 }
 
 // The steps from height on, up to orientation.
-fn minor_of(f: &[u8], r: Request) -> u64
+fn minor_of(f: &[u8], soft: bool, r: Request) -> u64
     requires { ⌜ (length (now f) ≡ headerBytes) × (inRange r ≡ true) ⌝ }
-    ensures { λ m. ⌜ ((n : ℕ) → m ≡ minorOf r (record { number = n; kept = now (f .entry) })) ⌝ }
+    ensures { λ m. ⌜ ((n : ℕ) → m ≡ minorOf r (record { soft = soft; number = n; kept = now (f .entry) })) ⌝ }
 {
     let height = height_number(r.height, compared_height(f));
     let style = miss(style_of(f) == r.style);
@@ -262,8 +264,9 @@ fn minor_of(f: &[u8], r: Request) -> u64
     let typeface = miss(typeface_of(f) == r.typeface);
     let resolution = miss(is_fine(f));
     let orientation = miss(kept_byte(f, header::ORIENTATION_AT) == r.orientation);
+    let store = miss(soft);
     let looks = ((height * 2 + style) * WEIGHT_BASE + weight) * 2 + typeface;
-    (looks * 2 + resolution) * 2 + orientation
+    ((looks * 2 + resolution) * 2 + store) * 2 + orientation
 }
 
 // The one of the two that comes first; best, where they are level.
@@ -279,7 +282,7 @@ fn better(best: Score, s: Score) -> Score
 // Whether the mode lets a font take part.
 fn in_mode(f: &[u8], r: Request) -> bool
     requires { ⌜ length (now f) ≡ headerBytes ⌝ }
-    ensures { λ b. ⌜ ((n : ℕ) → b ≡ inMode r (record { number = n; kept = now (f .entry) })) ⌝ }
+    ensures { λ b. ⌜ ((p : Bool) (n : ℕ) → b ≡ inMode r (record { soft = p; number = n; kept = now (f .entry) })) ⌝ }
 {
     !((r.mode == COARSE) & is_fine(f))
 }
@@ -287,29 +290,30 @@ fn in_mode(f: &[u8], r: Request) -> bool
 // Whether a font takes part.
 fn takes_part(f: &[u8], r: Request) -> bool
     requires { ⌜ length (now f) ≡ headerBytes ⌝ }
-    ensures { λ b. ⌜ ((n : ℕ) → b ≡ takesPart r (record { number = n; kept = now (f .entry) })) ⌝ }
+    ensures { λ b. ⌜ ((p : Bool) (n : ℕ) → b ≡ takesPart r (record { soft = p; number = n; kept = now (f .entry) })) ⌝ }
 {
     let set = kept_word(f, header::SYMBOL_SET_AT);
     ((set == r.symbol_set) | (set == ROMAN_8)) & in_mode(f, r)
 }
 
 // The best so far after one more font, whose kept bytes f are.
-fn weigh(best: Score, f: &[u8], number: u32, r: Request) -> Score
+fn weigh(best: Score, f: &[u8], soft: bool, number: u32, r: Request) -> Score
     requires { ⌜ (length (now f) ≡ headerBytes) × (inRange r ≡ true) ⌝ }
-    ensures { λ s. ⌜ s ≡ weighed r best (record { number = number; kept = now (f .entry) }) ⌝ }
+    ensures { λ s. ⌜ s ≡ weighed r best (record { soft = soft; number = number; kept = now (f .entry) }) ⌝ }
 {
     if takes_part(f, r) {
         let major = major_of(f, r);
         if best.major < major {
             return best;
         }
-        let minor = minor_of(f, r);
+        let minor = minor_of(f, soft, r);
         better(
             best,
             Score {
                 major,
                 minor,
                 number,
+                soft,
             },
         )
     } else {
@@ -317,23 +321,31 @@ fn weigh(best: Score, f: &[u8], number: u32, r: Request) -> Score
     }
 }
 
-// The best of the fonts from a place of the store on, in one pass.
-fn scan(s: &[u8], from: usize, r: Request) -> Score
-    requires { ⌜ RecordPlace (now s) from × (inRange r ≡ true) ⌝ }
-    ensures { λ b. ⌜ b ≡ pass r noScore (fontsAt (now (s .entry)) from) ⌝ }
+// No font so far.
+fn nothing() -> Score
+    ensures { λ b. ⌜ b ≡ noScore ⌝ }
 {
-    let mut best = Score {
+    Score {
         major: NO_MAJOR,
         minor: 0,
         number: 0,
-    };
+        soft: true,
+    }
+}
+
+// The best of the best so far and the fonts from a place of a store on, in one pass.
+fn scan(s: &[u8], from: usize, soft: bool, first: Score, r: Request) -> Score
+    requires { ⌜ RecordPlace (now s) from × (inRange r ≡ true) ⌝ }
+    ensures { λ b. ⌜ b ≡ pass r first (candidates soft (fontsAt (now (s .entry)) from)) ⌝ }
+{
+    let mut best = first;
     let mut at = from;
     loop {
         let NextFont::Font { number, kept, next } = form::kept_fonts::next_font(s, at) else {
             return best;
         };
         let end = kept + header::KEPT;
-        best = weigh(best, &s[kept..end], number, r);
+        best = weigh(best, &s[kept..end], soft, number, r);
         at = next;
     }
 }
@@ -362,17 +374,20 @@ fn answer(best: Score) -> Chosen
     if best.major == NO_MAJOR {
         Chosen::NoFont
     } else {
-        Chosen::Number(best.number)
+        Chosen::Number {
+            soft: best.soft,
+            number: best.number,
+        }
     }
 }
 
 // The choice on a buffer that is known to be a store, whose fonts begin at a place: for many requests it is checked once.
 pub fn choose_among(s: &[u8], from: usize, r: Request) -> Chosen
     requires { ⌜ Begun (now s) (At from) ⌝ }
-    ensures { λ a. ⌜ a ≡ choosingAmong (fontsOf (now (s .entry))) r ⌝ }
+    ensures { λ a. ⌜ a ≡ choosingAmong (candidates true (fontsOf (now (s .entry)))) r ⌝ }
 {
     if in_range(r) {
-        answer(scan(s, from, r))
+        answer(scan(s, from, true, nothing(), r))
     } else {
         Chosen::OutOfRange
     }
@@ -386,4 +401,24 @@ pub fn choose(s: &[u8], r: Request) -> Chosen
         return Chosen::NotStore;
     };
     choose_among(s, from, r)
+}
+
+// The choice on two buffers that are known to be stores, whose fonts begin at these places: one pass over the soft fonts, and one over the
+// cartridge's that goes on from its best.
+pub fn choose_among_two(
+    soft: &[u8],
+    soft_from: usize,
+    cartridge: &[u8],
+    cartridge_from: usize,
+    r: Request,
+) -> Chosen
+    requires { ⌜ Begun (now soft) (At «soft_from») × Begun (now cartridge) (At «cartridge_from») ⌝ }
+    ensures { λ a. ⌜ a ≡ choosingAmong (ofBoth (fontsOf (now (soft .entry))) (fontsOf (now (cartridge .entry)))) r ⌝ }
+{
+    if in_range(r) {
+        let best = scan(soft, soft_from, true, nothing(), r);
+        answer(scan(cartridge, cartridge_from, false, best, r))
+    } else {
+        Chosen::OutOfRange
+    }
 }

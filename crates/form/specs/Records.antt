@@ -9,7 +9,8 @@ use lib.Dec.{eqb}
 use lib.ListN.{length, take, drop}
 use Rattle.blocks.specs.Header.{headerBytes, isKeptHeader}
 use Rattle.blocks.specs.Character.{descriptorBytes, width, isKeptFirst}
-use Rattle.form.specs.Layout.{mostStore, lastFont, lastCode, keyOf, markRecord}
+use Rattle.form.specs.Layout.{mostStore, lastFont, lastCode, keyOf, markRecord, kindAt, numberAt, fontKind, fontRecord, fontKeptAt}
+use Rattle.form.specs.Num.{field}
 use Rattle.form.specs.Model.{Rec, font, character, tallyOf, tallyIn, Store, Under, heldOf, isKept, sorted, number, sizeOf, total, split, decode}
 use Rattle.form.specs.Order.{keep, below, fontAt}
 use Rattle.form.specs.declared.tally.Tally.{Tally}
@@ -38,6 +39,19 @@ recordsIn s = recordsBy (decode s)
 unfoldable pub recordsOf : ℕ → List Rec → List Rec
 recordsOf n rs = keep (λ r. eqb (number r) n) rs
 
+-- where the record of font n begins: after the first record and those of lower fonts with their characters
+abbrev pub fontPlace : ℕ → List Rec → ℕ
+fontPlace n rs = markRecord + total (below (keyOf n 0) rs)
+
+-- the record of font n, whose kept bytes are h, stands whole at a place: "length of the whole record (4 bytes), kind (2), body", each of its
+-- numbers in its bytes
+pub record FontStands (s : List ℕ) (at n : ℕ) (h : List ℕ) : Type 0 where
+  pub whole : at + fontRecord ≤ length s
+  pub size : field 4 at s ≡ fontRecord
+  pub kind : field 2 (at + kindAt) s ≡ fontKind
+  pub number : field 2 (at + numberAt) s ≡ n
+  pub kept : take headerBytes (drop (at + fontKeptAt) s) ≡ h
+
 -- those from a place of the run on
 abbrev pub recordsAmong : Option (List Rec) → List Rec
 recordsAmong none = []
@@ -65,9 +79,9 @@ Begun s (At p) = (isStore s ≡ true) × RecordPlace s p × (recordsAt s p ≡ r
 abbrev pub recordsBehind : List ℕ → List Rec
 recordsBehind s = recordsAt s markRecord
 
--- the numbers that the record of font n holds, in its own bytes, behind the records of lower fonts
+-- the numbers that the record of font n holds, in its own bytes
 abbrev pub tallyByFont : ℕ → List ℕ → Tally
-tallyByFont n s = tallyIn (drop (markRecord + total (below (keyOf n 0) (recordsBehind s))) s)
+tallyByFont n s = tallyIn (drop (fontPlace n (recordsBehind s)) s)
 
 -- each font holds those of a fresh count
 abbrev pub CountsTrue : List ℕ → Type 0

@@ -26,7 +26,8 @@ use Rattle.form.specs.Records.{isStore}
 use Rattle.store.specs.Calls.{used, makingFresh, putFont, removingFont, downloadingFont, removingCharacter, keptOf, dataOf, tellingFont, tellingCharacter}
 use Rattle.store.specs.Download.{putCharacter, withoutFont, byKind, names, withinWidth, judgedOf, keptOfData, downloadingCharacter}
 use Rattle.store.specs.Drawing.{drawingRow, rowOf, drawingPicture, pictureOf}
-use Rattle.choice.specs.Choosing.{choosing}
+use Rattle.choice.specs.Choosing.{choosing, choosingFromTwo}
+use Rattle.cartridge.specs.Cartridge.{recordAnswer, answeringFromTwo}
 use Rattle.choice.specs.declared.Request.{Request}
 use Rattle.choice.specs.declared.Chosen.{Chosen}
 use Rattle.choice.specs.declared.Chosen.the-variants.{Number, NotStore, OutOfRange, NoFont}
@@ -39,7 +40,7 @@ use Rattle.turning.specs.Turn.{turnable, turnedSize, turned, unturned, turningP
 use Rattle.stream.specs.Written.{WriteOut, unwritten, written, writingFont}
 use Rattle.profile.specs.Profile.{brokenIn, unchecked, meets, checkingProfile, writingProfiled}
 use Rattle.profile.specs.declared.check.ProfileChecked.{ProfileChecked}
-use Rattle.marlinfold.specs.Calls.{Call, make-fresh, download-font, download-character, remove-font, remove-character, choose-font, tell-font, tell-character, draw-row, draw-picture, write-font, read-stream, choose-sheet, turn-picture, check-profile, write-profiled, outputOf, Outcome, ofChange, ofChoice, ofTelling, ofDrawing, ofWriting, ofReading, ofTurning, ofSheet, ofCheck, outcome}
+use Rattle.marlinfold.specs.Calls.{Call, make-fresh, download-font, download-character, remove-font, remove-character, choose-font, tell-font, tell-character, draw-row, draw-picture, write-font, read-stream, choose-sheet, turn-picture, check-profile, write-profiled, choose-from-two, outputOf, Outcome, ofChange, ofChoice, ofTelling, ofDrawing, ofWriting, ofReading, ofTurning, ofSheet, ofCheck, ofRecord, outcome}
 use Rattle.marlinfold.specs.Demands.{listed, isIn, others, unchanged, carriedOut, Refusal, as-listed, no-room, broken, Demand1}
 
 -- the claim of an outcome
@@ -135,7 +136,7 @@ unfolding listed outputOf others
 chooses r s = by-case (choosing s r)
   where
     by-case : (a : Chosen) → Told (choose-font r) s (ofChoice s a)
-    by-case (Number n) = inl refl
+    by-case (Number p n) = inl refl
     by-case NotStore = inr (as-listed (choose-font r) 1 refl)
     by-case OutOfRange = inr (as-listed (choose-font r) 2 refl)
     by-case NoFont = inr (as-listed (choose-font r) 11 refl)
@@ -240,6 +241,14 @@ module _ (n c : ℕ) (b s : List ℕ) where
       (by-check sent (names n c (st .mark)) 7 _ refl
       (by-find sent (characterAt n c (st .recs)) 7 _ refl (λ x p. received st e r q (keptOf x) (dataOf x ++ drop continuationBytes b))))))))
 
+-- ── two stores
+chooses-from-two : (p : Bool) (t : List ℕ) (r : Request) (s soft cartridge : List ℕ) (a : Chosen) → Told (choose-from-two p t r) s (ofRecord s (recordAnswer soft cartridge a))
+unfolding listed outputOf others recordAnswer
+chooses-from-two p t r s soft cartridge (Number q n) = inl refl
+chooses-from-two p t r s soft cartridge NotStore = inr (as-listed (choose-from-two p t r) 1 refl)
+chooses-from-two p t r s soft cartridge OutOfRange = inr (as-listed (choose-from-two p t r) 2 refl)
+chooses-from-two p t r s soft cartridge NoFont = inr (as-listed (choose-from-two p t r) 11 refl)
+
 -- ── a stream
 reads : (b s : List ℕ) → Claim (read-stream b) s
 unfolding listed outputOf others reading isStore endAnswer
@@ -256,6 +265,7 @@ reads b s =
 
 -- ── the claim
 pub demand1 : Demand1
+unfolding answeringFromTwo
 demand1 make-fresh s = makes-fresh s
 demand1 (download-font n b) s = downloads-font n b s
 demand1 (download-character n c b) s = downloads-character n c b s
@@ -272,3 +282,5 @@ demand1 (choose-sheet rs out) s = chooses-sheet rs out s
 demand1 (turn-picture t w h pic out) s = turns-picture t w h pic out s
 demand1 (check-profile n) s = checks-profile n s
 demand1 (write-profiled n out) s = writes-profiled n out s
+demand1 (choose-from-two true t r) s = chooses-from-two true t r s s t (choosingFromTwo s t r)
+demand1 (choose-from-two false t r) s = chooses-from-two false t r s t s (choosingFromTwo t s r)

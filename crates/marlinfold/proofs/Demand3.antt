@@ -1,7 +1,7 @@
 -- Demand 3. Assumes nothing.
 use Prim.Native.Nat.{ℕ, _<_, _≤_}
-use mathlib.Core.Path.{_≡_, refl, sym, ap, _∙_}
-use mathlib.Core.Logic.{_⊎_, inl, inr, ⊎-elim}
+use mathlib.Core.Path.{_≡_, refl, sym, ap, ap₂, _∙_}
+use mathlib.Core.Logic.{_⊎_, _↔_, inl, inr, ⊎-elim}
 use mathlib.Core.List.{List, [], _∷_, _++_}
 use mathlib.Core.Bool.{Bool, true, false, cond}
 use native.Mathlib.Omega.{arith}
@@ -24,17 +24,18 @@ use Rattle.store.proofs.Again.{fresh-leaves, font-leaves, character-leaves, rem
 use Rattle.choice.specs.Lists.{In, having}
 use Rattle.choice.specs.Request.{inRange}
 use Rattle.choice.specs.Steps.{choice}
+use Rattle.choice.specs.Candidates.{Candidate, candidate, candidates}
 use Rattle.choice.specs.Choosing.{choosingAmong, choosing}
-use Rattle.choice.specs.Right.{Keyed, Without, With, Lawful}
+use Rattle.choice.specs.Right.{Keyed, Unused, Without, With, Lawful}
 use Rattle.choice.specs.declared.Request.{Request}
-use Rattle.choice.specs.declared.Chosen.the-variants.{Number}
 use Rattle.choice.proofs.Least.{in-having, having-out}
+use Rattle.choice.proofs.Members.{in-left, in-right, in-either, asFont, of-store, font-in, candidate-in}
 use Rattle.choice.proofs.Choice.{rising-keyed}
 use Rattle.choice.proofs.Right.{claim}
 use Rattle.stream.specs.Reading.{Download, font-block, character-block, making}
 use Rattle.stream.specs.Downloads.{spelledDownloads, madeAll}
 use Rattle.stream.proofs.Readings.{downloads-made}
-use Rattle.marlinfold.specs.Calls.{Call, make-fresh, download-font, download-character, remove-font, remove-character, choose-font, tell-font, tell-character, draw-row, draw-picture, write-font, read-stream, choose-sheet, turn-picture, check-profile, write-profiled, ofChoice, outcome, leaves, ran}
+use Rattle.marlinfold.specs.Calls.{Call, make-fresh, download-font, download-character, remove-font, remove-character, choose-font, tell-font, tell-character, draw-row, draw-picture, write-font, read-stream, choose-sheet, turn-picture, check-profile, write-profiled, choose-from-two, ofChoice, outcome, leaves, ran}
 use Rattle.marlinfold.specs.Book.{noted, bookOf, callOf, callsOf, spelledCalls, single, singly, answersTo, bookAfter, StreamSingly}
 use Rattle.marlinfold.specs.Demands.{Removes, by-removal, by-no-room, Answers, Chooses, Demand3, HeldCounts}
 
@@ -78,15 +79,17 @@ single-ran (choose-sheet rs out) s = refl
 single-ran (turn-picture t w h pic out) s = refl
 single-ran (check-profile n) s = refl
 single-ran (write-profiled n out) s = refl
+single-ran (choose-from-two true t r) s = refl
+single-ran (choose-from-two false t r) s = refl
 
-singly-ran : (cs : List Call) (s : List ℕ) → ran (singly cs) s ≡ ran cs s
+pub singly-ran : (cs : List Call) (s : List ℕ) → ran (singly cs) s ≡ ran cs s
 unfolding ran singly
 singly-ran [] s = refl
 singly-ran (c ∷ cs) s = ran-append (single c) (singly cs) s ∙ singly-ran cs (ran (single c) s) ∙ ap (ran cs) (single-ran c s)
 
 -- ── a call keeps the book
 -- a store whose fonts are the book
-abbrev Kept : List ℕ → List Font → Type 0
+abbrev pub Kept : List ℕ → List Font → Type 0
 Kept s book = (isStore s ≡ true) × (fontsOf s ≡ book)
 
 fresh-stays : (s : List ℕ) → eqb (makingFresh s .answer) 0 ≡ false → makingFresh s .bytes ≡ s
@@ -135,8 +138,10 @@ call-kept (choose-sheet rs out) s book k = k
 call-kept (turn-picture t w h pic out) s book k = k
 call-kept (check-profile n) s book k = k
 call-kept (write-profiled n out) s book k = k
+call-kept (choose-from-two true t r) s book k = k
+call-kept (choose-from-two false t r) s book k = k
 
-calls-kept : (cs : List Call) (s : List ℕ) (book : List Font) → Kept s book → Kept (ran (singly cs) s) (bookOf (singly cs) (answersTo (singly cs) s) book)
+pub calls-kept : (cs : List Call) (s : List ℕ) (book : List Font) → Kept s book → Kept (ran (singly cs) s) (bookOf (singly cs) (answersTo (singly cs) s) book)
 unfolding ran singly answersTo bookOf
 calls-kept [] s book k = k
 calls-kept (c ∷ cs) s book k =
@@ -153,20 +158,6 @@ above-having : (n : ℕ) (l : List Font) → fontsAbove n l ≡ having (λ f. lt
 unfolding fontsAbove having
 above-having n [] = refl
 above-having n (f ∷ l) = ap (λ (a : List Font). cond (ltb n (f .number)) (f ∷ a) a) (above-having n l)
-
-in-left : (x : Font) (a b : List Font) → In x a → In x (a ++ b)
-in-left x [] b m = absurd m
-in-left x (y ∷ a) b (inl e) = inl e
-in-left x (y ∷ a) b (inr m) = inr (in-left x a b m)
-
-in-right : (x : Font) (a b : List Font) → In x b → In x (a ++ b)
-in-right x [] b m = m
-in-right x (y ∷ a) b m = inr (in-right x a b m)
-
-in-either : (x : Font) (a b : List Font) → In x (a ++ b) → In x a ⊎ In x b
-in-either x [] b m = inr m
-in-either x (y ∷ a) b (inl e) = inl (inl e)
-in-either x (y ∷ a) b (inr m) = ⊎-elim (λ p. inl (inr p)) (λ p. inr p) (in-either x a b m)
 
 module _ (n : ℕ) (l : List Font) (x : Font) where
   below-out : In x (fontsBelow n l) → In x l × (x .number < n)
@@ -203,10 +194,10 @@ module _ (n : ℕ) (l : List Font) (x : Font) where
       (λ p. ⊎-elim (λ q. inr q) (λ q. let h = above-out q in inl (h .0, λ e. omega (arith, h .1))) (in-either x new (fontsAbove n l) p))
       (in-either x (fontsBelow n l) (new ++ fontsAbove n l) m)
 
-without : (n : ℕ) (l : List Font) → Without n l (fontsWith n [] l)
+without : (n : ℕ) (l : List Font) (x : Font) → In x (fontsWith n [] l) ↔ (In x l × (x .number ≡ n → ⊥))
 without n l x = (λ m. ⊎-elim (λ h. h) (λ h. absurd h) (side-out n l x [] m), λ h. side-in n l x [] (h .0) (h .1))
 
-entered : (f : Font) (l : List Font) → ((x : Font) → In x l → x .number ≡ f .number → ⊥) → With f l (fontsWith (f .number) (f ∷ []) l)
+entered : (f : Font) (l : List Font) → ((x : Font) → In x l → x .number ≡ f .number → ⊥) → (x : Font) → In x (fontsWith (f .number) (f ∷ []) l) ↔ ((x ≡ f) ⊎ In x l)
 entered f l o x = (
   λ m. ⊎-elim (λ h. inr (h .0)) (λ h. ⊎-elim (λ e. inl e) (λ z. absurd z) h) (side-out (f .number) l x (f ∷ []) m),
   λ h. ⊎-elim (λ e. new-in e) (λ m. side-in (f .number) l x (f ∷ []) m (o x m)) h,
@@ -215,44 +206,70 @@ entered f l o x = (
     new-in : x ≡ f → In x (fontsWith (f .number) (f ∷ []) l)
     new-in e = unfold fontsWith in in-right x (fontsBelow (f .number) l) (f ∷ fontsAbove (f .number) l) (inl e)
 
--- ── the claim
-module _ (r : Request) (i : inRange r ≡ true) where
-  chooses-by : (s : List ℕ) (book : List Font) → Kept s book → Answers r s (choice r book)
-  unfolding choosing choosingAmong
-  chooses-by s book k = rw (k .0, i, k .1)
+-- ── as the fonts of a store
+module _ (p : Bool) where
+  pub candidates-without : (n : ℕ) (l : List Font) → Without p n (candidates p l) (candidates p (fontsWith n [] l))
+  candidates-without n l x = (
+    λ m. let h = without n l (asFont x) .0 (font-in p (fontsWith n [] l) x m) in (candidate-in p l x (of-store p (fontsWith n [] l) x m) (h .0), λ q e. h .1 e),
+    λ h. candidate-in p (fontsWith n [] l) x (of-store p l x (h .0)) (without n l (asFont x) .1 (font-in p l x (h .0), h .1 (of-store p l x (h .0)))),
+  )
 
-  keyed : (s : List ℕ) (book : List Font) → Kept s book → Keyed book
-  keyed s book k = rising-keyed 0 book (rw (k .1) at (fonts-rise s))
+  pub candidates-with : (f : Font) (l : List Font) → Unused p (f .number) (candidates p l) → With (candidate p f) (candidates p l) (candidates p (fontsWith (f .number) (f ∷ []) l))
+  candidates-with f l o x =
+      let new = fontsWith (f .number) (f ∷ []) l in
+      let w = entered f l (λ y m e. o (candidate p y) (candidate-in p l (candidate p y) refl m) refl e) (asFont x) in (
+        λ m. ⊎-elim (λ e. inl (ap₂ candidate (of-store p new x m) e)) (λ k. inr (candidate-in p l x (of-store p new x m) k)) (w .0 (font-in p new x m)),
+        λ h. ⊎-elim (λ e. candidate-in p new x (ap (λ (y : Candidate). y .soft) e) (w .1 (inl (ap asFont e)))) (λ m. candidate-in p new x (of-store p l x m) (w .1 (inr (font-in p l x m)))) h,
+      )
 
+-- ── what one more call leaves of a store and its book
+-- the font that a block brings
+abbrev pub fontBy : ℕ → List ℕ → Font
+fontBy n b = record { number = n; kept = keptHeader b }
+
+module _ (s : List ℕ) (book : List Font) (k : Kept s book) where
   after-is : (k n : ℕ) (new : List Font) (a : ℕ) (book : List Font) → a ≡ k → fontsAfter k n new a book ≡ fontsWith n new book
   after-is k n new a book e = rw (eq-eqb a k e)
 
+  pub keyed : (p : Bool) → Keyed (candidates p book)
+  keyed p = rising-keyed p 0 book (rw (k .1) at (fonts-rise s))
+
+  pub gone : (n : ℕ) (d : Call) → Removes s n d → Kept (leaves d s) (fontsWith n [] book)
+  gone n d (by-removal e) =
+      let h = removed-leaves n s (k .0) in
+      (h .0, h .1 ∙ after-is 0 n [] (removingFont n s .answer) (fontsOf s) e ∙ ap (fontsWith n []) (k .1))
+  gone n d (by-no-room m b e) =
+      let h = character-leaves n m b s (k .0) in
+      (h .0, h .1 ∙ after-is 10 n [] (downloadingCharacter n m b s .answer) (fontsOf s) e ∙ ap (fontsWith n []) (k .1))
+
+  pub came : (n : ℕ) (b : List ℕ) → downloadingFont n b s .answer ≡ 0 → Kept (downloadingFont n b s .bytes) (fontsWith n (fontBy n b ∷ []) book)
+  came n b e =
+      let h = font-leaves n b s (k .0) in
+      (h .0, h .1 ∙ after-is 0 n (fontBy n b ∷ []) (downloadingFont n b s .answer) (fontsOf s) e ∙ ap (fontsWith n (fontBy n b ∷ [])) (k .1))
+
+-- ── the claim
+module _ (r : Request) (i : inRange r ≡ true) where
+  chooses-by : (s : List ℕ) (book : List Font) → Kept s book → Answers r s (choice r (candidates true book))
+  unfolding choosing choosingAmong
+  chooses-by s book k = rw (k .0, i, k .1)
+
   chooses : (s : List ℕ) (book : List Font) → Kept s book → Chooses r s book
-  chooses s book k = record { numbers = keyed s book k; choice = choice r book; chosen = chooses-by s book k; right = c .right; removed = gone; accepted = came }
+  chooses s book k =
+      record {
+        numbers = keyed s book k true;
+        choice = choice r (candidates true book);
+        chosen = chooses-by s book k;
+        right = c .right;
+        removed = λ n d w o. chooses-by (leaves d s) (fontsWith n [] book) (gone s book k n d w) ∙ ap (ofChoice (leaves d s)) (c .removed true n (candidates true (fontsWith n [] book)) (candidates-without true n book) o);
+        accepted = λ n b e o.
+            let f = fontBy n b in
+            let t = downloadingFont n b s .bytes in
+            let q = chooses-by t (fontsWith n (f ∷ []) book) (came s book k n b e) in
+            ⊎-elim (λ p. inl (q ∙ ap (ofChoice t) p)) (λ p. inr (q ∙ ap (ofChoice t) p)) (c .added (candidate true f) (candidates true (fontsWith n (f ∷ []) book)) (candidates-with true f book o) o);
+      }
     where
-      c : Lawful r book
-      c = claim r book (keyed s book k)
-
-      -- a font gave way
-      struck : (n : ℕ) (t : List ℕ) → Kept t (fontsWith n [] book) → (choice r book ≡ Number n → ⊥) → Answers r t (choice r book)
-      struck n t q o = chooses-by t (fontsWith n [] book) q ∙ ap (ofChoice t) (c .removed n (fontsWith n [] book) (without n book) o)
-
-      gone : (n : ℕ) (d : Call) → Removes s n d → (choice r book ≡ Number n → ⊥) → Answers r (leaves d s) (choice r book)
-      gone n d (by-removal e) o =
-          let h = removed-leaves n s (k .0) in
-          struck n (removingFont n s .bytes) (h .0, h .1 ∙ after-is 0 n [] (removingFont n s .answer) (fontsOf s) e ∙ ap (fontsWith n []) (k .1)) o
-      gone n d (by-no-room m b e) o =
-          let h = character-leaves n m b s (k .0) in
-          struck n (downloadingCharacter n m b s .bytes) (h .0, h .1 ∙ after-is 10 n [] (downloadingCharacter n m b s .answer) (fontsOf s) e ∙ ap (fontsWith n []) (k .1)) o
-
-      came : (n : ℕ) (b : List ℕ) → downloadingFont n b s .answer ≡ 0 → ((x : Font) → In x book → x .number ≡ n → ⊥)
-          → Answers r (downloadingFont n b s .bytes) (choice r book) ⊎ Answers r (downloadingFont n b s .bytes) (Number n)
-      came n b e o =
-          let f : Font = record { number = n; kept = keptHeader b } in
-          let h = font-leaves n b s (k .0) in
-          let t = downloadingFont n b s .bytes in
-          let q = chooses-by t (fontsWith n (f ∷ []) book) (h .0, h .1 ∙ after-is 0 n (f ∷ []) (downloadingFont n b s .answer) (fontsOf s) e ∙ ap (fontsWith n (f ∷ [])) (k .1)) in
-          ⊎-elim (λ p. inl (q ∙ ap (ofChoice t) p)) (λ p. inr (q ∙ ap (ofChoice t) p)) (c .added f (fontsWith n (f ∷ []) book) (entered f book o) o)
+      c : Lawful r (candidates true book)
+      c = claim r (candidates true book) (keyed s book k true)
 
 pub demand3 : Demand3
 demand3 s e calls r i =

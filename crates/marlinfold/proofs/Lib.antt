@@ -3,6 +3,7 @@ pub mod Line
 pub mod Demand1
 pub mod Demand2
 pub mod Demand3
+pub mod FromTwo
 pub mod Sheet
 pub mod Trials
 pub mod Computing

@@ -5,10 +5,14 @@ use mathlib.Core.List.{List, [], _∷_}
 use Rattle.choice.specs.Choosing.{refusalOf, fontOf}
 use Rattle.choice.specs.declared.Chosen.{Chosen}
 use Rattle.turning.specs.Turn.{Turning}
-use Rattle.marlinfold.specs.Calls.{answered, ofChoice, ofTurning}
+use Rattle.cartridge.specs.declared.RecordAnswer.{RecordAnswer}
+use Rattle.marlinfold.specs.Calls.{answered, ofChoice, ofTurning, ofRecord}
 
 pub chosen-by : {s : List ℕ} {x a : Chosen} {k n : ℕ} → k ≡ refusalOf x → n ≡ fontOf x → x ≡ a → answered k (n ∷ []) s [] ≡ ofChoice s a
 chosen-by p q e = rw (p, q, e)
 
 pub turned-by : (a : Turning) {k : ℕ} {out : List ℕ} → k ≡ a .answer → out ≡ a .bytes → (s : List ℕ) → answered k [] s out ≡ ofTurning s a
 turned-by a p q s = rw (p, q)
+
+pub record-by : {s : List ℕ} {x a : RecordAnswer} → x ≡ a → answered (x .refusal) (x .font ∷ x .which ∷ x .place ∷ []) s [] ≡ ofRecord s a
+record-by e = rw e

@@ -8,7 +8,7 @@ use Rattle.blocks.specs.Header.{keptHeader}
 use Rattle.form.specs.Fonts.{Font, fontsAfter}
 use Rattle.stream.specs.Reading.{Download, font-block, character-block}
 use Rattle.stream.specs.Downloads.{spelledDownloads}
-use Rattle.marlinfold.specs.Calls.{Call, make-fresh, download-font, download-character, remove-font, remove-character, choose-font, tell-font, tell-character, draw-row, draw-picture, write-font, read-stream, choose-sheet, turn-picture, check-profile, write-profiled, outcome, leaves, ran}
+use Rattle.marlinfold.specs.Calls.{Call, make-fresh, download-font, download-character, remove-font, remove-character, choose-font, tell-font, tell-character, draw-row, draw-picture, write-font, read-stream, choose-sheet, turn-picture, check-profile, write-profiled, choose-from-two, outcome, leaves, ran}
 
 -- the book after one more call that was answered k
 unfoldable pub noted : Call → ℕ → List Font → List Font
@@ -32,6 +32,7 @@ noted (choose-sheet rs out) k book = book
 noted (turn-picture t w h pic out) k book = book
 noted (check-profile n) k book = book
 noted (write-profiled n out) k book = book
+noted (choose-from-two p t r) k book = book
 
 -- the book that calls with these answers make of a book
 unfoldable pub bookOf : List Call → List ℕ → List Font → List Font
@@ -69,6 +70,7 @@ single (choose-sheet rs out) = choose-sheet rs out ∷ []
 single (turn-picture t w h pic out) = turn-picture t w h pic out ∷ []
 single (check-profile n) = check-profile n ∷ []
 single (write-profiled n out) = write-profiled n out ∷ []
+single (choose-from-two p t r) = choose-from-two p t r ∷ []
 
 unfoldable pub singly : List Call → List Call
 singly [] = []
@@ -79,9 +81,13 @@ unfoldable pub answersTo : List Call → List ℕ → List ℕ
 answersTo [] s = []
 answersTo (c ∷ cs) s = outcome c s .refusal ∷ answersTo cs (leaves c s)
 
+-- the book that a list of calls on the buffer s makes of a book
+abbrev pub bookFrom : List Font → List Call → List ℕ → List Font
+bookFrom book calls s = bookOf (singly calls) (answersTo (singly calls) s) book
+
 -- the book after a list of calls on the buffer s, which "starts empty"
 abbrev pub bookAfter : List Call → List ℕ → List Font
-bookAfter calls s = bookOf (singly calls) (answersTo (singly calls) s) []
+bookAfter calls s = bookFrom [] calls s
 
 -- a law of it: reading a stream leaves what making those calls one by one leaves
 abbrev pub StreamSingly : Type 0

@@ -1,6 +1,7 @@
 -- Document 01, "The calls, and what they answer", and the calls of document 02: the calls as values, and the outcome of each, which is its exported
 -- contract.
 use Prim.Native.Nat.{ℕ}
+use mathlib.Core.Bool.{Bool, true, false}
 use mathlib.Core.List.{List, [], _∷_}
 use Rattle.store.specs.Answer.{After, Telling}
 use Rattle.store.specs.Calls.{makingFresh, downloadingFont, removingFont, removingCharacter, tellingFont, tellingCharacter}
@@ -9,6 +10,8 @@ use Rattle.store.specs.Drawing.{drawingRow, drawingPicture}
 use Rattle.choice.specs.Choosing.{choosing, refusalOf, fontOf}
 use Rattle.choice.specs.declared.Request.{Request}
 use Rattle.choice.specs.declared.Chosen.{Chosen}
+use Rattle.cartridge.specs.Cartridge.{answeringFromTwo}
+use Rattle.cartridge.specs.declared.RecordAnswer.{RecordAnswer}
 use Rattle.sheet.specs.Sheet.{Sheet, choosingSheet}
 use Rattle.sheet.specs.declared.SheetAnswer.{SheetAnswer}
 use Rattle.turning.specs.Turn.{Turning, turningPicture}
@@ -38,6 +41,8 @@ pub data Call : Type 0 where
   -- W-207
   check-profile : (n : ℕ) → Call
   write-profiled : (n : ℕ) (out : List ℕ) → Call
+  -- W-208: the store is the soft one or else the cartridge, and the other of the two stands beside it
+  choose-from-two : (soft : Bool) (other : List ℕ) (r : Request) → Call
 
 -- a sheet's answers as an output: the two numbers of each, one after the other
 unfoldable pub answerNumbers : List SheetAnswer → List ℕ
@@ -62,6 +67,7 @@ outputOf (choose-sheet rs out) = answerNumbers out
 outputOf (turn-picture t w h pic out) = out
 outputOf (check-profile n) = []
 outputOf (write-profiled n out) = out
+outputOf (choose-from-two p t r) = []
 
 -- ── what a call answers and leaves
 pub record Outcome : Type 0 where
@@ -113,6 +119,10 @@ ofTurning s a = answered (a .answer) [] s (a .bytes)
 abbrev pub ofCheck : List ℕ → ProfileChecked → Outcome
 ofCheck s a = answered (a .refusal) (a .rule ∷ a .code ∷ []) s []
 
+-- choosing from two stores (W-208): the font number, which store holds it, and its record's place there
+abbrev pub ofRecord : List ℕ → RecordAnswer → Outcome
+ofRecord s a = answered (a .refusal) (a .font ∷ a .which ∷ a .place ∷ []) s []
+
 -- a call on the buffer s
 abbrev pub outcome : Call → List ℕ → Outcome
 outcome make-fresh s = ofChange (makingFresh s)
@@ -131,6 +141,8 @@ outcome (choose-sheet rs out) s = ofSheet s (choosingSheet s rs out)
 outcome (turn-picture t w h pic out) s = ofTurning s (turningPicture t w h pic out)
 outcome (check-profile n) s = ofCheck s (checkingProfile n s)
 outcome (write-profiled n out) s = ofWriting s (writingProfiled n s out)
+outcome (choose-from-two true t r) s = ofRecord s (answeringFromTwo s t r)
+outcome (choose-from-two false t r) s = ofRecord s (answeringFromTwo t s r)
 
 -- what a call leaves of the store
 abbrev pub leaves : Call → List ℕ → List ℕ

@@ -2,18 +2,21 @@
 -- the third.
 use Prim.Native.Nat.{ℕ, _+_, _*_, _<_}
 use mathlib.Core.Path.{_≡_}
-use mathlib.Core.Logic.{_⊎_}
+use mathlib.Core.Logic.{_⊎_, _↔_}
 use mathlib.Core.List.{List, [], _∷_}
-use mathlib.Core.Bool.{Bool, true, false, _||_}
+use mathlib.Core.Bool.{Bool, true, false, cond, _||_}
 use mathlib.Core.Option.{some}
 use lib.Dec.{eqb}
 use lib.ListN.{length, take, getD, replicate}
 use Rattle.form.specs.Model.{Rec, Store, encode, decode}
 use Rattle.form.specs.Order.{fontAt}
-use Rattle.form.specs.Records.{isStore, CountsTrue}
-use Rattle.form.specs.Fonts.{Font}
+use Rattle.form.specs.Records.{isStore, FontStands, CountsTrue}
+use Rattle.form.specs.Fonts.{Font, fontsOf}
 use Rattle.store.specs.Calls.{removeFont}
 use Rattle.choice.specs.Request.{inRange}
+use Rattle.choice.specs.Lists.{In}
+use Rattle.choice.specs.Candidates.{Candidate, candidates, ofBoth}
+use Rattle.choice.specs.Choosing.{refusalOf, fontOf, whichOf}
 use Rattle.choice.specs.Right.{Keyed, Unused, Right}
 use Rattle.choice.specs.declared.Request.{Request}
 use Rattle.choice.specs.declared.Chosen.{Chosen}
@@ -22,8 +25,8 @@ use Rattle.sheet.specs.declared.SheetAnswer.{SheetAnswer}
 use Rattle.stream.specs.Reading.{Progress, Ended, firstTarget, noneCounted, readFrom}
 use Rattle.stream.specs.declared.reading.Ending.the-variants.{BrokenAt}
 use Rattle.stream.specs.RoundTrip.{onlyFont}
-use Rattle.marlinfold.specs.Calls.{Call, make-fresh, download-font, download-character, remove-font, remove-character, choose-font, tell-font, tell-character, draw-row, draw-picture, write-font, read-stream, choose-sheet, turn-picture, check-profile, write-profiled, outputOf, Outcome, answered, ofChoice, outcome, answer, leaves, ran}
-use Rattle.marlinfold.specs.Book.{bookAfter}
+use Rattle.marlinfold.specs.Calls.{Call, make-fresh, download-font, download-character, remove-font, remove-character, choose-font, tell-font, tell-character, draw-row, draw-picture, write-font, read-stream, choose-sheet, turn-picture, check-profile, write-profiled, choose-from-two, outputOf, Outcome, answered, ofChoice, outcome, answer, leaves, ran}
+use Rattle.marlinfold.specs.Book.{bookFrom, bookAfter}
 
 -- ── demand 1: a call is done, or it refuses as the table says
 
@@ -57,6 +60,8 @@ listed (turn-picture t w h pic out) = 2 ∷ 12 ∷ []
 -- W-207: "Refusals: 1, 2, 6 as before, then for the second call alone 14 'outside the profile' (new in document 01's table, all unchanged), then 12."
 listed (check-profile n) = 1 ∷ 2 ∷ 6 ∷ []
 listed (write-profiled n out) = 1 ∷ 2 ∷ 6 ∷ 14 ∷ 12 ∷ []
+-- W-208: "Refusals: 1 if either isn't a store, then 2, 11."
+listed (choose-from-two p t r) = 1 ∷ 2 ∷ 11 ∷ []
 
 abbrev pub isIn : ℕ → List ℕ → Bool
 isIn k [] = false
@@ -80,6 +85,7 @@ others (choose-sheet rs out) = 0
 others (turn-picture t w h pic out) = 0
 others (check-profile n) = 2
 others (write-profiled n out) = 1
+others (choose-from-two p t r) = 3
 
 -- "unchanged", and "A refusal answers 0 for every other number"
 abbrev pub unchanged : Call → ℕ → List ℕ → Outcome
@@ -165,24 +171,80 @@ Answers r s a = outcome (choose-font r) s ≡ ofChoice s a
 -- what holds of a store and a book, for a request
 pub record Chooses (r : Request) (s : List ℕ) (book : List Font) : Type 0 where
   -- no two of the book's fonts have one number
-  pub numbers : Keyed book
+  pub numbers : Keyed (candidates true book)
   -- "The choice is what choosing answers on the store as last left"
   pub choice : Chosen
   pub chosen : Answers r s choice
   -- one of the book's, beats every other, the only one that no other beats; refused with 11 exactly if none takes part
-  pub right : Right r book choice
+  pub right : Right r (candidates true book) choice
   -- one more call that removes a font that was not chosen leaves the choice standing: "it stands if it gives the same font, or 11 again"
-  pub removed : (n : ℕ) (c : Call) → Removes s n c → (choice ≡ Number n → ⊥) → Answers r (leaves c s) choice
+  pub removed : (n : ℕ) (c : Call) → Removes s n c → (choice ≡ Number true n → ⊥) → Answers r (leaves c s) choice
   -- one that accepts a font under an unused number leaves it standing or makes the new font the choice
   pub accepted :
-      (n : ℕ) (b : List ℕ) → outcome (download-font n b) s .refusal ≡ 0 → Unused n book
-      → Answers r (leaves (download-font n b) s) choice ⊎ Answers r (leaves (download-font n b) s) (Number n)
+      (n : ℕ) (b : List ℕ) → outcome (download-font n b) s .refusal ≡ 0 → Unused true n (candidates true book)
+      → Answers r (leaves (download-font n b) s) choice ⊎ Answers r (leaves (download-font n b) s) (Number true n)
 
 -- demand 3: for every buffer that making fresh accepts, every list of calls on it from then on, and every request within range
 abbrev pub Demand3 : Type 0
 Demand3 =
     (s : List ℕ) → outcome make-fresh s .refusal ≡ 0 → (calls : List Call) (r : Request) → inRange r ≡ true
     → Chooses r (ran calls (leaves make-fresh s)) (bookAfter calls (leaves make-fresh s))
+
+-- ── W-208: demand 3 for the choice from two stores, the soft store s and the cartridge t
+-- choosing answers a, wherever the record of the font that it names stands
+pub record AnswersFromTwo (r : Request) (s t : List ℕ) (a : Chosen) : Type 0 where
+  pub refusal : outcome (choose-from-two true t r) s .refusal ≡ refusalOf a
+  pub names : take 2 (outcome (choose-from-two true t r) s .numbers) ≡ fontOf a ∷ whichOf a ∷ []
+
+-- the place that it answers
+abbrev pub placeAnswered : Request → List ℕ → List ℕ → ℕ
+placeAnswered r s t = getD (outcome (choose-from-two true t r) s .numbers) 2 0
+
+-- what holds of two stores and their books, for a request
+pub record ChoosesFromTwo (r : Request) (s t : List ℕ) (book cartridge : List Font) : Type 0 where
+  -- no two fonts of one book have one number
+  pub numbers : Keyed (ofBoth book cartridge)
+  pub choice : Chosen
+  pub chosen : AnswersFromTwo r s t choice
+  -- one of both books', beats every other, the only one that no other beats; refused with 11 exactly if none takes part
+  pub right : Right r (ofBoth book cartridge) choice
+  -- "The answer gives the chosen font's record itself": the record of the book's font stands whole at the place answered, in the store answered
+  pub stands :
+      (c : Candidate) → In c (ofBoth book cartridge) → choice ≡ Number (c .soft) (c .number)
+      → FontStands (cond (c .soft) s t) (placeAnswered r s t) (c .number) (c .kept)
+  -- one more call on either store that removes a font that was not chosen leaves the choice standing
+  pub soft-removed : (n : ℕ) (c : Call) → Removes s n c → (choice ≡ Number true n → ⊥) → AnswersFromTwo r (leaves c s) t choice
+  pub cartridge-removed : (n : ℕ) (c : Call) → Removes t n c → (choice ≡ Number false n → ⊥) → AnswersFromTwo r s (leaves c t) choice
+  -- one that accepts a font under a number that is unused in that store leaves it standing or makes the new font the choice
+  pub soft-accepted :
+      (n : ℕ) (b : List ℕ) → outcome (download-font n b) s .refusal ≡ 0 → Unused true n (ofBoth book cartridge)
+      → AnswersFromTwo r (leaves (download-font n b) s) t choice ⊎ AnswersFromTwo r (leaves (download-font n b) s) t (Number true n)
+  pub cartridge-accepted :
+      (n : ℕ) (b : List ℕ) → outcome (download-font n b) t .refusal ≡ 0 → Unused false n (ofBoth book cartridge)
+      → AnswersFromTwo r s (leaves (download-font n b) t) choice ⊎ AnswersFromTwo r s (leaves (download-font n b) t) (Number false n)
+
+-- how a store's list of calls begins, and its book: made fresh, with an empty one; or "a dump that these calls didn't make starts its book with the
+-- fonts in its records"
+pub data Begins : List ℕ → List Font → Type 0 where
+  fresh : (s : List ℕ) → outcome make-fresh s .refusal ≡ 0 → Begins (leaves make-fresh s) []
+  dump : (s : List ℕ) → isStore s ≡ true → Begins s (fontsOf s)
+
+-- "each store has its own list and its own book": for any two stores, with any calls on each, and every request within range
+abbrev pub Demand3FromTwo : Type 0
+Demand3FromTwo =
+    (s t : List ℕ) (book cartridge : List Font) → Begins s book → Begins t cartridge → (calls others : List Call) (r : Request) → inRange r ≡ true
+    → ChoosesFromTwo r (ran calls s) (ran others t) (bookFrom book calls s) (bookFrom cartridge others t)
+
+-- "Refusals: 1 if either isn't a store, then 2": for any two buffers and any request. (When it is 11 is said above.)
+abbrev pub RefusesFromTwo : Type 0
+RefusesFromTwo =
+    (s t : List ℕ) (r : Request)
+    → let k : ℕ = outcome (choose-from-two true t r) s .refusal in
+    ((k ≡ 1) ↔ ((isStore s ≡ false) ⊎ (isStore t ≡ false))) × ((k ≡ 2) ↔ ((isStore s ≡ true) × (isStore t ≡ true) × (inRange r ≡ false)))
+
+-- the call is one, whichever of the two stores is the one whose list has it
+abbrev pub OneFromTwo : Type 0
+OneFromTwo = (s t : List ℕ) (r : Request) → answer (choose-from-two false s r) t ≡ answer (choose-from-two true t r) s
 
 -- ── W-201: "each entry what a single choice would give on the same store"
 -- for every sheet that is done and each of its requests: the entry's two numbers are those that choosing answers

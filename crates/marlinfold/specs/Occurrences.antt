@@ -6,7 +6,7 @@ use mathlib.Core.Bool.{Bool, true, false}
 use lib.Dec.{eqb}
 use lib.ListN.{replicate}
 use Rattle.form.specs.Layout.{leastStore, markRecord, fontRecord, characterRecord}
-use Rattle.marlinfold.specs.Calls.{Call, make-fresh, download-font, download-character, remove-font, remove-character, choose-font, tell-font, tell-character, draw-row, draw-picture, write-font, read-stream, choose-sheet, turn-picture, check-profile, write-profiled, outcome}
+use Rattle.marlinfold.specs.Calls.{Call, make-fresh, download-font, download-character, remove-font, remove-character, choose-font, tell-font, tell-character, draw-row, draw-picture, write-font, read-stream, choose-sheet, turn-picture, check-profile, write-profiled, choose-from-two, outcome}
 use Rattle.marlinfold.specs.Demands.{listed}
 use Rattle.marlinfold.specs.Trials.{A, requestWith, asks, storeAfter}
 
@@ -28,6 +28,7 @@ kind (choose-sheet rs out) = 13
 kind (turn-picture t w h pic out) = 14
 kind (check-profile n) = 15
 kind (write-profiled n out) = 16
+kind (choose-from-two p t r) = 17
 
 -- a first block of class 2 for font 5, w dots wide and h rows high
 unfoldable pub sending : ℕ → ℕ → List ℕ → Call
@@ -126,6 +127,9 @@ occurrences =
     ∷ at leastStore [] (write-profiled 5 []) 6
     ∷ at oneFont (A ∷ []) (write-profiled 5 []) 14
     ∷ at 2700 (A ∷ plainCharacters 32 96) (write-profiled 5 []) 12
+    ∷ at 0 [] (choose-from-two true (storeAfter oneFont (A ∷ [])) (requestWith 277 1000 0 0)) 1
+    ∷ at leastStore [] (choose-from-two true (storeAfter leastStore []) (requestWith 2048 1000 0 0)) 2
+    ∷ at leastStore [] (choose-from-two false (storeAfter leastStore []) (requestWith 277 1000 0 0)) 11
     ∷ []
 
 abbrev pub AllOccur : List Occurrence → Type 0

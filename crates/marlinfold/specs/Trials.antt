@@ -2,6 +2,7 @@
 use Prim.Native.Nat.{ℕ, _/_, _%_}
 use mathlib.Core.Path.{_≡_}
 use mathlib.Core.List.{List, [], _∷_, _++_}
+use mathlib.Core.Bool.{true}
 use lib.ListN.{replicate}
 use Rattle.pictures.specs.Picture.{judge}
 use Rattle.pictures.specs.Rows.{picture}
@@ -9,7 +10,7 @@ use Rattle.pictures.specs.declared.picture.Judged.{Judged}
 use Rattle.pictures.specs.declared.picture.Judged.the-variants.{Complete, PastWidth}
 use Rattle.choice.specs.Request.{requestOf}
 use Rattle.choice.specs.declared.Request.{Request}
-use Rattle.marlinfold.specs.Calls.{Call, make-fresh, download-font, choose-font, Answer, answer, ran}
+use Rattle.marlinfold.specs.Calls.{Call, make-fresh, download-font, choose-font, choose-from-two, Answer, answer, ran}
 
 -- ── the fonts
 -- the first 64 bytes of a font block by descriptor size, format (W-206), orientation, spacing, set, pitch, height, weight byte, typeface and the
@@ -48,6 +49,13 @@ E = download-font 12 (header 2 0 277 120 200 0 3)
 unfoldable pub like : ℕ → ℕ → ℕ → Call
 like n p h = download-font n (header 0 0 277 p h 0 3)
 
+-- W-208: and with weight 3, and in landscape
+unfoldable pub bold : ℕ → Call
+bold n = download-font n (header 0 0 277 120 200 3 3)
+
+unfoldable pub landscape : ℕ → Call
+landscape n = download-font n (header 1 0 277 120 200 0 3)
+
 -- and with an extended byte of the pitch
 unfoldable pub finer : ℕ → ℕ → ℕ → Call
 finer n p x = download-font n (extended 0 0 277 p 200 0 3 x 0)
@@ -85,6 +93,8 @@ asks set R w page = choose-font (requestWith set R w page)
 pub data Trial : Type 0 where
   -- the font that choosing names, or its refusal, after some calls on a fresh store
   chooses : (before : List Call) (call : Call) (given : Answer) → Trial
+  -- W-208: the same of choosing from two stores, after some calls on each
+  choosesFromTwo : (soft cartridge : List Call) (r : Request) (given : Answer) → Trial
   -- what the rules of rows make of class 2 data, w dots wide and h rows high: how it is judged, and its picture
   draws : (w h : ℕ) (d : List ℕ) (judged : Judged) (rows : List ℕ) → Trial
 
@@ -98,12 +108,20 @@ noneToChoose = record { refusal = 11; numbers = 0 ∷ []; out = [] }
 unfoldable pub notInRange : Answer
 notInRange = record { refusal = 2; numbers = 0 ∷ []; out = [] }
 
+-- W-208: the answer that names a font, which store holds it, and its record's place there; and 11
+unfoldable pub namesRecord : ℕ → ℕ → ℕ → Answer
+namesRecord n which place = record { refusal = 0; numbers = n ∷ which ∷ place ∷ []; out = [] }
+
+unfoldable pub noRecord : Answer
+noRecord = record { refusal = 11; numbers = 0 ∷ 0 ∷ 0 ∷ []; out = [] }
+
 -- a buffer of so many bytes, made fresh, after these calls
 unfoldable pub storeAfter : ℕ → List Call → List ℕ
 storeAfter size cs = ran (make-fresh ∷ cs) (replicate size 255)
 
 abbrev pub Holds : Trial → Type 0
 Holds (chooses cs c a) = answer c (storeAfter 500 cs) ≡ a
+Holds (choosesFromTwo soft cartridge r a) = answer (choose-from-two true (storeAfter 500 cartridge) r) (storeAfter 500 soft) ≡ a
 Holds (draws w h d j rows) = (judge 2 w h d ≡ j) × (picture 2 w d h ≡ rows)
 
 unfoldable pub table : List Trial
@@ -160,6 +178,27 @@ table =
     ∷ chooses (resolved 3 300 300 0 277 120 200 0 3 ∷ A ∷ []) (asksIn 300 277 1000 0 0) (namesFont 3)
     ∷ chooses (resolved 3 300 600 0 277 120 200 0 3 ∷ A ∷ []) (asksIn 300 277 1000 0 0) (namesFont 5)
     ∷ chooses all (asksIn 400 277 1000 0 0) notInRange
+    -- W-208: one number in both stores: the weight decides between the two fonts;
+    ∷ choosesFromTwo (A ∷ []) (bold 5 ∷ []) (requestWith 277 1000 0 0) (namesRecord 5 1 12)
+    ∷ choosesFromTwo (A ∷ []) (bold 5 ∷ []) (requestWith 277 1000 3 0) (namesRecord 5 2 12)
+    -- the same fonts in both: the soft one, in its order among four records;
+    ∷ choosesFromTwo all all (requestWith 277 1000 3 0) (namesRecord 2 1 12)
+    ∷ choosesFromTwo all all (requestWith 277 1000 0 1) (namesRecord 9 1 258)
+    -- a soft font before one of the cartridge that has the page's orientation, and the lower number;
+    ∷ choosesFromTwo (A ∷ []) (C ∷ []) (requestWith 277 1000 0 1) (namesRecord 5 1 12)
+    ∷ choosesFromTwo (A ∷ []) (landscape 3 ∷ []) (requestWith 277 1000 0 1) (namesRecord 5 1 12)
+    ∷ choosesFromTwo (A ∷ []) (like 3 120 200 ∷ []) (requestWith 277 1000 0 0) (namesRecord 5 1 12)
+    -- the set asked for, in the cartridge alone, before Roman-8 in the soft store; the place is counted in the cartridge;
+    ∷ choosesFromTwo (A ∷ []) (D ∷ []) (requestWith 341 1000 0 0) (namesRecord 7 2 12)
+    ∷ choosesFromTwo (D ∷ []) (A ∷ B ∷ []) (requestWith 277 1000 0 0) (namesRecord 5 2 94)
+    -- an empty cartridge, an empty soft store, both empty;
+    ∷ choosesFromTwo all [] (requestWith 277 1000 0 0) (namesRecord 5 1 94)
+    ∷ choosesFromTwo [] all (requestWith 277 1000 0 0) (namesRecord 5 2 94)
+    ∷ choosesFromTwo [] [] (requestWith 277 1000 0 0) noRecord
+    -- 600 dpi fonts in one store alone: in mode 300 they take no part, in mode 600 they go before a soft font of 300 dpi
+    ∷ choosesFromTwo (fine 3 240 400 ∷ []) (A ∷ []) (requestIn 300 277 1000 0 0) (namesRecord 5 2 12)
+    ∷ choosesFromTwo (A ∷ []) (fine 3 240 400 ∷ []) (requestIn 300 277 1000 0 0) (namesRecord 5 1 12)
+    ∷ choosesFromTwo (A ∷ []) (fine 3 240 400 ∷ []) (requestIn 600 277 1000 0 0) (namesRecord 3 2 12)
     -- P10 width 10, height 3, data 1 2 3 5 0 0 10: rows 56 0, 56 0, 255 192.
     ∷ draws 10 3 (1 ∷ 2 ∷ 3 ∷ 5 ∷ 0 ∷ 0 ∷ 10 ∷ []) (Complete 7) (56 ∷ 0 ∷ 56 ∷ 0 ∷ 255 ∷ 192 ∷ [])
     -- P11 width 300, height 1, data 0 255 0 45: a white row, complete.

@@ -1,10 +1,12 @@
 // The calls that C makes. Each is one call of a crate below, save the sheet, a loop of one, and its contract is its line of `outcome`. A slice is a pointer and a length in C.
 ghost use mathlib.Core.Path.{_≡_};
+ghost use mathlib.Core.Bool.{true, false};
 ghost use Prim.Native.Nat.{ℕ};
 ghost use mathlib.Core.List.{List, _∷_, []};
 ghost use Rattle.choice.specs.Request.{requestOf};
 ghost use Rattle.choice.specs.Choosing.{refusalOf, fontOf};
-ghost use Rattle.marlinfold.specs.Calls.{make-fresh, download-font, download-character, remove-font, remove-character, choose-font, tell-font, tell-character, draw-row, draw-picture, write-font, read-stream, choose-sheet, turn-picture, check-profile, write-profiled, answerNumbers, answered, outcome};
+ghost use Rattle.marlinfold.specs.Calls.{make-fresh, download-font, download-character, remove-font, remove-character, choose-font, tell-font, tell-character, draw-row, draw-picture, write-font, read-stream, choose-sheet, turn-picture, check-profile, write-profiled, choose-from-two, answerNumbers, answered, outcome};
+use cartridge::RecordAnswer;
 use choice::Chosen;
 use choice::Request;
 use profile::check;
@@ -194,4 +196,36 @@ pub extern "C" fn mf_write_profiled(store: &[u8], out: &mut [u8], font: u32) -> 
     ensures { λ r. ⌜ answered (r .refusal) (r .length ∷ []) (now (store .entry)) (now (out .exit)) ≡ outcome (write-profiled font (now (out .entry))) (now (store .entry)) ⌝ }
 {
     check::write_profiled(store, out, font)
+}
+
+// W-208
+#[no_mangle]
+pub extern "C" fn mf_choose_from_two<'a>(
+    soft: &'a [u8],
+    cartridge: &'a [u8],
+    symbol_set: u32,
+    spacing: u32,
+    pitch: u32,
+    height: u32,
+    style: u32,
+    weight: u32,
+    typeface: u32,
+    orientation: u32,
+    mode: u32,
+) -> RecordAnswer
+    ensures { λ r. ⌜ answered (r .refusal) (r .font ∷ r .which ∷ r .place ∷ []) (now (soft .entry)) [] ≡ outcome (choose-from-two true (now (cartridge .entry)) (requestOf «symbol_set» spacing pitch height style weight typeface orientation mode)) (now (soft .entry)) ⌝ }
+    ensures { λ r. ⌜ answered (r .refusal) (r .font ∷ r .which ∷ r .place ∷ []) (now (cartridge .entry)) [] ≡ outcome (choose-from-two false (now (soft .entry)) (requestOf «symbol_set» spacing pitch height style weight typeface orientation mode)) (now (cartridge .entry)) ⌝ }
+{
+    let r = Request {
+        symbol_set: symbol_set,
+        spacing: spacing,
+        pitch: pitch,
+        height: height,
+        style: style,
+        weight: weight,
+        typeface: typeface,
+        orientation: orientation,
+        mode: mode,
+    };
+    cartridge::answer_from_two(soft, cartridge, r)
 }

@@ -13,6 +13,7 @@ use Rattle.form.specs.Records.{isStore, Begun}
 use Rattle.form.specs.Fonts.{fontsOf}
 use Rattle.form.specs.declared.records.Begin.{Begin}
 use Rattle.form.specs.declared.records.Begin.the-variants.{At, NotStore}
+use Rattle.choice.specs.Candidates.{candidates}
 use Rattle.choice.specs.Choosing.{choosingAmong, choosing}
 use Rattle.choice.specs.declared.Request.{Request}
 use Rattle.choice.specs.declared.Chosen.{Chosen}
@@ -89,7 +90,7 @@ entry-is s rs out q i d e l =
     rw (sym (h .2 (sym (h .0) ∙ q))) (entry-among s rs (drop (length rs) out) i d e l)
 
 -- the answer to a request, on a buffer that is known to be a store
-pub on-store : (s : List ℕ) (r : Request) (p : ℕ) → Begun s (At p) → (x : Chosen) → x ≡ choosingAmong (fontsOf s) r → (a : SheetAnswer) → a ≡ answerOf x → a ≡ answerOf (choosing s r)
+pub on-store : (s : List ℕ) (r : Request) (p : ℕ) → Begun s (At p) → (x : Chosen) → x ≡ choosingAmong (candidates true (fontsOf s)) r → (a : SheetAnswer) → a ≡ answerOf x → a ≡ answerOf (choosing s r)
 unfolding choosing
 on-store s r p h x f a g = rw (h .0) (g ∙ ap answerOf f)
 

@@ -51,8 +51,8 @@ pub fn answer_of(a: Chosen) -> SheetAnswer
     ensures { λ r. ⌜ r ≡ answerOf a ⌝ }
 {
     match a {
-        Chosen::Number(n) => SheetAnswer {
-            font: n,
+        Chosen::Number { soft: _, number } => SheetAnswer {
+            font: number,
             refusal: 0,
         },
         Chosen::NotStore => SheetAnswer {

@@ -14,7 +14,7 @@ unfolding isFine
 returns c =
     let b = c .before .before in
     let w = b .before in
-    let fine : eqb (resolution (asBytes (now (w .before .before .args .f)))) fineResolution ≡ true = sym (c .before .is-fine .ensures 0) ∙ c .if1 .taken in
+    let fine : eqb (resolution (asBytes (now (w .before .before .args .f)))) fineResolution ≡ true = sym (c .before .is-fine .ensures true 0) ∙ c .if1 .taken in
     (rw (fine, w .kept-word .ensures .0, b .kept-byte .ensures .0), omega arith)
 
 returns-2 : tie.Need-returns-2
@@ -22,7 +22,7 @@ unfolding isFine
 returns-2 c =
     let b = c .before .before in
     let w = b .before in
-    let coarse : eqb (resolution (asBytes (now (w .before .before .args .f)))) fineResolution ≡ false = sym (c .before .is-fine .ensures 0) ∙ c .if1 .left in
+    let coarse : eqb (resolution (asBytes (now (w .before .before .args .f)))) fineResolution ≡ false = sym (c .before .is-fine .ensures true 0) ∙ c .if1 .left in
     (rw (coarse, w .kept-word .ensures .0, b .kept-byte .ensures .0), omega arith)
 
 pub compared-spec : {M : Type 1} → statement M

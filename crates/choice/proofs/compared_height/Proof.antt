@@ -5,7 +5,7 @@ use Rattle.choice.proofs.compared_height.Tie as tie
 
 returns : tie.Need-returns
 unfolding comparedHeight
-returns c = (λ n. c .compared .ensures .0, c .compared .ensures .1)
+returns c = (λ p n. c .compared .ensures .0, c .compared .ensures .1)
 
 pub compared-height-spec : {M : Type 1} → statement M
 compared-height-spec = tie.close (tie.spec (λ c κs. search needs) returns)

@@ -5,7 +5,7 @@ use Rattle.choice.proofs.in_mode.Tie as tie
 
 returns : tie.Need-returns
 unfolding inMode
-returns c = λ n. rw (c .is-fine .ensures n)
+returns c = λ p n. rw (c .is-fine .ensures p n)
 
 pub in-mode-spec : {M : Type 1} → statement M
 in-mode-spec = tie.close (tie.spec (λ c κs. search needs) returns)

@@ -12,17 +12,17 @@ use Rattle.choice.proofs.major_of.Tie as tie
 returns : tie.Need-returns
 unfolding majorOf hasSet hasSpacing isFixed pitchScore qualifies
 returns c =
-    let p = c .before in
-    let s = p .before in
+    let q = c .before in
+    let s = q .before in
     let b = s .before .before in
     let m = b .before in
     let r = m .before .before .before .before .args .r in
     let set = m .miss .ensures .0 ∙ ap (λ (x : ℕ). miss (eqb x (r .«symbol_set»))) (m .before .before .kept-word .ensures .0) in
     let spacing = s .miss2 .ensures .0 ∙ ap (λ (x : ℕ). miss (Bool·beq (eqb x 0) (eqb (r .spacing) 0))) (b .kept-byte .ensures .0) in
-    λ n.
+    λ p n.
     let pitch =
     c .pitch-number .ensures .0
-    ∙ ap₂ (λ (x y : ℕ). pitchNumber (eqb x 0) (leb (r .pitch * y) pitchTestLimit) y) (b .kept-byte .ensures .0) (p .compared-pitch .ensures .0 n) in
+    ∙ ap₂ (λ (x y : ℕ). pitchNumber (eqb x 0) (leb (r .pitch * y) pitchTestLimit) y) (b .kept-byte .ensures .0) (q .compared-pitch .ensures .0 p n) in
     rw (set, spacing, pitch)
 
 pub major-of-spec : {M : Type 1} → statement M

@@ -10,7 +10,8 @@ use Rattle.choice.proofs.minor_of.Tie as tie
 returns : tie.Need-returns
 unfolding minorOf heightOff hasStyle hasTypeface hasOrientation
 returns c =
-    let d = c .before .before .before in
+    let o = c .before in
+    let d = o .before .before .before in
     let t = d .before .before in
     let w = t .before .before .before in
     let s = w .before in
@@ -18,16 +19,15 @@ returns c =
     let r = h .before .before .before .args .r in
     let style = s .miss .ensures .0 ∙ ap (λ (x : ℕ). miss (eqb x (r .style))) (s .before .before .style-of .ensures) in
     let typeface = t .miss2 .ensures .0 ∙ ap (λ (x : ℕ). miss (eqb x (r .typeface))) (t .before .before .typeface-of .ensures) in
-    let orientation = c .miss4 .ensures .0 ∙ ap (λ (x : ℕ). miss (eqb x (r .orientation))) (c .before .before .kept-byte .ensures .0) in
+    let orientation = o .miss4 .ensures .0 ∙ ap (λ (x : ℕ). miss (eqb x (r .orientation))) (o .before .before .kept-byte .ensures .0) in
     λ n.
-    let height = h .height-number .ensures .0 ∙ ap (heightDistance (r .height)) (h .before .compared-height .ensures .0 n) in
-    let resolution = d .miss3 .ensures .0 ∙ ap miss (d .before .is-fine .ensures n) in
-    rw (height, style, w .weight-of .ensures .0 n, typeface, resolution, orientation)
+    let p = h .before .before .before .args .soft in
+    let height = h .height-number .ensures .0 ∙ ap (heightDistance (r .height)) (h .before .compared-height .ensures .0 p n) in
+    let resolution = d .miss3 .ensures .0 ∙ ap miss (d .before .is-fine .ensures p n) in
+    rw (height, style, w .weight-of .ensures .0 p n, typeface, resolution, c .miss5 .ensures .0, orientation)
 
 pub minor-of-spec : {M : Type 1} → statement M
 minor-of-spec =
     tie.close
-    (tie.spec (λ c κs. search needs) (λ c κs. search needs) (λ c κs. search needs) (λ c κs. search needs) (λ c κs. search needs) (λ c κs. search needs)
-    (λ c κs. search needs) (λ c κs. search needs) (λ c κs. search needs) (λ c κs. search needs) (λ c κs. search needs)
-    (λ c. search needs) (λ c. search needs) (λ c. search needs) (λ c. search needs) (λ c. search needs) (λ c. search needs) (λ c. search needs) (λ c. search needs) (λ c. search needs)
-    (λ c. search needs) returns)
+    (tie.spec (λ c κs. search needs) (λ c κs. search needs) (λ c κs. search needs) (λ c κs. search needs) (λ c κs. search needs) (λ c κs. search needs) (λ c κs. search needs) (λ c κs. search needs) (λ c κs. search needs) (λ c κs. search needs) (λ c κs. search needs) (λ c κs. search needs)
+    (λ c. search needs) (λ c. search needs) (λ c. search needs) (λ c. search needs) (λ c. search needs) (λ c. search needs) (λ c. search needs) (λ c. search needs) (λ c. search needs) (λ c. search needs) (λ c. search needs) (λ c. search needs) returns)

@@ -5,17 +5,18 @@ use lib.ListN.{length, length-take, length-drop}
 use borrow.Author.Needs.{needs}
 use Rattle.form.specs.Records.{RecordPlace}
 use Rattle.form.specs.Fonts.{fontsAt}
-use Rattle.choice.specs.Scores.{pass, noScore}
+use Rattle.choice.specs.Candidates.{candidates}
+use Rattle.choice.specs.Scores.{pass}
 use Rattle.choice.proofs.Walk.{met, again, stops}
 use Rattle.choice.proofs.scan.Statement.{statement}
 use Rattle.choice.proofs.scan.Tie as tie
 
 -- the pass from here gives what the whole pass gives
 abbrev Inv-loop : tie.InvT-loop
-Inv-loop s from r best₀ at₀ best at = RecordPlace s at × (pass r best (fontsAt s at) ≡ pass r noScore (fontsAt s from))
+Inv-loop s from soft r first at₀ best at = RecordPlace s at × (pass r best (candidates soft (fontsAt s at)) ≡ pass r first (candidates soft (fontsAt s from)))
 
 abbrev μ-loop : tie.MeasureT-loop
-μ-loop s from r best₀ at₀ best at = length s - at
+μ-loop s from soft r first at₀ best at = length s - at
 
 loop-holds : tie.Need-loop-holds Inv-loop μ-loop
 loop-holds c = (c .before .pre .0, refl)
@@ -26,7 +27,7 @@ next-font-requires c κs = c .loop .inv .0
 returns : tie.Need-returns Inv-loop μ-loop
 returns c =
     let b = c .before .before in
-    stops _ _ _ (b .next-font .ensures) (c .enum-told .given .1) _ _ _ (b .before .loop .inv .1)
+    stops _ _ _ (b .next-font .ensures) (c .enum-told .given .1) _ _ _ _ (b .before .loop .inv .1)
 
 add-end : tie.Need-add-end Inv-loop μ-loop
 add-end c =
@@ -56,7 +57,7 @@ loop-again c =
     let n = c .before .before .before in
     let b = n .before .before in (
       met _ _ _ (b .next-font .ensures) _ _ _ (n .number .given .1) .1,
-      again _ _ _ (b .next-font .ensures) _ _ _ (n .number .given .1) _ _ _ _ (c .weigh .ensures) (b .before .loop .inv .1),
+      again _ _ _ (b .next-font .ensures) _ _ _ (n .number .given .1) _ _ _ _ _ (c .weigh .ensures) (b .before .loop .inv .1),
     )
 
 pub scan-spec : {M : Type 1} → statement M

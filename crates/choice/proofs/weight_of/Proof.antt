@@ -11,10 +11,10 @@ returns c =
     let b = c .before in
     let a = b .before in
     let start = a .before .before in (
-      λ n.
+      λ p n.
           c .weight-number .ensures .0
           ∙ weights (start .args .r) (start .pre .1) (a .raised-request .ensures .1) (a .raised-request .result) (a .raised-request .ensures .0)
-          (record { number = n; kept = start .args .f .now }) ((b .kept-byte .result + 128) % 256) (ap raised (b .kept-byte .ensures .0)),
+          (record { soft = p; number = n; kept = start .args .f .now }) ((b .kept-byte .result + 128) % 256) (ap raised (b .kept-byte .ensures .0)),
       c .weight-number .ensures .1,
     )
 

@@ -1,0 +1,118 @@
+-- The chosen font's record in two stores, from what the code finds. Assumes nothing.
+use Prim.Native.Nat.{ℕ, _+_, _-_, _<_, _≤_}
+use mathlib.Core.Path.{_≡_, refl, sym, ap, _∙_}
+use mathlib.Core.Bool.{Bool, true, false, _&&_}
+use mathlib.Core.List.{List}
+use native.Mathlib.Nat.{zero-add}
+use native.Mathlib.Omega.{arith}
+use lib.ListN.{length, take, drop}
+use lib.Dec.{eqb, leb}
+use borrow.Author.Tests.{le-leb, lt-leb, leb-true}
+use Rattle.form.specs.Layout.{markRecord, fontRecord, keyOf}
+use Rattle.form.specs.Records.{isStore, recordsIn, fontPlace, Begun}
+use Rattle.form.specs.Cursor.{Reaches, Points}
+use Rattle.form.specs.declared.locate.Cursor.{Cursor}
+use Rattle.form.specs.declared.records.Begin.the-variants.{At as from}
+use Rattle.form.specs.Fonts.{fontsOf}
+use Rattle.form.proofs.RecordRuns as Runs
+use Rattle.store.specs.Known.{Opening}
+use Rattle.store.specs.declared.known.Opened.{Opened}
+use Rattle.store.specs.declared.known.Opened.the-variants.{At, NotStore}
+use Rattle.choice.specs.Candidates.{ofBoth}
+use Rattle.choice.specs.Choosing.{choosingAmong, choosingFromTwo}
+use Rattle.choice.specs.declared.Request.{Request}
+use Rattle.choice.specs.declared.Chosen.{Chosen}
+use Rattle.choice.specs.declared.Chosen.the-variants.{Number, NotStore as not-store}
+use Rattle.choice.proofs.Walk.{first-no-store, second-no-store, on-two-stores}
+use Rattle.cartridge.specs.declared.RecordAnswer.{RecordAnswer}
+use Rattle.cartridge.specs.Cartridge.{recordAnswer, answeringFromTwo, Part, fits, recordPart}
+
+-- ── the place
+pub place-is : (n : ℕ) (s : List ℕ) (here : ℕ) → Reaches s (keyOf n 0) here → here ≡ fontPlace n (recordsIn s)
+unfolding recordsIn
+place-is n s here r = rw (r .is) (r .at)
+
+-- ── the two stores
+module _ (s : List ℕ) (v : Opened) (h : Opening s v) where
+  pub points : (c : Cursor) → v ≡ At c → Points s c
+  unfolding Opening
+  points c e = rw e at h
+
+  pub no-store : v ≡ NotStore → isStore s ≡ false
+  unfolding Opening
+  no-store e = let f : Opening s NotStore = rw e at h in Runs.not-begun s f
+
+pub begun : (s : List ℕ) (c : Cursor) → Points s c → Begun s (from markRecord)
+begun s c p = Runs.begun s (p .store) (p .is)
+
+module _ (s t : List ℕ) (r : Request) where
+  pub first-refused : isStore s ≡ false → recordAnswer s t not-store ≡ answeringFromTwo s t r
+  unfolding answeringFromTwo
+  first-refused e = ap (recordAnswer s t) (first-no-store s t r e)
+
+  pub second-refused : isStore s ≡ true → isStore t ≡ false → recordAnswer s t not-store ≡ answeringFromTwo s t r
+  unfolding answeringFromTwo
+  second-refused e f = ap (recordAnswer s t) (second-no-store s t r e f)
+
+  pub both-stores : isStore s ≡ true → isStore t ≡ true → (c : Chosen) → c ≡ choosingAmong (ofBoth (fontsOf s) (fontsOf t)) r → (a : RecordAnswer) → a ≡ recordAnswer s t c → a ≡ answeringFromTwo s t r
+  unfolding answeringFromTwo
+  both-stores e f c h a k = k ∙ ap (recordAnswer s t) (on-two-stores s t r e f c h)
+
+-- ── the part
+never : _≡_ {A = Bool} false true → ⊥
+never e = let z : _≡_ {A = ℕ} 0 1 = cc in omega (arith, z)
+
+both-r : (b t : Bool) → b && t ≡ true → t ≡ true
+both-r true t e = e
+both-r false t e = absurd (never e)
+
+pub too-short : (n at : ℕ) → n < fontRecord → false ≡ fits n at
+unfolding fits
+too-short n at l = rw (lt-leb fontRecord n l) refl
+
+pub long-enough : (n at : ℕ) → fontRecord ≤ n → leb at (n - fontRecord) ≡ fits n at
+unfolding fits
+long-enough n at l = rw (le-leb fontRecord n l) refl
+
+pub room : (n at : ℕ) (b t : Bool) → t ≡ fits n at → b && t ≡ true → at + fontRecord ≤ n
+unfolding fits
+room n at b t e f = go (leb fontRecord n) (leb at (n - fontRecord)) refl refl (sym e ∙ both-r b t f)
+  where
+    go : (x y : Bool) → leb fontRecord n ≡ x → leb at (n - fontRecord) ≡ y → x && y ≡ true → at + fontRecord ≤ n
+    go true true p q z = omega (arith, leb-true fontRecord n p, leb-true at (n - fontRecord) q)
+    go true false p q z = absurd (never z)
+    go false y p q z = absurd (never z)
+
+-- the three ways out
+module _ (a b : Part) (c : RecordAnswer) where
+  pub first-part : (t : Bool) → t ≡ fits (length (a .bytes)) (c .place) → eqb (c .which) 1 && t ≡ true
+      → record { spot = (a .spot .0, c .place + a .spot .1); bytes = take (c .place + fontRecord - c .place) (drop (c .place) (a .bytes)) } ≡ recordPart a b c
+  unfolding recordPart
+  first-part t e f =
+      let n : c .place + fontRecord - c .place ≡ fontRecord = omega arith in
+      rw (sym e, f, n) refl
+
+  pub second-part : (t u : Bool) → t ≡ fits (length (a .bytes)) (c .place) → eqb (c .which) 1 && t ≡ false → u ≡ fits (length (b .bytes)) (c .place) → eqb (c .which) 2 && u ≡ true
+      → record { spot = (b .spot .0, c .place + b .spot .1); bytes = take (c .place + fontRecord - c .place) (drop (c .place) (b .bytes)) } ≡ recordPart a b c
+  unfolding recordPart
+  second-part t u e f g h =
+      let n : c .place + fontRecord - c .place ≡ fontRecord = omega arith in
+      rw (sym e, f, sym g, h, n) refl
+
+  pub empty-part : (t u : Bool) → t ≡ fits (length (a .bytes)) (c .place) → eqb (c .which) 1 && t ≡ false → u ≡ fits (length (b .bytes)) (c .place) → eqb (c .which) 2 && u ≡ false
+      → record { spot = a .spot; bytes = take 0 (a .bytes) } ≡ recordPart a b c
+  unfolding recordPart
+  empty-part t u e f g h = rw (sym e, f, sym g, h, zero-add (a .spot .1)) refl
+
+-- ── the answer by what was chosen
+module _ (s t : List ℕ) (v : Chosen) where
+  pub in-soft : (p : Bool) (n at : ℕ) → v ≡ Number p n → p ≡ true → at ≡ fontPlace n (recordsIn s) → record { refusal = 0; font = n; which = 1; place = at } ≡ recordAnswer s t v
+  unfolding recordAnswer
+  in-soft p n at e q h = rw (e, q, h)
+
+  pub in-cartridge : (p : Bool) (n at : ℕ) → v ≡ Number p n → p ≡ false → at ≡ fontPlace n (recordsIn t) → record { refusal = 0; font = n; which = 2; place = at } ≡ recordAnswer s t v
+  unfolding recordAnswer
+  in-cartridge p n at e q h = rw (e, q, h)
+
+  pub none-for : (k : ℕ) (w : Chosen) (a : RecordAnswer) → a ≡ record { refusal = k; font = 0; which = 0; place = 0 } → v ≡ w → recordAnswer s t w ≡ record { refusal = k; font = 0; which = 0; place = 0 } → a ≡ recordAnswer s t v
+  none-for k w a e q h = e ∙ sym h ∙ ap (recordAnswer s t) (sym q)
