@@ -64,10 +64,11 @@
  *   compiler may rely on that. Pass any valid pointer, such as the store's.
  *   The lists of mf_choose_sheet are arrays: their pointers are followed by the number of
  *   entries, and aligned as C aligns such arrays, also for 0 entries.
- *   Buffers lent to one call must not overlap; an empty one overlaps none.
- *   Calls on different stores may run in parallel, and so may calls that only look at one store
- *   (those that take it as const), each with an output of its own. A call that changes a store
- *   needs it alone.
+ *   The buffers that one call gets must not overlap; an empty one overlaps none. The two stores of
+ *   mf_choose_from_two may be the same buffer, since both are only read.
+ *   Calls on different stores may run in parallel, and so may calls that only look at a store
+ *   (those that take it as const; mf_choose_from_two looks at two), each with an output of its
+ *   own. A call that changes a store needs it alone.
  *   Each call gets the length that the store was made fresh with. A shorter one is a different
  *   store: mostly none (MF_NOT_A_STORE), but where no more than free room or whole fonts are cut
  *   off it may be one, which lacks that room or those fonts; changes to it can spoil the longer.
@@ -85,8 +86,9 @@
  * What a call costs
  *   Each call on a store checks all of it first: 1 to 40 microseconds for 65,536 bytes, by what
  *   they hold, and most calls take little more; a stream of very many small continuations may
- *   take milliseconds. mf_choose_sheet and mf_read_stream check it once, so they are faster than
- *   calls for each request or block. Figures: bench/README.md of the sources.
+ *   take milliseconds. mf_choose_from_two checks both of its stores. mf_choose_sheet and
+ *   mf_read_stream check theirs once, so they are faster than calls for each request or block.
+ *   Figures: bench/README.md of the sources.
  *
  * Saving a store
  *   A store may be saved, copied and taken up again as plain bytes, by the same version on any
@@ -109,8 +111,8 @@
 extern "C" {
 #endif
 
-#define MF_VERSION "2.0.0"
-#define MF_VERSION_NUMBER 20000 /* 10000 x first + 100 x second + third number */
+#define MF_VERSION "2.1.0"
+#define MF_VERSION_NUMBER 20100 /* 10000 x first + 100 x second + third number */
 
 enum mf_refusal {
     MF_DONE = 0,           /* done */
@@ -164,6 +166,8 @@ enum mf_weight {
 };
 /* The resolution that a page is printed in, in dots to the inch. */
 enum mf_mode { MF_MODE_300 = 300, MF_MODE_600 = 600 };
+/* Which of two stores holds a font. */
+enum mf_which { MF_SOFT = 1, MF_CARTRIDGE = 2 };
 
 /* Sizes in bytes. */
 #define MF_STORE_MIN 12
@@ -175,10 +179,16 @@ enum mf_mode { MF_MODE_300 = 300, MF_MODE_600 = 600 };
 #define MF_ROW_MAX 2048        /* the longest row: any output so long takes any row */
 #define MF_SIDE_MAX 16384      /* the greatest width and height, in dots */
 
+/* A font's record in a store: its length (4 bytes), its kind (2 bytes; a font's is 2), the font's
+ * number (2), the count of its characters (2) and the sum of their data bytes (4), low bytes first;
+ * then the MF_FONT_BYTES bytes that mf_tell_font copies. */
+#define MF_FONT_RECORD_BYTES 82
+#define MF_FONT_KEPT_AT 14     /* where those stand in the record */
+
 /* Room that a store needs: 12 bytes, then for each font and each character these, with the
  * character's kept data beside them. A store of 94 bytes takes one font without characters, one
  * of 93 none. mf_room_left says what is left. */
-#define MF_FONT_ROOM 82
+#define MF_FONT_ROOM MF_FONT_RECORD_BYTES
 #define MF_CHARACTER_ROOM 26
 
 /* An output so long takes any font written out of a store of this length. */
@@ -222,6 +232,8 @@ static inline const char *mf_refusal_name(uint32_t refusal)
 /* ---- what calls answer and take as records ---- */
 
 typedef struct { uint32_t refusal; uint32_t font; } mf_chosen;
+/* which: MF_SOFT or MF_CARTRIDGE; place: where the font's record begins in that store, from 0 */
+typedef struct { uint32_t refusal, font, which; uint64_t place; } mf_chosen_record;
 /* count: the characters of a font, or the data bytes of a character */
 typedef struct { uint32_t refusal; uint32_t count; } mf_told;
 typedef struct { uint32_t refusal; uint32_t length; } mf_written;
@@ -266,6 +278,11 @@ typedef struct {
 MF_CHECK_FIELD(mf_chosen, refusal, 0, 4);
 MF_CHECK_FIELD(mf_chosen, font, 4, 4);
 MF_CHECK_LAYOUT(sizeof(mf_chosen) == 8);
+MF_CHECK_FIELD(mf_chosen_record, refusal, 0, 4);
+MF_CHECK_FIELD(mf_chosen_record, font, 4, 4);
+MF_CHECK_FIELD(mf_chosen_record, which, 8, 4);
+MF_CHECK_FIELD(mf_chosen_record, place, 16, 8);
+MF_CHECK_LAYOUT(sizeof(mf_chosen_record) == 24);
 MF_CHECK_FIELD(mf_told, refusal, 0, 4);
 MF_CHECK_FIELD(mf_told, count, 4, 4);
 MF_CHECK_LAYOUT(sizeof(mf_told) == 8);
@@ -574,6 +591,44 @@ mf_chosen mf_choose(const uint8_t *store, size_t store_len,
                     uint32_t height, uint32_t style, int32_t weight,
                     uint32_t typeface, uint32_t orientation, uint32_t mode);
 
+/* Chooses among the fonts of two stores, soft fonts and a cartridge dump in store form. Answers
+ * the font's number, which of the two holds it, and where its record begins there.
+ * The steps are those of mf_choose, each looking at the fonts of both stores together, with one
+ * more after 8, the resolution, and before 9, the orientation:
+ *      the fonts of the soft store, if any is left
+ * So a soft font goes before one of the cartridge that is as good up to the resolution, also where
+ * the other has the orientation or a lower number; but the symbol set asked for in the cartridge
+ * goes before Roman-8 in the soft store. Fonts of one number in both stores are two fonts.
+ * The nine numbers of the request have the ranges of mf_choose, and MF_MODE_300 leaves out the
+ * fonts of 600 dots to the inch in both stores. Each store has a length of its own, and may be
+ * without fonts. Both may be the same buffer: which is then MF_SOFT.
+ * mf_record_of makes a pointer to the record of the answer, which has the font's fields. For a
+ * bold font of 10 characters to the inch and 12 points, with use a function of yours:
+ *
+ *     mf_chosen_record chosen =
+ *         mf_choose_from_two(soft, sizeof soft, cartridge, cartridge_len, MF_ROMAN_8, MF_FIXED,
+ *                            1000, 1200, 0, MF_BOLD, 3, MF_PORTRAIT, MF_MODE_300);
+ *     if (chosen.refusal == MF_DONE) {
+ *         const uint8_t *store = chosen.which == MF_SOFT ? soft : cartridge;
+ *         size_t store_len = chosen.which == MF_SOFT ? sizeof soft : cartridge_len;
+ *         const uint8_t *record = mf_record_of(soft, cartridge, chosen);
+ *         mf_font_fields font = mf_font_fields_of(record + MF_FONT_KEPT_AT);
+ *         if (mf_draw_picture(store, store_len, picture, sizeof picture, chosen.font, 'A')
+ *             == MF_DONE)
+ *             use(picture, &font);
+ *     }
+ *
+ * Refuses, in this order:
+ *   MF_NOT_A_STORE     soft is not a store, or cartridge is not
+ *   MF_OUT_OF_RANGE    a number of the request is not in its range
+ *   MF_NONE_TO_CHOOSE  no font that takes part, of either store, has the set asked for or
+ *                      Roman-8 */
+mf_chosen_record mf_choose_from_two(const uint8_t *soft, size_t soft_len,
+                                    const uint8_t *cartridge, size_t cartridge_len,
+                                    uint32_t symbol_set, uint32_t spacing, uint32_t pitch,
+                                    uint32_t height, uint32_t style, int32_t weight,
+                                    uint32_t typeface, uint32_t orientation, uint32_t mode);
+
 /* Chooses for a whole sheet: answers[i] becomes what mf_choose answers for requests[i] on this
  * store. The store is checked once for all of them, so that a sheet is much faster than a call
  * for each request.
@@ -743,6 +798,16 @@ mf_stream_read mf_read_stream(uint8_t *store, size_t store_len,
                               const uint8_t *stream, size_t stream_len);
 
 /* ---- along a store ---- */
+
+/* The record of the font that mf_choose_from_two chose from these two stores:
+ * MF_FONT_RECORD_BYTES bytes inside the store that holds it. Nothing is copied, so that the pointer
+ * is good until that store is changed. After a refusal it is soft, for an empty part of the soft
+ * store: none of its bytes is meant. */
+static inline const uint8_t *mf_record_of(const uint8_t *soft, const uint8_t *cartridge,
+                                          mf_chosen_record chosen)
+{
+    return (chosen.which == MF_CARTRIDGE ? cartridge : soft) + (size_t)chosen.place;
+}
 
 /* The length of the record that begins so many bytes before a store's end, 0 where there is none.
  * A record has its length (4 bytes) and its kind (2) first, low bytes first. */

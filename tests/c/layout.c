@@ -9,7 +9,7 @@
 
 #define FITTING 50
 
-static uint8_t store[4096], out[MF_WRITTEN_MAX(sizeof store)];
+static uint8_t store[4096], out[MF_WRITTEN_MAX(sizeof store)], empty[MF_STORE_MIN];
 
 #define SIZE(type) printf(#type " %u:", (unsigned)sizeof(type))
 #define AT(type, field) printf(" " #field " %u", (unsigned)offsetof(type, field))
@@ -19,6 +19,12 @@ static void layout(void)
     SIZE(mf_chosen);
     AT(mf_chosen, refusal);
     AT(mf_chosen, font);
+    puts("");
+    SIZE(mf_chosen_record);
+    AT(mf_chosen_record, refusal);
+    AT(mf_chosen_record, font);
+    AT(mf_chosen_record, which);
+    AT(mf_chosen_record, place);
     puts("");
     SIZE(mf_told);
     AT(mf_told, refusal);
@@ -156,6 +162,16 @@ static void chosen(void)
     printf("chosen: refusal %u font %u\n", (unsigned)chosen.refusal, (unsigned)chosen.font);
 }
 
+/* The same from a soft store without fonts and this one as the cartridge. */
+static void chosen_from_two(uint32_t mode)
+{
+    mf_chosen_record chosen =
+        mf_choose_from_two(empty, sizeof empty, store, sizeof store, MF_ROMAN_8, MF_FIXED, 1000,
+                           1200, 5, MF_BOLD, 7, MF_LANDSCAPE, mode);
+    printf("chosen record: refusal %u font %u which %u place %lu\n", (unsigned)chosen.refusal,
+           (unsigned)chosen.font, (unsigned)chosen.which, (unsigned long)chosen.place);
+}
+
 /* Codes 32 to 127, of which 65 is too wide for the cell. */
 static void put_characters(void)
 {
@@ -200,6 +216,9 @@ int main(void)
     build();
     sheet();
     chosen();
+    mf_make_fresh(empty, sizeof empty);
+    chosen_from_two(MF_MODE_600);
+    chosen_from_two(301);
     put_characters();
     show_told(mf_tell_font(store, sizeof store, out, sizeof out, FITTING));
     show_told(mf_tell_character(store, sizeof store, out, sizeof out, FITTING, 65));
