@@ -10,6 +10,8 @@ static const about program = {
     "Reads the fonts of each FILE, - for standard input, chooses the one that fits best, and\n"
     "writes TEXT in it to standard output, as a picture of the font's dots to the inch.\n\n"
     REQUEST_HELP
+    "  --cartridge FILE  choose among the fonts of a cartridge too: FILE has the bytes of a\n"
+    "                    store, or is a font file; then TEXT may stand alone\n"
     "  --turn N          the label turned clockwise by N quarters, 0 to 3 (0)\n"
     "  --plain           PBM in plain digits\n"
     "  -o FILE           write to this file\n"
@@ -27,14 +29,14 @@ typedef struct {
     mf_request font;
     uint32_t turn;
     int plain;
-    const char *out;
+    const char *cartridge, *out;
     const unsigned char *text;
 } order;
 
 /* Takes the words of the command line: TEXT, and the files that are gathered. */
 static order read_order(words *from)
 {
-    order asked = {default_request, 0, 0, NULL, NULL};
+    order asked = {default_request, 0, 0, NULL, NULL, NULL};
     const char *value;
 
     while (at_option(from)) {
@@ -45,12 +47,14 @@ static order read_order(words *from)
             asked.plain = 1;
         else if ((value = take_value(from, "--turn")))
             asked.turn = (uint32_t)number_within("--turn", value, 0, 3);
+        else if ((value = take_value(from, "--cartridge")))
+            asked.cartridge = value;
         else if ((value = take_value(from, "-o")))
             asked.out = value;
         else
             take_common(from, &program);
     }
-    if (from->count < 2)
+    if (from->count < (asked.cartridge ? 1u : 2u))
         stop_usage(&program);
     asked.text = (const unsigned char *)from->gathered[0];
     return asked;
@@ -58,21 +62,65 @@ static order read_order(words *from)
 
 #define NONE_TO_CHOOSE "no font has the symbol set asked for or 8U"
 
-/* The number of the font that fits best, and a line about it for the user. */
-static uint32_t choose(const mf_request *asked)
+/* The cartridge's fonts, a second store beside that of the files. */
+static uint8_t cartridge[MF_STORE_MAX];
+
+static int is_store(const contents *file)
 {
-    mf_chosen chosen =
-        mf_choose(store, sizeof store, asked->symbol_set, asked->spacing, asked->pitch,
-                  asked->height, asked->style, asked->weight, asked->typeface, asked->orientation,
-                  asked->mode);
+    uint8_t kept[MF_FONT_BYTES];
+    return mf_tell_font(file->bytes, file->length, kept, sizeof kept, 0).refusal != MF_NOT_A_STORE;
+}
+
+/* Loads the cartridge's file, without a name none, and stops if it cannot be read. A dump may be
+ * shorter than the buffer: zeros after a store's bytes are free room. Any other file is loaded as
+ * the font files are, into the store, which those then make fresh again. Answers the exit status
+ * so far. */
+static int load_cartridge(const char *name)
+{
+    static loading into;
+    contents file;
+
+    mf_make_fresh(cartridge, sizeof cartridge);
+    if (!name)
+        return COMPLETE;
+    if (!read_file(name, &file))
+        exit(FAILED);
+    name = strcmp(name, "-") == 0 ? "standard input" : name;
+    if (is_store(&file))
+        memcpy(cartridge, file.bytes, file.length);
+    else if (file.length && file.bytes[0] != ESC)
+        stop(name, "not a cartridge: neither the bytes of a store nor a font file");
+    else {
+        mf_make_fresh(store, sizeof store);
+        into.next = OWN_NUMBERS;
+        load_stream(&into, name, file.bytes, file.length);
+        memcpy(cartridge, store, sizeof store);
+    }
+    free(file.bytes);
+    return into.refused || into.broken ? INCOMPLETE : COMPLETE;
+}
+
+/* The number of the font that fits best, and a line about it for the user. From here on the store
+ * is the one that holds it. */
+static uint32_t choose(const order *asked)
+{
+    const mf_request *font = &asked->font;
+    mf_chosen_record chosen =
+        mf_choose_from_two(store, sizeof store, cartridge, sizeof cartridge, font->symbol_set,
+                           font->spacing, font->pitch, font->height, font->style, font->weight,
+                           font->typeface, font->orientation, font->mode);
 
     if (chosen.refusal == MF_NONE_TO_CHOOSE)
-        stop("choosing", asked->mode == MF_MODE_300
+        stop("choosing", font->mode == MF_MODE_300
                              ? NONE_TO_CHOOSE "; fonts of 600 dpi need --mode 600"
                              : NONE_TO_CHOOSE);
     if (chosen.refusal)
         refuse("choosing", chosen.refusal);
+    if (chosen.which == MF_CARTRIDGE)
+        memcpy(store, cartridge, sizeof store);
     print_font(stderr, chosen.font);
+    if (asked->cartridge)
+        fputs(chosen.which == MF_CARTRIDGE ? ", from the cartridge" : ", from the files", stderr);
     fputc('\n', stderr);
     return chosen.font;
 }
@@ -193,12 +241,14 @@ int main(int count, char **given)
 {
     words from = words_of(given + (count > 0));
     order asked = read_order(&from);
-    int status = load_files(from.gathered + 1, from.count - 1), lacking;
+    int status = load_cartridge(asked.cartridge), lacking;
     line set = {asked.text, 0, {0}, 0, 0, 0, 0};
     uint32_t characters;
     page label;
 
-    set.number = choose(&asked.font);
+    if (load_files(from.gathered + 1, from.count - 1))
+        status = INCOMPLETE;
+    set.number = choose(&asked);
     set.font = tell_font(set.number, &characters);
     lacking = tell_missing(&set);
     set_line(&set, NULL);
