@@ -1,7 +1,7 @@
 /* The choice from two stores from C: which font, of which store, and the record at its place;
- * how each step looks at both; what is refused, and in which order. tests/run compares what it
- * prints with cartridge.expected. A chosen font is followed by its record's length, kind,
- * number, characters and data bytes. */
+ * how each step looks at both; what is refused, and in which order. tests/run and tests/header
+ * compare what it prints with cartridge.expected. A chosen font is followed by its record's
+ * length, kind, number, characters and data bytes. */
 #include "marlinfold.h"
 
 #include <stdio.h>
@@ -138,7 +138,7 @@ static void show_record(const uint8_t *store, size_t length, const uint8_t *reco
 /* The bytes of a store in memory of just its length, so that valgrind sees what is read beyond. */
 static uint8_t *exact(uint32_t which)
 {
-    uint8_t *made = malloc(lengths[which] ? lengths[which] : 1);
+    uint8_t *made = (uint8_t *)malloc(lengths[which] ? lengths[which] : 1);
     if (!made)
         exit(2);
     memcpy(made, stores[which], lengths[which]);
