@@ -1,7 +1,7 @@
-//! Choosing. It sees the kept fonts' numbers and headers only.
+//! Choosing. It sees the kept fonts' numbers, headers and places only.
 
 use crate::block::{Header, HIGH};
-use crate::store::{View, FONT_MAX};
+use crate::store::View;
 use crate::{Answer, Refusal, Request};
 
 /// "8U (Roman-8) is 277".
@@ -13,6 +13,12 @@ const PITCH_LIMIT: u64 = 61_440_000;
 const HEIGHT_LEVEL: u32 = 6_400;
 /// 02, W-201: "A label sheet asks for up to 64 fonts."
 const SHEET_MAX: usize = 64;
+/// 02, W-208: "which store that is (1 soft, 2 cartridge)". One store alone is a soft
+/// one.
+const SOFT: u32 = 1;
+const CARTRIDGE: u32 = 2;
+/// The standing of a font that takes no part, above all others.
+const NO_PART: u64 = u64::MAX;
 
 impl Request {
     /// 01, Choosing: "A request: symbol set 0..2047, spacing 0 or 1, pitch R in
@@ -38,10 +44,22 @@ pub fn choose(view: &View, request: &Request) -> Result<u32, Refusal> {
     if !request.is_in_range() {
         return Err(Refusal::OutOfRange);
     }
-    view.fonts()
-        .filter_map(|(font, header)| standing(request, font, header))
-        .min()
-        .map(|best| best as u32 & FONT_MAX)
+    best(view, SOFT, request)
+        .map(|best| best.font)
+        .ok_or(Refusal::NoneToChoose)
+}
+
+/// 02, W-208: "A second choosing call should look at two lent stores, soft fonts and
+/// our cartridge dump". "Refusals: 1 if either isn't a store, then 2, 11."
+pub fn choose_from_two(soft: &View, cartridge: &View, request: &Request) -> Result<Best, Refusal> {
+    if !request.is_in_range() {
+        return Err(Refusal::OutOfRange);
+    }
+    let soft = best(soft, SOFT, request);
+    let cartridge = best(cartridge, CARTRIDGE, request);
+    soft.into_iter()
+        .chain(cartridge)
+        .min_by_key(|best| best.standing)
         .ok_or(Refusal::NoneToChoose)
 }
 
@@ -73,20 +91,50 @@ pub fn choose_sheet(
     Ok(())
 }
 
-/// Where a font stands before this request, the lowest chosen, or nothing if it
-/// takes no part: it has neither the set asked for nor Roman-8, or (02, W-206) "In
-/// mode 300 the 600 dpi fonts take no part in choosing".
+/// The font with the lowest standing: its number, the store that holds it, and where
+/// its record begins there.
+pub struct Best {
+    standing: u64,
+    pub font: u32,
+    pub which: u32,
+    pub at: usize,
+}
+
+/// The best of a store's fonts, in one pass; nothing if none of them takes part.
+fn best(view: &View, which: u32, request: &Request) -> Option<Best> {
+    let mut lowest = NO_PART;
+    let mut best = None;
+    for font in view.fonts() {
+        let standing = standing(request, which, font.header);
+        // "9. The lowest font number." They come by rising number, and no two of
+        // different stores are level.
+        if standing < lowest {
+            lowest = standing;
+            best = Some(font);
+        }
+    }
+    best.map(|font| Best {
+        standing: lowest,
+        font: font.number,
+        which,
+        at: font.at,
+    })
+}
+
+/// Where a font of one of the stores stands before this request, the lowest chosen,
+/// or that it takes no part: it has neither the set asked for nor Roman-8, or (02,
+/// W-206) "In mode 300 the 600 dpi fonts take no part in choosing".
 ///
 /// Each step of the elimination keeps, of the fonts left, those with the lowest
-/// rank in that step; so the steps in turn leave the font whose ranks, read one
-/// behind the other, are lowest. They stand here in one number, the first step
-/// highest.
-fn standing(request: &Request, font: u32, header: Header) -> Option<u128> {
+/// rank in that step; so the steps in turn leave the fonts whose ranks, read one
+/// after the other, are lowest. They stand here in one number of 62 bits, the first
+/// step highest; the last step, the number, is left to `best`.
+fn standing(request: &Request, which: u32, header: Header) -> u64 {
     if request.mode == 300 && header.resolution() == HIGH {
-        return None;
+        return NO_PART;
     }
     let mut standing = 0;
-    let mut step = |bits: u32, rank: u32| standing = standing << bits | u128::from(rank);
+    let mut step = |bits: u32, rank: u32| standing = standing << bits | u64::from(rank);
     // "1. The set asked for; if none has it, Roman-8; if none, 11."
     let set = u32::from(header.symbol_set());
     if set == request.symbol_set {
@@ -94,7 +142,7 @@ fn standing(request: &Request, font: u32, header: Header) -> Option<u128> {
     } else if set == ROMAN_8 {
         step(1, 1);
     } else {
-        return None;
+        return NO_PART;
     }
     // "2. The spacing asked for, else the other."
     let spacing = u32::from(header.spacing());
@@ -144,12 +192,13 @@ fn standing(request: &Request, font: u32, header: Header) -> Option<u128> {
     // 02, W-206: "in mode 600 a 600 dpi font goes before a 300 dpi one, as a new step
     // between typeface and orientation." In mode 300 all have 300.
     step(1, u32::from(u32::from(header.resolution()) != request.mode));
+    // 02, W-208: "A soft font goes before a cartridge font just ahead of the
+    // orientation step".
+    step(1, which - SOFT);
     // "8. The page's orientation, if any has it."
     step(
         1,
         u32::from(u32::from(header.orientation()) != request.orientation),
     );
-    // "9. The lowest font number."
-    step(15, font);
-    Some(standing)
+    standing
 }

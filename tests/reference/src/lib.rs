@@ -62,6 +62,16 @@ pub struct Chosen {
     pub font: u32,
 }
 
+/// What choosing from two stores answers: the font number, and (02, W-208) "which
+/// store that is (1 soft, 2 cartridge)" that holds it and its record's place there.
+#[derive(Clone, Copy, Debug, Default, PartialEq, Eq)]
+pub struct ChosenRecord {
+    pub refusal: u32,
+    pub font: u32,
+    pub which: u32,
+    pub place: u64,
+}
+
 /// What telling answers: "the number of characters or of data bytes".
 #[derive(Clone, Copy, Debug, Default, PartialEq, Eq)]
 pub struct Told {
@@ -170,6 +180,23 @@ pub fn choose(store: &[u8], request: &Request) -> Chosen {
 
 pub fn choose_sheet(store: &[u8], requests: &[Request], answers: &mut [Answer]) -> u32 {
     number(View::of(store).and_then(|view| choice::choose_sheet(&view, requests, answers)))
+}
+
+/// Both may be one buffer.
+pub fn choose_from_two(soft: &[u8], cartridge: &[u8], request: &Request) -> ChosenRecord {
+    let views = View::of(soft).and_then(|soft| Ok((soft, View::of(cartridge)?)));
+    match views.and_then(|(soft, cartridge)| choice::choose_from_two(&soft, &cartridge, request)) {
+        Ok(best) => ChosenRecord {
+            refusal: 0,
+            font: best.font,
+            which: best.which,
+            place: best.at as u64,
+        },
+        Err(refusal) => ChosenRecord {
+            refusal: refusal as u32,
+            ..ChosenRecord::default()
+        },
+    }
 }
 
 pub fn tell_font(store: &[u8], out: &mut [u8], font: u32) -> Told {

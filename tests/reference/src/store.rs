@@ -337,6 +337,13 @@ fn end_of_font(records: &[u8], from: usize, font: u32) -> usize {
     at
 }
 
+/// A kept font, and where its record begins.
+pub struct Font<'a> {
+    pub at: usize,
+    pub number: u32,
+    pub header: Header<'a>,
+}
+
 /// A kept character.
 pub struct Character<'a> {
     pub code: u32,
@@ -381,7 +388,7 @@ impl<'a> View<'a> {
     }
 
     /// Every font by rising number.
-    pub fn fonts(&self) -> impl Iterator<Item = (u32, Header<'a>)> {
+    pub fn fonts(&self) -> impl Iterator<Item = Font<'a>> {
         let records = self.records;
         let mut at = MARK_RECORD;
         std::iter::from_fn(move || {
@@ -389,7 +396,11 @@ impl<'a> View<'a> {
                 let record = at;
                 at += length_at(records, at);
                 if kind_at(records, record) == FONT_KIND {
-                    return Some((font_at(records, record), header_at(records, record)));
+                    return Some(Font {
+                        at: record,
+                        number: font_at(records, record),
+                        header: header_at(records, record),
+                    });
                 }
             }
             None

@@ -364,6 +364,55 @@ fn chance_calls_agree_with_the_model() {
     }
 }
 
+/// W-208: two stores, each with chance calls of its own. Headers go from one to the
+/// other, with the orientation changed or as they are, so that fonts of both are level.
+#[test]
+fn chance_choices_from_two_stores_agree_with_the_model() {
+    let mut met = [0; 15];
+    let mut from = [0; 3];
+    for seed in 0..300 {
+        let mut chance = Chance::new(3000 + seed);
+        let lengths = [(); 2].map(|()| chance.of(&[12, 94, 300, 800, 2000]));
+        let mut stores = lengths.map(fresh);
+        let mut models = lengths.map(Model::fresh);
+        for _ in 0..40 {
+            let (one, other) = chance.of(&[(0, 1), (1, 0)]);
+            let fonts = models[other].fonts.values();
+            let mut headers: Vec<Vec<u8>> = fonts.map(|font| font.header.clone()).collect();
+            if headers.is_empty() || chance.once_in(3) {
+                call(
+                    &mut chance,
+                    &mut stores[one],
+                    &mut models[one],
+                    &mut [0; 15],
+                );
+            } else {
+                let mut block = headers.swap_remove(chance.below(headers.len()));
+                block[12] = chance.of(&[block[12], 0, 1]);
+                let font = some_font(&mut chance);
+                let refusal = download_font(&mut stores[one], &block, font);
+                let answer = models[one].download_font(&block, font);
+                assert_eq!(refusal, model::number(answer));
+            }
+            for _ in 0..4 {
+                let request = request(&mut chance);
+                let answer = choose_from_two(&stores[0], &stores[1], &request);
+                let expected = models[0].choose_from_two(&models[1], &request);
+                assert_eq!(answer, model::chosen_record(expected), "seed {seed}");
+                met[answer.refusal as usize] += 1;
+                from[answer.which as usize] += 1;
+                let same = choose_from_two(&stores[0], &stores[0], &request);
+                let expected = models[0].choose_from_two(&models[0], &request);
+                assert_eq!(same, model::chosen_record(expected), "seed {seed}");
+            }
+        }
+    }
+    for (refusal, times) in met.iter().enumerate() {
+        assert!((*times > 0) == [0, 2, 11].contains(&refusal), "{refusal}");
+    }
+    assert!(from[1] > 1000 && from[2] > 1000, "{from:?}");
+}
+
 /// A stream's commands rest on one check and on what the reading remembers of
 /// the commands before; each call made alone does not.
 #[test]
@@ -476,6 +525,9 @@ fn refuses_all(bytes: &mut [u8], chance: &mut Chance) {
         remove_character(bytes, font, code),
         choose(bytes, &request(chance)).refusal,
         choose_sheet(bytes, &sheet(chance), &mut answers),
+        choose_from_two(bytes, &fresh(12), &request(chance)).refusal,
+        choose_from_two(&fresh(12), bytes, &request(chance)).refusal,
+        choose_from_two(bytes, bytes, &request(chance)).refusal,
         tell_font(bytes, &mut out, font).refusal,
         tell_character(bytes, &mut out, font, code).refusal,
         draw_row(bytes, &mut out, font, code, 0),
@@ -485,7 +537,7 @@ fn refuses_all(bytes: &mut [u8], chance: &mut Chance) {
         write_profiled(bytes, &mut out, font).refusal,
         read_stream(bytes, b"?").refusal,
     ];
-    assert_eq!(refusals, [1; 14]);
+    assert_eq!(refusals, [1; 17]);
     assert_eq!(bytes, before);
     assert_eq!(out, [0xAA; 100]);
     assert_eq!(answers, [UNWRITTEN; 64]);

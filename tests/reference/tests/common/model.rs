@@ -2,7 +2,9 @@
 //! sorted maps, pictures as dots, elimination step by step, and the store's
 //! bytes made anew after each call. Nothing here is shared with the library.
 
-use marlinfold_reference::{Answer, Chosen, Profile, Request, StreamRead, Told, Written};
+use marlinfold_reference::{
+    Answer, Chosen, ChosenRecord, Profile, Request, StreamRead, Told, Written,
+};
 use std::collections::BTreeMap;
 
 #[derive(Clone, PartialEq, Debug)]
@@ -407,97 +409,25 @@ impl Model {
     }
 
     pub fn choose(&self, request: &Request) -> Result<u32, u32> {
-        let tops = [2047, 1, 57600, 99975, 1023, 65535, 3];
-        let numbers = [
-            request.symbol_set,
-            request.spacing,
-            request.pitch,
-            request.height,
-            request.style,
-            request.typeface,
-            request.orientation,
-        ];
-        let above = numbers.iter().zip(tops).any(|(&number, top)| number > top);
-        if above || request.weight < -7 || request.weight > 7 {
-            return Err(2);
-        }
-        if request.mode != 300 && request.mode != 600 {
-            return Err(2);
-        }
-        let fine = |f: &(u32, &[u8])| be(f.1, 64) == 600;
-        let mut left: Vec<(u32, &[u8])> = Vec::new();
-        for (&number, font) in &self.fonts {
-            left.push((number, &font.header));
-        }
-        if request.mode == 300 {
-            left.retain(|f| !fine(f));
-        }
-        let set = |f: &(u32, &[u8])| be(f.1, 14);
-        let asked = i64::from(request.symbol_set);
-        let wanted = if left.iter().any(|f| set(f) == asked) {
-            asked
-        } else {
-            277
-        };
-        left.retain(|f| set(f) == wanted);
-        if left.is_empty() {
-            return Err(11);
-        }
-        prefer(&mut left, |f| u32::from(f.1[13]) == request.spacing);
-        if left.iter().all(|f| f.1[13] == 0) {
-            let pitch = |f: &(u32, &[u8])| {
-                let of_300 = if fine(f) { 1 } else { 2 };
-                of_300 * (256 * be(f.1, 16) + i64::from(f.1[40]))
-            };
-            let qualifies = |f: &(u32, &[u8])| i64::from(request.pitch) * pitch(f) <= 61_440_000;
-            let best = match left.iter().filter(|f| qualifies(f)).map(pitch).max() {
-                Some(greatest) => greatest,
-                None => left.iter().map(pitch).min().unwrap(),
-            };
-            left.retain(|f| pitch(f) == best);
-        }
-        let away = |f: &(u32, &[u8])| {
-            let of_300 = if fine(f) { 1 } else { 2 };
-            let height = of_300 * (256 * be(f.1, 18) + i64::from(f.1[41]));
-            let distance = (256 * i64::from(request.height) - 3 * height).abs();
-            if distance <= 6400 {
-                0
-            } else {
-                distance
-            }
-        };
-        let least = left.iter().map(away).min().unwrap();
-        left.retain(|f| away(f) == least);
-        prefer(&mut left, |f| {
-            u32::from(f.1[4]) * 256 + u32::from(f.1[23]) == request.style
-        });
-        let weight = |f: &(u32, &[u8])| signed(i64::from(f.1[24]), 8) as i32;
-        let thicker = left
-            .iter()
-            .map(weight)
-            .filter(|&w| w > request.weight)
-            .min();
-        let thinner = left
-            .iter()
-            .map(weight)
-            .filter(|&w| w < request.weight)
-            .max();
-        let best = if left.iter().any(|f| weight(f) == request.weight) {
-            request.weight
-        } else if request.weight >= 0 {
-            thicker.or(thinner).unwrap()
-        } else {
-            thinner.or(thicker).unwrap()
-        };
-        left.retain(|f| weight(f) == best);
-        prefer(&mut left, |f| {
-            u32::from(f.1[26]) * 256 + u32::from(f.1[25]) == request.typeface
-        });
-        if request.mode == 600 {
-            prefer(&mut left, fine);
-        }
-        prefer(&mut left, |f| u32::from(f.1[12]) == request.orientation);
-        Ok(left.iter().map(|f| f.0).min().unwrap())
+        Ok(choose_among(&[self], request)?.1)
+    }
+
+    /// W-208: which store, the font number, and its record's place.
+    pub fn choose_from_two(
+        &self,
+        cartridge: &Model,
+        request: &Request,
+    ) -> Result<(u32, u32, u64), u32> {
+        let stores = [self, cartridge];
+        let (store, font) = choose_among(&stores, request)?;
+        Ok((1 + store as u32, font, stores[store].place(font)))
+    }
+
+    /// Where a kept font's record begins: after the records of all lower ones.
+    fn place(&self, font: u32) -> u64 {
+        let mut before = self.clone();
+        before.fonts.retain(|&number, _| number < font);
+        before.records().len() as u64
     }
 
     pub fn choose_sheet(&self, requests: &[Request], answers: &mut [Answer]) -> Result<(), u32> {
@@ -613,6 +543,120 @@ impl Model {
     }
 }
 
+/// A font that the steps so far have left, and the place of its store in the list.
+struct Left<'a> {
+    store: usize,
+    number: u32,
+    header: &'a [u8],
+}
+
+/// The steps over the fonts of one store, or of two of which the first has the soft
+/// fonts (W-208): the store's place in the list, and the font number.
+fn choose_among(stores: &[&Model], request: &Request) -> Result<(usize, u32), u32> {
+    let tops = [2047, 1, 57600, 99975, 1023, 65535, 3];
+    let numbers = [
+        request.symbol_set,
+        request.spacing,
+        request.pitch,
+        request.height,
+        request.style,
+        request.typeface,
+        request.orientation,
+    ];
+    let above = numbers.iter().zip(tops).any(|(&number, top)| number > top);
+    if above || request.weight < -7 || request.weight > 7 {
+        return Err(2);
+    }
+    if request.mode != 300 && request.mode != 600 {
+        return Err(2);
+    }
+    let fine = |f: &Left| be(f.header, 64) == 600;
+    let mut left: Vec<Left> = Vec::new();
+    for (store, model) in stores.iter().enumerate() {
+        for (&number, font) in &model.fonts {
+            let header = &font.header;
+            left.push(Left {
+                store,
+                number,
+                header,
+            });
+        }
+    }
+    if request.mode == 300 {
+        left.retain(|f| !fine(f));
+    }
+    let set = |f: &Left| be(f.header, 14);
+    let asked = i64::from(request.symbol_set);
+    let wanted = if left.iter().any(|f| set(f) == asked) {
+        asked
+    } else {
+        277
+    };
+    left.retain(|f| set(f) == wanted);
+    if left.is_empty() {
+        return Err(11);
+    }
+    prefer(&mut left, |f| u32::from(f.header[13]) == request.spacing);
+    if left.iter().all(|f| f.header[13] == 0) {
+        let pitch = |f: &Left| {
+            let of_300 = if fine(f) { 1 } else { 2 };
+            of_300 * (256 * be(f.header, 16) + i64::from(f.header[40]))
+        };
+        let qualifies = |f: &Left| i64::from(request.pitch) * pitch(f) <= 61_440_000;
+        let best = match left.iter().filter(|f| qualifies(f)).map(pitch).max() {
+            Some(greatest) => greatest,
+            None => left.iter().map(pitch).min().unwrap(),
+        };
+        left.retain(|f| pitch(f) == best);
+    }
+    let away = |f: &Left| {
+        let of_300 = if fine(f) { 1 } else { 2 };
+        let height = of_300 * (256 * be(f.header, 18) + i64::from(f.header[41]));
+        let distance = (256 * i64::from(request.height) - 3 * height).abs();
+        if distance <= 6400 {
+            0
+        } else {
+            distance
+        }
+    };
+    let least = left.iter().map(away).min().unwrap();
+    left.retain(|f| away(f) == least);
+    prefer(&mut left, |f| {
+        u32::from(f.header[4]) * 256 + u32::from(f.header[23]) == request.style
+    });
+    let weight = |f: &Left| signed(i64::from(f.header[24]), 8) as i32;
+    let thicker = left
+        .iter()
+        .map(weight)
+        .filter(|&w| w > request.weight)
+        .min();
+    let thinner = left
+        .iter()
+        .map(weight)
+        .filter(|&w| w < request.weight)
+        .max();
+    let best = if left.iter().any(|f| weight(f) == request.weight) {
+        request.weight
+    } else if request.weight >= 0 {
+        thicker.or(thinner).unwrap()
+    } else {
+        thinner.or(thicker).unwrap()
+    };
+    left.retain(|f| weight(f) == best);
+    prefer(&mut left, |f| {
+        u32::from(f.header[26]) * 256 + u32::from(f.header[25]) == request.typeface
+    });
+    if request.mode == 600 {
+        prefer(&mut left, fine);
+    }
+    prefer(&mut left, |f| f.store == 0);
+    prefer(&mut left, |f| {
+        u32::from(f.header[12]) == request.orientation
+    });
+    let lowest = left.iter().min_by_key(|f| f.number).unwrap();
+    Ok((lowest.store, lowest.number))
+}
+
 fn broken(read: StreamRead, at: usize) -> StreamRead {
     StreamRead {
         refusal: 13,
@@ -646,7 +690,7 @@ fn split(stream: &[u8], at: usize) -> Option<(String, u32, char, usize)> {
     ))
 }
 
-fn prefer(left: &mut Vec<(u32, &[u8])>, has: impl Fn(&(u32, &[u8])) -> bool) {
+fn prefer(left: &mut Vec<Left>, has: impl Fn(&Left) -> bool) {
     if left.iter().any(&has) {
         left.retain(has);
     }
@@ -675,6 +719,16 @@ pub fn chosen(result: Result<u32, u32>) -> Chosen {
     Chosen {
         refusal: result.err().unwrap_or(0),
         font: result.unwrap_or(0),
+    }
+}
+
+pub fn chosen_record(result: Result<(u32, u32, u64), u32>) -> ChosenRecord {
+    let (which, font, place) = result.unwrap_or((0, 0, 0));
+    ChosenRecord {
+        refusal: result.err().unwrap_or(0),
+        font,
+        which,
+        place,
     }
 }
 
