@@ -1,8 +1,10 @@
 //! Demand 3's book: the fonts meant, made from the calls and their answers and
-//! never from the store; and the steps as document 01 words them, with those and the
-//! numbers of W-202 and W-206.
+//! never from the store, save that a dump's (W-208) starts with the fonts in its
+//! records; and the steps as document 01 words them, with those and the numbers of
+//! W-202, W-206 and W-208.
 
 use crate::calls::{Answer, Call, Request};
+use crate::generate;
 use std::collections::BTreeMap;
 
 /// The 64 kept bytes and the resolutions.
@@ -12,6 +14,10 @@ pub type Header = [u8; 68];
 pub struct Book {
     pub fonts: BTreeMap<u32, Header>,
 }
+
+/// W-208: "which store that is (1 soft, 2 cartridge)". One store alone is a soft one.
+pub const SOFT: u32 = 1;
+pub const CARTRIDGE: u32 = 2;
 
 fn field(header: &Header, at: usize) -> u32 {
     256 * u32::from(header[at]) + u32::from(header[at + 1])
@@ -47,6 +53,33 @@ fn kept(block: &[u8]) -> Header {
 }
 
 impl Book {
+    /// W-208: "a dump that these calls didn't make starts its book with the fonts in
+    /// its records".
+    pub fn of_dump(store: &[u8]) -> Book {
+        let records = generate::records(store);
+        let fonts = records.iter().filter(|record| record.code.is_none());
+        Book {
+            fonts: fonts
+                .map(|font| {
+                    let record = &store[font.at..font.at + font.length];
+                    let header = &record[generate::FONT_KEPT..];
+                    (font.font, header.try_into().expect("68 kept bytes"))
+                })
+                .collect(),
+        }
+    }
+
+    /// Its fonts, as those of the soft store or of the cartridge.
+    pub fn fonts_of(&self, which: u32) -> Vec<Font<'_>> {
+        let all = self.fonts.iter();
+        all.map(|(&number, header)| Font {
+            which,
+            number,
+            header,
+        })
+        .collect()
+    }
+
     /// What a call and its answer make of the book; a stream comes as the
     /// downloads that it spells.
     pub fn note(&mut self, call: &Call, answer: &Answer) {
@@ -63,23 +96,27 @@ impl Book {
     }
 }
 
-/// A font of the book, with the numbers that the steps read.
+/// A font of a book, with the numbers that the steps read.
 #[derive(Clone, Copy)]
 pub struct Font<'a> {
+    pub which: u32,
     pub number: u32,
-    header: &'a Header,
+    pub header: &'a Header,
 }
 
-impl<'a> Font<'a> {
-    pub fn new(number: u32, header: &'a Header) -> Font<'a> {
-        Font { number, header }
+/// W-208: "A font is the pair of store and number".
+pub type Named = (u32, u32);
+
+impl Font<'_> {
+    pub fn name(&self) -> Named {
+        (self.which, self.number)
     }
 
     pub fn symbol_set(&self) -> u32 {
         field(self.header, 14)
     }
 
-    fn spacing(&self) -> u32 {
+    pub fn spacing(&self) -> u32 {
         u32::from(self.header[13])
     }
 
@@ -96,31 +133,31 @@ impl<'a> Font<'a> {
     }
 
     /// W-202: "Pitch becomes 256 x field + byte 40, height 256 x field + byte 41."
-    fn pitch(&self) -> u64 {
+    pub fn pitch(&self) -> u64 {
         self.in_2400ths(256 * u64::from(field(self.header, 16)) + u64::from(self.header[40]))
     }
 
-    fn height(&self) -> i64 {
+    pub fn height(&self) -> i64 {
         let number = 256 * u64::from(field(self.header, 18)) + u64::from(self.header[41]);
         self.in_2400ths(number) as i64
     }
 
-    fn style(&self) -> u32 {
+    pub fn style(&self) -> u32 {
         256 * u32::from(self.header[4]) + u32::from(self.header[23])
     }
 
-    fn weight(&self) -> i32 {
+    pub fn weight(&self) -> i32 {
         match i32::from(self.header[24]) {
             byte @ 128.. => byte - 256,
             byte => byte,
         }
     }
 
-    fn typeface(&self) -> u32 {
+    pub fn typeface(&self) -> u32 {
         256 * u32::from(self.header[26]) + u32::from(self.header[25])
     }
 
-    fn orientation(&self) -> u32 {
+    pub fn orientation(&self) -> u32 {
         u32::from(self.header[12])
     }
 
@@ -146,10 +183,10 @@ fn if_any<'a>(fonts: &[Font<'a>], has: impl Fn(&Font) -> bool) -> Vec<Font<'a>> 
     }
 }
 
-/// The steps on these fonts: the number left, or none.
-pub fn chosen(request: &Request, fonts: &[Font]) -> Option<u32> {
+/// The steps on these fonts up to the typeface: those left, or none.
+pub fn up_to_typeface<'a>(request: &Request, fonts: &[Font<'a>]) -> Option<Vec<Font<'a>>> {
     // 1
-    let with = |set: u32| -> Vec<Font> {
+    let with = |set: u32| -> Vec<Font<'a>> {
         let all = fonts.iter().copied();
         all.filter(|font| font.takes_part_in(request.mode) && font.symbol_set() == set)
             .collect()
@@ -197,15 +234,27 @@ pub fn chosen(request: &Request, fonts: &[Font]) -> Option<u32> {
     };
     left.retain(|font| font.weight() == wanted);
     // 7
-    left = if_any(&left, |font| font.typeface() == request.typeface);
-    // W-206: "in mode 600 a 600 dpi font goes before a 300 dpi one"
-    if request.mode == 600 {
-        left = if_any(&left, |font| font.resolution() == 600);
+    Some(if_any(&left, |font| font.typeface() == request.typeface))
+}
+
+/// W-206: "in mode 600 a 600 dpi font goes before a 300 dpi one", after the typeface.
+pub fn by_resolution<'a>(request: &Request, left: Vec<Font<'a>>) -> Vec<Font<'a>> {
+    match request.mode {
+        600 => if_any(&left, |font| font.resolution() == 600),
+        _ => left,
     }
+}
+
+/// The steps on these fonts: the one left, or none.
+pub fn chosen(request: &Request, fonts: &[Font]) -> Option<Named> {
+    let mut left = by_resolution(request, up_to_typeface(request, fonts)?);
+    // W-208: "A soft font goes before a cartridge font just ahead of the orientation
+    // step"
+    left = if_any(&left, |font| font.which == SOFT);
     // 8
     left = if_any(&left, |font| font.orientation() == request.orientation);
     // 9
-    left.iter().map(|font| font.number).min()
+    left.iter().min_by_key(|font| font.number).map(Font::name)
 }
 
 /// "A beats B if these steps, worked on those of the two alone that take part,
@@ -213,7 +262,51 @@ pub fn chosen(request: &Request, fonts: &[Font]) -> Option<u32> {
 pub fn beats(a: Font, b: Font, request: &Request) -> bool {
     let mut two = vec![a, b];
     two.retain(|font| font.takes_part(request));
-    chosen(request, &two) == Some(a.number)
+    chosen(request, &two) == Some(a.name())
+}
+
+/// That an answer of choosing, which names this font of all these, is right: "is one
+/// of these, beats every other, is the only one that no other beats; refused exactly
+/// when none takes part". The font, or what is wrong.
+pub fn right_choice<'a>(
+    answer: &Answer,
+    name: Named,
+    request: &Request,
+    fonts: &[Font<'a>],
+) -> Result<Option<Font<'a>>, String> {
+    if !fonts.iter().any(|font| font.takes_part(request)) {
+        if answer.refusal != 11 || answer.numbers != [0; 3] {
+            return Err("but none takes part".into());
+        }
+        return Ok(None);
+    }
+    if answer.refusal != 0 {
+        return Err("but some font takes part".into());
+    }
+    let Some(choice) = fonts.iter().find(|font| font.name() == name) else {
+        return Err("no font of the book".into());
+    };
+    for other in fonts {
+        if other.name() == name {
+            continue;
+        }
+        if !beats(*choice, *other, request) {
+            return Err(format!("does not beat {:?}", other.name()));
+        }
+        if beats(*other, *choice, request) {
+            return Err(format!("is beaten by {:?}", other.name()));
+        }
+    }
+    if fonts.len() <= 16 {
+        let beaten = |font: &Font| {
+            let mut others = fonts.iter().filter(|other| other.name() != font.name());
+            others.any(|other| beats(*other, *font, request))
+        };
+        if fonts.iter().filter(|font| !beaten(font)).count() != 1 {
+            return Err("not the only one that no other beats".into());
+        }
+    }
+    Ok(Some(*choice))
 }
 
 /// What a stream spells: its whole commands before any 13, as downloads with

@@ -9,6 +9,14 @@ pub struct Chosen {
 }
 
 #[repr(C)]
+pub struct ChosenRecord {
+    pub refusal: u32,
+    pub font: u32,
+    pub which: u32,
+    pub place: u64,
+}
+
+#[repr(C)]
 pub struct Told {
     pub refusal: u32,
     pub count: u32,
@@ -75,6 +83,21 @@ extern "C" {
         answers: *mut Answer,
         answer_count: usize,
     ) -> u32;
+    pub fn mf_choose_from_two(
+        soft: *const u8,
+        soft_len: usize,
+        cartridge: *const u8,
+        cartridge_len: usize,
+        symbol_set: u32,
+        spacing: u32,
+        pitch: u32,
+        height: u32,
+        style: u32,
+        weight: i32,
+        typeface: u32,
+        orientation: u32,
+        mode: u32,
+    ) -> ChosenRecord;
     pub fn mf_tell_font(
         store: *const u8,
         store_len: usize,

@@ -68,12 +68,27 @@ pub enum Call {
         out: Vec<u8>,
         font: u32,
     },
+    ChooseFromTwo {
+        request: Request,
+        other: Other,
+    },
+}
+
+/// W-208: what stands beside the store that a choice from two is made on.
+#[derive(Clone)]
+pub enum Other {
+    /// The store holds the soft fonts.
+    Cartridge(Vec<u8>),
+    /// The store is the cartridge.
+    Soft(Vec<u8>),
+    /// One buffer is both.
+    Same,
 }
 
 /// "an answer is the font number, then the refusal number; all of 32 bits"
 pub const ANSWER: usize = 8;
 
-pub const CALLS: usize = 15;
+pub const CALLS: usize = 16;
 
 pub const NAMES: [&str; CALLS] = [
     "make_fresh",
@@ -91,6 +106,7 @@ pub const NAMES: [&str; CALLS] = [
     "read_stream",
     "check_profile",
     "write_profiled",
+    "choose_from_two",
 ];
 
 /// The refusals that documents 01 and 02 list for each call, 0 among them.
@@ -110,6 +126,7 @@ pub const POSSIBLE: [&[usize]; CALLS] = [
     &[0, 1, 13],
     &[0, 1, 2, 6],
     &[0, 1, 2, 6, 12, 14],
+    &[0, 1, 2, 11],
 ];
 
 impl Call {
@@ -131,6 +148,7 @@ impl Call {
             Call::ReadStream { .. } => 12,
             Call::CheckProfile { .. } => 13,
             Call::WriteProfiled { .. } => 14,
+            Call::ChooseFromTwo { .. } => 15,
         }
     }
 
@@ -202,6 +220,14 @@ impl fmt::Display for Call {
                 out.len()
             ),
             Call::ReadStream { stream } => write!(f, " {}", Shown(stream)),
+            Call::ChooseFromTwo { request, other } => {
+                write!(f, " {request:?}, ")?;
+                match other {
+                    Other::Cartridge(bytes) => write!(f, "cartridge {}", Shown(bytes)),
+                    Other::Soft(bytes) => write!(f, "soft store {}", Shown(bytes)),
+                    Other::Same => write!(f, "one buffer as both"),
+                }
+            }
         }
     }
 }
@@ -404,7 +430,11 @@ pub fn ours(
     match call {
         Call::DownloadFont { block, .. }
         | Call::DownloadCharacter { block, .. }
-        | Call::ReadStream { stream: block } => {
+        | Call::ReadStream { stream: block }
+        | Call::ChooseFromTwo {
+            other: Other::Cartridge(block) | Other::Soft(block),
+            ..
+        } => {
             only_read = block;
             read = Some(lending.lend(block, chance));
         }
@@ -424,8 +454,8 @@ pub fn ours(
         Some(lent) => (lent.pointer(), lent.len()),
         None => (std::ptr::dangling_mut(), 0),
     };
-    // SAFETY: each pointer is valid for the length beside it, none overlap, and
-    // none is kept after the call.
+    // SAFETY: each pointer is valid for the length beside it, none overlap (save the
+    // two of a choice, which only reads them), and none is kept after the call.
     let answer = unsafe {
         match *call {
             Call::MakeFresh => Answer::bare(c::mf_make_fresh(at, len)),
@@ -482,6 +512,37 @@ pub fn ours(
                 let written = c::mf_write_profiled(at, len, to, to_len, font);
                 Answer::one(written.refusal, written.length)
             }
+            Call::ChooseFromTwo { request, ref other } => {
+                let store = (at.cast_const(), len);
+                let [soft, cartridge] = match other {
+                    Other::Cartridge(_) => [store, (block, block_len)],
+                    Other::Soft(_) => [(block, block_len), store],
+                    Other::Same => [store, store],
+                };
+                let chosen = c::mf_choose_from_two(
+                    soft.0,
+                    soft.1,
+                    cartridge.0,
+                    cartridge.1,
+                    request.symbol_set,
+                    request.spacing,
+                    request.pitch,
+                    request.height,
+                    request.style,
+                    request.weight,
+                    request.typeface,
+                    request.orientation,
+                    request.mode,
+                );
+                Answer {
+                    refusal: chosen.refusal,
+                    numbers: [
+                        u64::from(chosen.font),
+                        u64::from(chosen.which),
+                        chosen.place,
+                    ],
+                }
+            }
             Call::ReadStream { .. } => {
                 let read = c::mf_read_stream(at, len, block, block_len);
                 Answer {
@@ -493,9 +554,9 @@ pub fn ours(
     };
     store.check_guards("store")?;
     if let Some(lent) = read {
-        lent.check_guards("block")?;
+        lent.check_guards("read buffer")?;
         if lent.content() != only_read {
-            return Err("block: changed".into());
+            return Err("read buffer: changed".into());
         }
     }
     let out = match out {
@@ -567,6 +628,22 @@ pub fn theirs(call: &Call, store: &mut [u8]) -> Outcome {
         Call::WriteProfiled { font, .. } => {
             let written = reference::write_profiled(store, &mut output, *font);
             Answer::one(written.refusal, written.length)
+        }
+        Call::ChooseFromTwo { request, other } => {
+            let (soft, cartridge): (&[u8], &[u8]) = match other {
+                Other::Cartridge(other) => (store, other),
+                Other::Soft(other) => (other, store),
+                Other::Same => (store, store),
+            };
+            let chosen = reference::choose_from_two(soft, cartridge, request);
+            Answer {
+                refusal: chosen.refusal,
+                numbers: [
+                    u64::from(chosen.font),
+                    u64::from(chosen.which),
+                    chosen.place,
+                ],
+            }
         }
         Call::ReadStream { stream } => {
             let read = reference::read_stream(store, stream);

@@ -742,7 +742,7 @@ impl Generator<'_> {
         request
     }
 
-    fn request(&mut self, store: &[u8]) -> Request {
+    pub fn request(&mut self, store: &[u8]) -> Request {
         let mut request = self.good_request(store);
         let chance = &mut *self.chance;
         if chance.once_in(8) {
@@ -867,7 +867,7 @@ impl Generator<'_> {
     }
 
     /// Many fonts, or a character for each code: what fills a large store.
-    fn bulk(&mut self, store: &[u8]) -> Vec<u8> {
+    pub fn bulk(&mut self, store: &[u8]) -> Vec<u8> {
         let mut stream = Vec::new();
         if self.theme == Theme::Fonts {
             let order = self.chance.below(3);

@@ -1,7 +1,7 @@
-//! One history: a store on both sides, the book, chance calls, and after each
+//! One history: a store on both sides, its book, chance calls, and after each
 //! what demands 1 to 3 ask.
 
-use crate::book::{self, Book, Font};
+use crate::book::{self, Book, Font, SOFT};
 use crate::calls::{entries, ours, theirs, Answer, Call, Lending, Lent, Request, ANSWER};
 use crate::chance::Chance;
 use crate::generate::{self, Generator, Reading, Theme, CHARACTER_RECORD, FONT_KEPT, KEPT};
@@ -12,19 +12,19 @@ use marlinfold_reference as reference;
 /// A difference, in words.
 pub type Found<T> = Result<T, String>;
 
-/// The same store on both sides.
-struct Pair {
-    ours: Lent,
-    theirs: Vec<u8>,
+/// The same store on both sides, and its book.
+pub struct Pair {
+    pub ours: Lent,
+    pub theirs: Vec<u8>,
+    pub book: Book,
 }
 
 pub struct History<'a> {
-    chance: Chance,
-    theme: Theme,
-    lending: Lending,
-    trace: bool,
-    met: &'a mut Met,
-    book: Book,
+    pub chance: Chance,
+    pub theme: Theme,
+    pub lending: Lending,
+    pub trace: bool,
+    pub met: &'a mut Met,
 }
 
 /// Runs one history; the difference found, if one is.
@@ -62,7 +62,6 @@ pub fn run(
         lending,
         trace,
         met,
-        book: Book::default(),
     };
     history.lengths_that_are_none()?;
     let before = match history.chance.once_in(2) {
@@ -95,17 +94,27 @@ pub fn run(
 }
 
 impl History<'_> {
-    fn generator(&mut self) -> Generator<'_> {
+    pub fn generator(&mut self) -> Generator<'_> {
         Generator {
             chance: &mut self.chance,
             theme: self.theme,
         }
     }
 
-    fn pair(&mut self, bytes: &[u8]) -> Pair {
+    /// These bytes, with an empty book.
+    pub fn pair(&mut self, bytes: &[u8]) -> Pair {
         Pair {
             ours: self.lending.lend(bytes, &mut self.chance),
             theirs: bytes.to_vec(),
+            book: Book::default(),
+        }
+    }
+
+    /// The store as it is, to make one more call on.
+    pub fn copy(&mut self, pair: &Pair) -> Pair {
+        Pair {
+            book: pair.book.clone(),
+            ..self.pair(&pair.theirs)
         }
     }
 
@@ -127,7 +136,7 @@ impl History<'_> {
     }
 
     /// The call through the C interface alone.
-    fn only_ours(&mut self, store: &mut Lent, call: &Call) -> Found<(Answer, Vec<u8>)> {
+    pub fn only_ours(&mut self, store: &mut Lent, call: &Call) -> Found<(Answer, Vec<u8>)> {
         if self.trace {
             eprintln!("  {call}");
         }
@@ -138,7 +147,7 @@ impl History<'_> {
 
     /// The call on both sides: the same answer, output and store. A refusal
     /// leaves both as they were (demand 1).
-    fn both(&mut self, pair: &mut Pair, call: &Call) -> Found<Answer> {
+    pub fn both(&mut self, pair: &mut Pair, call: &Call) -> Found<Answer> {
         Ok(self.both_with_output(pair, call)?.0)
     }
 
@@ -179,11 +188,21 @@ impl History<'_> {
         Ok((answer, out))
     }
 
-    /// A call of the history: made on both sides, noted in the book, and then
-    /// demand 3 asked.
-    fn step(&mut self, pair: &mut Pair, call: Call) -> Found<()> {
+    /// A call of a store's list: made on both sides, and noted in its book.
+    pub fn noted(&mut self, pair: &mut Pair, call: &Call) -> Found<(Answer, Vec<u8>)> {
         let before = pair.theirs.clone();
-        let (answer, out) = self.both_with_output(pair, &call)?;
+        let (answer, out) = self.both_with_output(pair, call)?;
+        if let Call::ReadStream { stream } = call {
+            self.stream_one_by_one(&before, stream, &answer, pair)?;
+        } else {
+            pair.book.note(call, &answer);
+        }
+        Ok((answer, out))
+    }
+
+    /// A call of the history, and then demand 3 asked.
+    fn step(&mut self, pair: &mut Pair, call: Call) -> Found<()> {
+        let (answer, out) = self.noted(pair, &call)?;
         if let Call::ChooseSheet { requests, .. } = &call {
             if answer.refusal == 0 {
                 self.sheet_one_by_one(pair, requests, &out)?;
@@ -196,12 +215,7 @@ impl History<'_> {
             }
             _ => {}
         }
-        if let Call::ReadStream { stream } = &call {
-            self.stream_one_by_one(&before, stream, &answer, pair)?;
-        } else {
-            self.book.note(&call, &answer);
-        }
-        let requests = if before.len() > 20_000 { 1 } else { 2 };
+        let requests = if pair.theirs.len() > 20_000 { 1 } else { 2 };
         for _ in 0..requests {
             let request = self.generator().good_request(&pair.theirs);
             self.demand_3(pair, &request)?;
@@ -234,14 +248,14 @@ impl History<'_> {
         before: &[u8],
         stream: &[u8],
         answer: &Answer,
-        pair: &Pair,
+        pair: &mut Pair,
     ) -> Found<()> {
         let spelled = book::spelled(stream);
         let mut alone = self.lending.lend(before, &mut self.chance);
         let (mut done, mut refused) = (spelled.done, spelled.refused);
         for call in &spelled.downloads {
             let (answer, _) = self.only_ours(&mut alone, call)?;
-            self.book.note(call, &answer);
+            pair.book.note(call, &answer);
             match answer.refusal {
                 0 => done += 1,
                 _ => refused += 1,
@@ -313,15 +327,16 @@ impl History<'_> {
                 "profile of font {font}: answered {answer:?}; by its words {broken:?}"
             ));
         }
-        self.profile_met(store, font, &broken);
+        self.profile_met(pair, font, &broken);
         Ok(())
     }
 
-    fn profile_met(&mut self, store: &[u8], font: u32, broken: &[(u32, Vec<u32>)]) {
+    fn profile_met(&mut self, pair: &Pair, font: u32, broken: &[(u32, Vec<u32>)]) {
+        let store = pair.ours.content();
         let met = &mut *self.met;
         let Some((rule, codes)) = broken.first() else {
             met.situation("font meets the profile");
-            if self.book.fonts[&font][64] == 2 {
+            if pair.book.fonts[&font][64] == 2 {
                 met.situation("font of 600 dpi meets the profile");
             }
             let incomplete = |code: u32| {
@@ -420,20 +435,20 @@ impl History<'_> {
 
     /// The choice on the store as last left, against the book.
     fn demand_3(&mut self, pair: &mut Pair, request: &Request) -> Found<()> {
-        let book = self.book.clone();
-        let choice = self.choice(&mut pair.ours, request, &book)?;
-        if choice.is_none() && !book.fonts.is_empty() {
+        let choice = self.choice(pair, request)?;
+        let fonts = pair.book.fonts_of(SOFT);
+        if choice.is_none() && !fonts.is_empty() {
             self.met.situation("none takes part though fonts are kept");
             let mode_600 = Request {
                 mode: 600,
                 ..*request
             };
-            if fonts(&book).iter().any(|font| font.takes_part(&mode_600)) {
+            if fonts.iter().any(|font| font.takes_part(&mode_600)) {
                 self.met
                     .situation("none takes part in mode 300, some in mode 600");
             }
         }
-        if choice.is_some() && book.fonts.len() >= 500 {
+        if choice.is_some() && fonts.len() >= 500 {
             self.met.situation("choice among 500 fonts or more");
         }
         if self.chance.once_in(3) {
@@ -445,52 +460,23 @@ impl History<'_> {
         Ok(())
     }
 
-    /// What choosing answers, checked: "is one of these, beats every other, is
-    /// the only one that no other beats; refused exactly when none takes part".
-    fn choice(&mut self, store: &mut Lent, request: &Request, book: &Book) -> Found<Option<u32>> {
+    /// What choosing answers, checked.
+    fn choice(&mut self, pair: &mut Pair, request: &Request) -> Found<Option<u32>> {
         let call = Call::Choose(*request);
-        let (answer, _) = self.only_ours(store, &call)?;
-        let complain = |what: &str| Err(format!("{call}\n  answered {answer:?}: {what}"));
-        let fonts = fonts(book);
-        if !fonts.iter().any(|font| font.takes_part(request)) {
-            if answer.refusal != 11 || answer.numbers != [0; 3] {
-                return complain("but none takes part");
-            }
+        let (answer, _) = self.only_ours(&mut pair.ours, &call)?;
+        let fonts = pair.book.fonts_of(SOFT);
+        let name = (SOFT, answer.number());
+        let Some(choice) = book::right_choice(&answer, name, request, &fonts)
+            .map_err(|what| format!("{call}\n  answered {answer:?}: {what}"))?
+        else {
             return Ok(None);
-        }
-        if answer.refusal != 0 {
-            return complain("but some font takes part");
-        }
-        let Some(choice) = fonts.iter().find(|font| font.number == answer.number()) else {
-            return complain("no font of the book");
         };
-        for other in &fonts {
-            if other.number == choice.number {
-                continue;
-            }
-            if !book::beats(*choice, *other, request) {
-                return complain(&format!("does not beat {}", other.number));
-            }
-            if book::beats(*other, *choice, request) {
-                return complain(&format!("is beaten by {}", other.number));
-            }
-        }
-        if fonts.len() <= 16 {
-            let beaten = |font: &Font| {
-                fonts
-                    .iter()
-                    .any(|other| other.number != font.number && book::beats(*other, *font, request))
-            };
-            if fonts.iter().filter(|font| !beaten(font)).count() != 1 {
-                return complain("not the only one that no other beats");
-            }
-        }
         if choice.symbol_set() != request.symbol_set {
             self.met.situation("Roman-8 chosen for another set");
         }
         if fonts.len() <= 16 {
-            self.chosen_by_extended_bytes(request, book, choice.number);
-            self.chosen_by_resolution(request, book, choice);
+            self.chosen_by_extended_bytes(request, &pair.book, choice.number);
+            self.chosen_by_resolution(request, &pair.book, &choice);
         }
         Ok(Some(choice.number))
     }
@@ -506,7 +492,7 @@ impl History<'_> {
             for header in without.fonts.values_mut() {
                 header[at] = 0;
             }
-            if book::chosen(request, &fonts(&without)) != Some(choice) {
+            if chosen(request, &without) != Some(choice) {
                 self.met.situation(situation);
             }
         }
@@ -519,7 +505,7 @@ impl History<'_> {
             mode: 900 - request.mode,
             ..*request
         };
-        let otherwise = book::chosen(&other_mode, &fonts(book));
+        let otherwise = chosen(&other_mode, book);
         if otherwise != Some(choice.number) {
             self.met.situation(match (request.mode, otherwise) {
                 (600, None) => "choice in mode 600, none in mode 300",
@@ -528,7 +514,8 @@ impl History<'_> {
             });
         }
         if request.mode == 600 && choice.resolution() == 300 {
-            if fonts(book).iter().any(|font| font.resolution() == 600) {
+            let mut fonts = book.fonts_of(SOFT).into_iter();
+            if fonts.any(|font| font.resolution() == 600) {
                 self.met.situation("300 dpi font chosen in mode 600");
             }
         }
@@ -537,7 +524,7 @@ impl History<'_> {
         for header in alike.fonts.values_mut() {
             header[64..].copy_from_slice(&[1, 44, 1, 44]);
         }
-        if book::chosen(request, &fonts(&alike)) != Some(choice.number) {
+        if chosen(request, &alike) != Some(choice.number) {
             self.met.situation("choice by the resolution");
         }
     }
@@ -550,66 +537,65 @@ impl History<'_> {
         request: &Request,
         choice: Option<u32>,
     ) -> Found<()> {
-        let mut others: Vec<u32> = self.book.fonts.keys().copied().collect();
+        let mut others: Vec<u32> = pair.book.fonts.keys().copied().collect();
         others.retain(|&font| Some(font) != choice);
         if others.is_empty() {
             return Ok(());
         }
         let font = self.chance.of(&others);
-        let for_room = match self.chance.once_in(2) {
-            true => self.generator().block_without_room(&pair.theirs, font),
-            false => None,
-        };
-        let (call, removed, situation) = match for_room {
-            Some(block) => (
-                Call::DownloadCharacter {
-                    block,
-                    font,
-                    code: 200,
-                },
-                10,
-                "a font struck for lack of room leaves the choice",
-            ),
-            None => (
-                Call::RemoveFont { font },
-                0,
-                "a font removed leaves the choice",
-            ),
-        };
-        let mut copy = self.pair(&pair.theirs);
-        let answer = self.both(&mut copy, &call)?;
-        if answer.refusal != removed {
-            return Err(format!("{call}\n  answered {answer:?}, not {removed}"));
-        }
-        let mut book = self.book.clone();
-        book.note(&call, &answer);
-        let now = self.choice(&mut copy.ours, request, &book)?;
+        let (call, mut copy) = self.without(pair, font)?;
+        let now = self.choice(&mut copy, request)?;
         if now != choice {
             return Err(format!(
                 "{call}\n  changed the choice from {choice:?} to {now:?} for {request:?}"
             ));
         }
-        self.met.situation(situation);
+        self.met.situation(match call {
+            Call::RemoveFont { .. } => "a font removed leaves the choice",
+            _ => "a font struck for lack of room leaves the choice",
+        });
         Ok(())
+    }
+
+    /// The store after "one more call that removes" this font: a font removal answered
+    /// 0, or a character block answered 10; and the call.
+    pub fn without(&mut self, pair: &Pair, font: u32) -> Found<(Call, Pair)> {
+        let for_room = match self.chance.once_in(2) {
+            true => self.generator().block_without_room(&pair.theirs, font),
+            false => None,
+        };
+        let (call, removed) = match for_room {
+            Some(block) => {
+                let code = 200;
+                (Call::DownloadCharacter { block, font, code }, 10)
+            }
+            None => (Call::RemoveFont { font }, 0),
+        };
+        let mut copy = self.copy(pair);
+        let answer = self.both(&mut copy, &call)?;
+        if answer.refusal != removed {
+            return Err(format!("{call}\n  answered {answer:?}, not {removed}"));
+        }
+        copy.book.note(&call, &answer);
+        Ok((call, copy))
     }
 
     /// "one that accepts a font under an unused number leaves it standing or
     /// makes the new font the choice"
     fn one_more_font(&mut self, pair: &Pair, request: &Request, choice: Option<u32>) -> Found<()> {
         let font = self.chance.of(&[0, 1, 3, 4, 7, 299, 301, 32765, 32767]);
-        if self.book.fonts.contains_key(&font) {
+        if pair.book.fonts.contains_key(&font) {
             return Ok(());
         }
         let block = self.generator().good_header();
         let call = Call::DownloadFont { block, font };
-        let mut copy = self.pair(&pair.theirs);
+        let mut copy = self.copy(pair);
         let answer = self.both(&mut copy, &call)?;
         if answer.refusal != 0 {
             return Ok(());
         }
-        let mut book = self.book.clone();
-        book.note(&call, &answer);
-        let now = self.choice(&mut copy.ours, request, &book)?;
+        copy.book.note(&call, &answer);
+        let now = self.choice(&mut copy, request)?;
         if now == choice {
             self.met.situation("a font accepted leaves the choice");
         } else if now == Some(font) {
@@ -638,7 +624,7 @@ impl History<'_> {
             .iter()
             .filter(|record| record.font == font && record.code.is_some())
             .count();
-        let right = match self.book.fonts.get(&font) {
+        let right = match pair.book.fonts.get(&font) {
             Some(header) => {
                 answer.refusal == 0 && out == header && answer.number() as usize == characters
             }
@@ -648,7 +634,7 @@ impl History<'_> {
             true => Ok(()),
             false => Err(format!(
                 "{call}\n  answered {answer:?}; the book has it: {}",
-                self.book.fonts.contains_key(&font)
+                pair.book.fonts.contains_key(&font)
             )),
         }
     }
@@ -746,7 +732,7 @@ impl History<'_> {
     /// Demand 2's second half: a font written out and read into a fresh store
     /// of the same length is the same font.
     fn round_trip(&mut self, pair: &Pair) -> Found<()> {
-        let fonts: Vec<u32> = self.book.fonts.keys().copied().collect();
+        let fonts: Vec<u32> = pair.book.fonts.keys().copied().collect();
         if fonts.is_empty() {
             return Ok(());
         }
@@ -813,7 +799,7 @@ impl History<'_> {
         if records.len() > 200 {
             self.met.situation("round trip of 200 characters or more");
         }
-        let header = &self.book.fonts[&font];
+        let header = &pair.book.fonts[&font];
         self.met.situation(match (header[2], header[64]) {
             (0, _) => "round trip in format 0",
             (_, 1) => "round trip in format 20, 300 dpi",
@@ -954,10 +940,10 @@ impl History<'_> {
     }
 }
 
-fn fonts(book: &Book) -> Vec<Font<'_>> {
-    let all = book.fonts.iter();
-    all.map(|(&number, header)| Font::new(number, header))
-        .collect()
+/// The number that the steps leave of one store's fonts.
+fn chosen(request: &Request, book: &Book) -> Option<u32> {
+    let (_, number) = book::chosen(request, &book.fonts_of(SOFT))?;
+    Some(number)
 }
 
 /// W-206: what the formats' own rules made of a font block in range.

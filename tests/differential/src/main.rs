@@ -12,6 +12,7 @@
 mod book;
 mod c;
 mod calls;
+mod cartridge;
 mod chance;
 mod generate;
 mod history;
@@ -153,6 +154,16 @@ fn run(given: &Arguments, first: u64) -> Met {
             given.trace,
             &mut met,
         )
+        .and_then(|()| {
+            cartridge::run(
+                given.seed,
+                number,
+                lending,
+                given.small,
+                given.trace,
+                &mut met,
+            )
+        })
         .and_then(|()| turning::run(given.seed, number, lending, given.trace));
         if let Err(difference) = found {
             println!("seed {} history {number}: {difference}", given.seed);

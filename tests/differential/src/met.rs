@@ -6,7 +6,7 @@ use crate::calls::{Answer, Call, CALLS, NAMES, POSSIBLE};
 const REFUSALS: usize = 15;
 
 /// Every one must be met by a whole run.
-const SITUATIONS: [&str; 112] = [
+const SITUATIONS: [&str; 150] = [
     "font replaced",
     "font of the open character replaced",
     "font block while a character is open",
@@ -119,6 +119,44 @@ const SITUATIONS: [&str; 112] = [
     "round trip",
     "round trip with a continuation",
     "round trip of 200 characters or more",
+    "from two, chosen beside an empty cartridge",
+    "from two, chosen beside an empty soft store",
+    "from two, both stores empty",
+    "from two, none takes part though both keep fonts",
+    "from two, none takes part in mode 300, some in mode 600",
+    "from two, mode 300, 600 dpi fonts in one store alone",
+    "from two, chosen from a dump's records, the soft store",
+    "from two, chosen from a dump's records, the cartridge",
+    "from two, a soft font though cartridge fonts take part",
+    "from two, a cartridge font though soft fonts take part",
+    "from two, the chosen number in both stores",
+    "from two, the chosen font in both stores",
+    "from two, the set in the soft store, Roman-8 in the cartridge",
+    "from two, the set in the cartridge, Roman-8 in the soft store",
+    "from two, a cartridge font of 600 dpi before a soft one of 300",
+    "from two, a soft font before a cartridge font by the place alone",
+    "from two, a soft font before a cartridge font of the page's orientation",
+    "from two, the same, of a lower number too",
+    "from two, a soft font before a cartridge font of a lower number",
+    "from two, a font removed from the soft store leaves the choice",
+    "from two, a font removed from the cartridge leaves the choice",
+    "from two, a font struck for lack of room from the soft store leaves the choice",
+    "from two, a font struck for lack of room from the cartridge leaves the choice",
+    "from two, the chosen number removed from the other store",
+    "from two, a removal leaves none to choose",
+    "from two, a font accepted in the soft store leaves the choice",
+    "from two, a font accepted in the soft store becomes the choice",
+    "from two, a font accepted in the cartridge leaves the choice",
+    "from two, a font accepted in the cartridge becomes the choice",
+    "from two, a font accepted under a number of the other store",
+    "from two, a font accepted leaves none to choose",
+    "from two, one buffer as both",
+    "from two, the soft store is none",
+    "from two, the cartridge is none",
+    "from two, neither is a store",
+    "from two, a soft store of 0 bytes beside a cartridge with fonts",
+    "from two, no store and a number out of range",
+    "from two, out of range with both stores empty",
 ];
 
 pub struct Met {
