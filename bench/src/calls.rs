@@ -8,7 +8,8 @@ use reference::{Answer as Entry, Request};
 /// As many requests as a sheet may have.
 pub type Sheet = [Request; 64];
 
-/// One call with its numbers; blocks, streams and outputs come beside it.
+/// One call with its numbers; blocks, streams, a second store and outputs come beside
+/// it.
 #[derive(Clone, Copy)]
 pub enum Call {
     MakeFresh,
@@ -27,6 +28,8 @@ pub enum Call {
         code: u32,
     },
     Choose(Request),
+    /// The cartridge comes beside it.
+    ChooseFromTwo(Request),
     ChooseSheet(&'static Sheet),
     /// The same requests, each by a call of its own.
     ChooseEach(&'static Sheet),
@@ -80,6 +83,12 @@ fn two(refusal: u32, number: u32) -> Answer {
 
 fn three(refusal: u32, first: u32, second: u32) -> Answer {
     [u64::from(refusal), u64::from(first), u64::from(second), 0]
+}
+
+/// The font number and the store that holds it, then the record's place.
+fn chosen_record(refusal: u32, font: u32, which: u32, place: u64) -> Answer {
+    let font = u64::from(font) | u64::from(which) << 32;
+    [u64::from(refusal), font, 0, place]
 }
 
 /// An output as a sheet's answers.
@@ -155,6 +164,24 @@ pub fn ours(call: Call, store: &mut [u8], input: &[u8], out: &mut [u8]) -> Answe
                 let chosen = our_choice(at, len, &request);
                 two(chosen.refusal, chosen.font)
             }
+            Call::ChooseFromTwo(r) => {
+                let chosen = c::mf_choose_from_two(
+                    at,
+                    len,
+                    block,
+                    block_len,
+                    r.symbol_set,
+                    r.spacing,
+                    r.pitch,
+                    r.height,
+                    r.style,
+                    r.weight,
+                    r.typeface,
+                    r.orientation,
+                    r.mode,
+                );
+                chosen_record(chosen.refusal, chosen.font, chosen.which, chosen.place)
+            }
             Call::ChooseSheet(sheet) => {
                 let out = entries(out);
                 let (to, room) = (out.as_mut_ptr(), out.len());
@@ -225,6 +252,10 @@ pub fn theirs(call: Call, store: &mut [u8], input: &[u8], out: &mut [u8]) -> Ans
         Call::Choose(request) => {
             let chosen = reference::choose(store, &request);
             two(chosen.refusal, chosen.font)
+        }
+        Call::ChooseFromTwo(request) => {
+            let chosen = reference::choose_from_two(store, input, &request);
+            chosen_record(chosen.refusal, chosen.font, chosen.which, chosen.place)
         }
         Call::ChooseSheet(sheet) => bare(reference::choose_sheet(store, sheet, entries(out))),
         Call::ChooseEach(sheet) => each(sheet, out, |request| {

@@ -7,7 +7,7 @@ use marlinfold_reference::{self as reference, Request};
 pub struct Input {
     pub store: Vec<u8>,
     pub call: Call,
-    /// A block or a stream.
+    /// A block, a stream or a second store.
     pub given: Vec<u8>,
     pub out: usize,
 }
@@ -15,13 +15,20 @@ pub struct Input {
 /// A name, and its input for a store of a length.
 pub type Named = (&'static str, fn(usize) -> Input);
 
-pub const INPUTS: [Named; 40] = [
+pub const INPUTS: [Named; 44] = [
     ("choose, store full of fonts", choose_among_fonts),
     ("choose in mode 600, 600 dpi fonts", choose_among_fine_fonts),
     ("choose in mode 600, both mixed", choose_among_mixed_fonts),
     ("choose, class 2 characters kept", choose_beside_runs),
     ("choose, class 1 characters kept", choose_beside_dots),
     ("choose, store nearly empty", choose_nearly_empty),
+    ("choose from two, both full of fonts", from_two_full),
+    ("choose from two, the cartridge's last", from_two_last),
+    (
+        "choose from two, class 2 in cartridge",
+        from_two_beside_runs,
+    ),
+    ("choose from two, both nearly empty", from_two_nearly_empty),
     ("sheet of 64, store full of fonts", sheet_among_fonts),
     ("64 choices, store full of fonts", each_among_fonts),
     ("sheet of 64, class 2 characters kept", sheet_beside_runs),
@@ -305,6 +312,45 @@ fn choose_nearly_empty(length: usize) -> Input {
     let mut store = fresh(length);
     reference::download_font(&mut store, &header(1), 5);
     input(store, Call::Choose(REQUEST))
+}
+
+fn from_two(soft: Vec<u8>, cartridge: Vec<u8>) -> Input {
+    Input {
+        given: cartridge,
+        ..input(soft, Call::ChooseFromTwo(REQUEST))
+    }
+}
+
+/// The same fonts in both, so that a soft one goes before the cartridge's.
+fn from_two_full(length: usize) -> Input {
+    let store = full_of_fonts(length, length / 100).0;
+    from_two(store.clone(), store)
+}
+
+/// The same, but the cartridge's last font is the only one with all that is asked for.
+fn from_two_last(length: usize) -> Input {
+    let (soft, fonts) = full_of_fonts(length, length / 100);
+    let mut cartridge = soft.clone();
+    let mut best = header(0);
+    best[24] = REQUEST.weight as u8;
+    best[25] = REQUEST.typeface as u8;
+    let last = reference::download_font(&mut cartridge, &best, fonts as u32);
+    assert_eq!(last, 0);
+    from_two(soft, cartridge)
+}
+
+fn from_two_beside_runs(length: usize) -> Input {
+    let soft = full_of_fonts(length, length / 100).0;
+    from_two(soft, full_of_characters(length, 0, 2).0)
+}
+
+fn from_two_nearly_empty(length: usize) -> Input {
+    let nearly_empty = |number| {
+        let mut store = fresh(length);
+        reference::download_font(&mut store, &header(number), 5);
+        store
+    };
+    from_two(nearly_empty(1), nearly_empty(2))
 }
 
 fn sheet(store: Vec<u8>, call: Call) -> Input {
