@@ -19,7 +19,7 @@ use Rattle.store.specs.Known.{Opening}
 use Rattle.store.specs.declared.known.Opened.{Opened}
 use Rattle.store.specs.declared.known.Opened.the-variants.{At, NotStore}
 use Rattle.choice.specs.Candidates.{ofBoth}
-use Rattle.choice.specs.Choosing.{choosingAmong, choosingFromTwo}
+use Rattle.choice.specs.Choosing.{choosingAmong}
 use Rattle.choice.specs.declared.Request.{Request}
 use Rattle.choice.specs.declared.Chosen.{Chosen}
 use Rattle.choice.specs.declared.Chosen.the-variants.{Number, NotStore as not-store}

@@ -9,7 +9,7 @@ use native.Mathlib.Decide.{ℕ-discrete}
 use Rattle.choice.specs.Candidates.{Candidate}
 use Rattle.choice.specs.Lists.{In, having}
 use Rattle.choice.specs.Steps.{fontsLeft, choice, takesPart, Beats}
-use Rattle.choice.specs.Right.{Keyed, Other, Unused, Unbeaten, Best, Right, Reordered, Without, With, Claim}
+use Rattle.choice.specs.Right.{Keyed, Other, Unused, Best, Right, Reordered, Without, With, Claim}
 use Rattle.choice.specs.declared.Request.{Request}
 use Rattle.choice.specs.declared.Chosen.the-variants.{Number, NoFont}
 use Rattle.choice.proofs.Least.{not-both, in-having, having-out}

@@ -1,7 +1,7 @@
 -- What choosing answers: on a buffer, and among fonts.
 use Prim.Native.Nat.{ℕ}
 use mathlib.Core.List.{List}
-use mathlib.Core.Bool.{Bool, true, cond, _&&_}
+use mathlib.Core.Bool.{true, cond, _&&_}
 use Rattle.form.specs.Records.{isStore}
 use Rattle.form.specs.Fonts.{fontsOf}
 use Rattle.choice.specs.Candidates.{Candidate, candidates, ofBoth}

@@ -5,10 +5,9 @@ use mathlib.Core.Logic.{_⊎_, _↔_, inl, inr, ⊎-elim}
 use mathlib.Core.List.{List, [], _∷_, _++_}
 use mathlib.Core.Bool.{Bool, true, false, cond, _&&_}
 use native.Mathlib.Omega.{arith}
-use lib.ListN.{getD}
-use Rattle.form.specs.Records.{isStore, recordsIn, fontPlace, FontStands}
+use Rattle.form.specs.Records.{isStore, FontStands}
 use Rattle.form.specs.Fonts.{Font, fontsOf, fontsWith}
-use Rattle.store.specs.Calls.{makingFresh, downloadingFont}
+use Rattle.store.specs.Calls.{downloadingFont}
 use Rattle.store.proofs.Again.{fresh-leaves}
 use Rattle.choice.specs.Lists.{In}
 use Rattle.choice.specs.Request.{inRange}
@@ -18,14 +17,14 @@ use Rattle.choice.specs.Choosing.{choosingAmong, choosingFromTwo, refusalOf, fo
 use Rattle.choice.specs.Right.{Keyed, Without, With, Lawful}
 use Rattle.choice.specs.declared.Request.{Request}
 use Rattle.choice.specs.declared.Chosen.{Chosen}
-use Rattle.choice.specs.declared.Chosen.the-variants.{Number, NotStore, OutOfRange, NoFont}
+use Rattle.choice.specs.declared.Chosen.the-variants.{Number, NotStore, OutOfRange}
 use Rattle.choice.proofs.Least.{not-both}
 use Rattle.choice.proofs.Members.{in-left, in-right, in-either, font-in, not-cartridge, not-soft, soft-in, cartridge-in}
 use Rattle.choice.proofs.Choice.{two-keyed}
 use Rattle.choice.proofs.Right.{claim}
 use Rattle.cartridge.specs.Cartridge.{placeOf, recordAnswer, answeringFromTwo}
 use Rattle.cartridge.proofs.Stands.{font-stands}
-use Rattle.marlinfold.specs.Calls.{Call, choose-from-two, outcome, leaves, ran}
+use Rattle.marlinfold.specs.Calls.{Call, leaves, ran}
 use Rattle.marlinfold.specs.Book.{bookFrom}
 use Rattle.marlinfold.specs.Demands.{AnswersFromTwo, placeAnswered, ChoosesFromTwo, Begins, fresh, dump, Demand3FromTwo, RefusesFromTwo, OneFromTwo}
 use Rattle.marlinfold.proofs.Demand3.{singly-ran, Kept, calls-kept, candidates-without, candidates-with, keyed, gone, fontBy, came}
