@@ -25,7 +25,7 @@ use Rattle.choice.specs.declared.Chosen.{Chosen}
 use Rattle.choice.specs.declared.Chosen.the-variants.{Number, NotStore as not-store}
 use Rattle.choice.proofs.Walk.{first-no-store, second-no-store, on-two-stores}
 use Rattle.cartridge.specs.declared.RecordAnswer.{RecordAnswer}
-use Rattle.cartridge.specs.Cartridge.{recordAnswer, answeringFromTwo, Part, fits, recordPart}
+use Rattle.cartridge.specs.Cartridge.{recordAnswer, answeringFromTwo, MemoryPart, fits, recordPart}
 
 -- ── the place
 pub place-is : (n : ℕ) (s : List ℕ) (here : ℕ) → Reaches s (keyOf n 0) here → here ≡ fontPlace n (recordsIn s)
@@ -84,7 +84,7 @@ room n at b t e f = go (leb fontRecord n) (leb at (n - fontRecord)) refl refl (s
     go false y p q z = absurd (never z)
 
 -- the three ways out
-module _ (a b : Part) (c : RecordAnswer) where
+module _ (a b : MemoryPart) (c : RecordAnswer) where
   pub first-part : (t : Bool) → t ≡ fits (length (a .bytes)) (c .place) → eqb (c .which) 1 && t ≡ true
       → record { spot = (a .spot .0, c .place + a .spot .1); bytes = take (c .place + fontRecord - c .place) (drop (c .place) (a .bytes)) } ≡ recordPart a b c
   unfolding recordPart

@@ -32,7 +32,7 @@ use Rattle.choice.specs.declared.Chosen.{Chosen}
 use Rattle.choice.specs.declared.Chosen.the-variants.{Number, NotStore, OutOfRange, NoFont}
 use Rattle.choice.proofs.Members.{font-in, soft-in, cartridge-in}
 use Rattle.choice.proofs.Choice.{choice-in}
-use Rattle.cartridge.specs.Cartridge.{recordAnswer, answeringFromTwo, Part, fits, recordPart, Gives, of-soft, of-cartridge, nothing, GivesRecord}
+use Rattle.cartridge.specs.Cartridge.{recordAnswer, answeringFromTwo, MemoryPart, fits, recordPart, Gives, of-soft, of-cartridge, nothing, GivesRecord}
 
 -- ── among records by rising keys a font is found by its number
 later : (f : Font) (r : Rec) (rs : List Rec) (u : Under) → sorted (key r + 1) u rs ≡ true → find (keyOf (f .number) 0) rs ≡ some (font (f .number) (f .kept))
@@ -112,7 +112,7 @@ fitting : (n at : ℕ) → at + fontRecord ≤ n → fits n at ≡ true
 unfolding fits
 fitting n at l = rw (le-leb fontRecord n (omega arith), le-leb at (n - fontRecord) (omega arith))
 
-module _ (soft cartridge : Part) where
+module _ (soft cartridge : MemoryPart) where
   abbrev Given : Chosen → Type 0
   Given v = Gives soft cartridge (recordAnswer (soft .bytes) (cartridge .bytes) v) (recordPart soft cartridge (recordAnswer (soft .bytes) (cartridge .bytes) v))
 

@@ -22,7 +22,7 @@ use Rattle.choice.proofs.Least.{not-both}
 use Rattle.choice.proofs.Members.{in-left, in-right, in-either, font-in, not-cartridge, not-soft, soft-in, cartridge-in}
 use Rattle.choice.proofs.Choice.{two-keyed}
 use Rattle.choice.proofs.Right.{claim}
-use Rattle.cartridge.specs.Cartridge.{placeOf, recordAnswer, answeringFromTwo}
+use Rattle.cartridge.specs.Cartridge.{chosenPlace, recordAnswer, answeringFromTwo}
 use Rattle.cartridge.proofs.Stands.{font-stands}
 use Rattle.marlinfold.specs.Calls.{Call, leaves, ran}
 use Rattle.marlinfold.specs.Book.{bookFrom}
@@ -58,10 +58,10 @@ module _ (l k m : List Candidate) where
 -- ── the record that an answer names
 module _ (s t : List ℕ) (book cart : List Font) (k : Kept s book) (j : Kept t cart) (c : Candidate) (m : In c (ofBoth book cart)) where
   -- the place of a font of the books is that of its record
-  at-place : (v : Chosen) → v ≡ Number (c .soft) (c .number) → FontStands (cond (c .soft) s t) (placeOf s t v) (c .number) (c .kept)
+  at-place : (v : Chosen) → v ≡ Number (c .soft) (c .number) → FontStands (cond (c .soft) s t) (chosenPlace s t v) (c .number) (c .kept)
   at-place v e = rw e (go (c .soft) refl)
     where
-      go : (p : Bool) → c .soft ≡ p → FontStands (cond p s t) (placeOf s t (Number p (c .number))) (c .number) (c .kept)
+      go : (p : Bool) → c .soft ≡ p → FontStands (cond p s t) (chosenPlace s t (Number p (c .number))) (c .number) (c .kept)
       go true q = font-stands s _ (rw (k .1) (font-in true book c (soft-in book cart c m q)))
       go false q = font-stands t _ (rw (j .1) (font-in false cart c (cartridge-in book cart c m q)))
 
@@ -75,7 +75,7 @@ module _ (r : Request) (i : inRange r ≡ true) where
   unfolding answeringFromTwo recordAnswer
   says s t a e = record { refusal = ap refusalOf e; names = ap (λ (x : Chosen). fontOf x ∷ whichOf x ∷ []) e }
 
-  place-is : (s t : List ℕ) → placeAnswered r s t ≡ placeOf s t (choosingFromTwo s t r)
+  place-is : (s t : List ℕ) → placeAnswered r s t ≡ chosenPlace s t (choosingFromTwo s t r)
   unfolding answeringFromTwo recordAnswer
   place-is s t = refl
 
