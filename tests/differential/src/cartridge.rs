@@ -84,12 +84,12 @@ pub fn run(
         stores: [soft, cartridge],
         starts: [soft_start, cartridge_start],
     };
-    let calls = if large { 4 } else { 24 };
+    let (calls, requests) = if large { (4, 1) } else { (24, 2) };
     for _ in 0..calls {
         let which = history.chance.of(&BOTH);
         let call = history.call_on(&two, which);
         history.noted(two.of_mut(which), &call)?;
-        for _ in 0..if large { 1 } else { 2 } {
+        for _ in 0..requests {
             let request = history.request_to_two(&two);
             history.demand_3_of_two(&mut two, &request)?;
         }
@@ -425,7 +425,7 @@ impl History<'_> {
         Ok(())
     }
 
-    /// Counts what a choice from two is worth having met for.
+    /// Counts what else of a choice from two is worth having met.
     fn choice_met(&mut self, two: &Two, request: &Request, choice: Option<Named>) {
         let fonts = two.fonts();
         let of = |name| fonts.iter().find(|font| font.name() == name);
@@ -448,6 +448,9 @@ impl History<'_> {
             }
             return;
         };
+        if fonts.len() >= 500 {
+            met.situation("from two, choice among 500 fonts or more");
+        }
         match empty {
             [false, true] => met.situation("from two, chosen beside an empty cartridge"),
             [true, false] => met.situation("from two, chosen beside an empty soft store"),
@@ -497,7 +500,7 @@ impl History<'_> {
         self.place_met(request, &fonts, choice);
     }
 
-    /// The same of the place step.
+    /// Counts choices that the place decides, or the resolution before it.
     fn place_met(&mut self, request: &Request, fonts: &[Font], choice: &Font) {
         let met = &mut *self.met;
         let Some(level) = book::up_to_typeface(request, fonts) else {

@@ -6,7 +6,7 @@ use crate::calls::{Answer, Call, CALLS, NAMES, POSSIBLE};
 const REFUSALS: usize = 15;
 
 /// Every one must be met by a whole run.
-const SITUATIONS: [&str; 150] = [
+const SITUATIONS: [&str; 151] = [
     "font replaced",
     "font of the open character replaced",
     "font block while a character is open",
@@ -125,6 +125,7 @@ const SITUATIONS: [&str; 150] = [
     "from two, none takes part though both keep fonts",
     "from two, none takes part in mode 300, some in mode 600",
     "from two, mode 300, 600 dpi fonts in one store alone",
+    "from two, choice among 500 fonts or more",
     "from two, chosen from a dump's records, the soft store",
     "from two, chosen from a dump's records, the cartridge",
     "from two, a soft font though cartridge fonts take part",

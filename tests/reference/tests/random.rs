@@ -364,8 +364,24 @@ fn chance_calls_agree_with_the_model() {
     }
 }
 
+/// A kept header as one of the other resolution that is as wide and as high.
+fn other_resolution(header: &mut [u8]) {
+    let to_600 = header[64..66] == 300_u16.to_be_bytes();
+    for (field, extended) in [(16, 40), (18, 41)] {
+        let number = u32::from_be_bytes([0, header[field], header[field + 1], header[extended]]);
+        let number = if to_600 { 2 * number } else { number / 2 };
+        let [_, high, low, more] = number.to_be_bytes();
+        (header[field], header[field + 1], header[extended]) = (high, low, more);
+    }
+    let resolution = if to_600 { 600_u16 } else { 300 };
+    header[1] = 68;
+    header[2] = 20;
+    header[64..].copy_from_slice(&[resolution.to_be_bytes(); 2].concat());
+}
+
 /// W-208: two stores, each with chance calls of its own. Headers go from one to the
-/// other, with the orientation changed or as they are, so that fonts of both are level.
+/// other as they are, or with another orientation or resolution, so that fonts of both
+/// are level.
 #[test]
 fn chance_choices_from_two_stores_agree_with_the_model() {
     let mut met = [0; 15];
@@ -389,6 +405,9 @@ fn chance_choices_from_two_stores_agree_with_the_model() {
             } else {
                 let mut block = headers.swap_remove(chance.below(headers.len()));
                 block[12] = chance.of(&[block[12], 0, 1]);
+                if chance.once_in(4) {
+                    other_resolution(&mut block);
+                }
                 let font = some_font(&mut chance);
                 let refusal = download_font(&mut stores[one], &block, font);
                 let answer = models[one].download_font(&block, font);
