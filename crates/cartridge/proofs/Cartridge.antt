@@ -1,49 +1,36 @@
 -- The chosen font's record in two stores, from what the code finds. Assumes nothing.
 use Prim.Native.Nat.{ℕ, _+_, _-_, _<_, _≤_}
 use mathlib.Core.Path.{_≡_, refl, sym, ap, _∙_}
-use mathlib.Core.Bool.{Bool, true, false, _&&_}
+use mathlib.Core.Bool.{Bool, true, false, cond, _&&_}
 use mathlib.Core.List.{List}
 use native.Mathlib.Nat.{zero-add}
 use native.Mathlib.Omega.{arith}
 use lib.ListN.{length, take, drop}
 use lib.Dec.{eqb, leb}
 use borrow.Author.Tests.{le-leb, lt-leb, leb-true}
-use Rattle.form.specs.Layout.{markRecord, fontRecord, keyOf}
-use Rattle.form.specs.Records.{isStore, recordsIn, fontPlace, Begun}
-use Rattle.form.specs.Cursor.{Reaches, Points}
-use Rattle.form.specs.declared.locate.Cursor.{Cursor}
-use Rattle.form.specs.declared.records.Begin.the-variants.{At as from}
+use Rattle.form.specs.Layout.{fontRecord, fontKeptAt}
+use Rattle.form.specs.Records.{isStore, Begun}
 use Rattle.form.specs.Fonts.{fontsOf}
-use Rattle.form.proofs.RecordRuns as Runs
-use Rattle.store.specs.Known.{Opening}
-use Rattle.store.specs.declared.known.Opened.{Opened}
-use Rattle.store.specs.declared.known.Opened.the-variants.{At, NotStore}
+use Rattle.form.specs.declared.records.Begin.{Begin}
+use Rattle.form.specs.declared.records.Begin.the-variants.{At, NotStore}
 use Rattle.choice.specs.Candidates.{ofBoth}
 use Rattle.choice.specs.Choosing.{choosingAmong}
+use Rattle.choice.specs.Scores.{PickedAt}
 use Rattle.choice.specs.declared.Request.{Request}
+use Rattle.choice.specs.declared.Picked.{Picked}
 use Rattle.choice.specs.declared.Chosen.{Chosen}
 use Rattle.choice.specs.declared.Chosen.the-variants.{Number, NotStore as not-store}
 use Rattle.choice.proofs.Walk.{first-no-store, second-no-store, on-two-stores}
 use Rattle.cartridge.specs.declared.RecordAnswer.{RecordAnswer}
-use Rattle.cartridge.specs.Cartridge.{recordAnswer, answeringFromTwo, MemoryPart, fits, recordPart}
-
--- ── the place
-pub place-is : (n : ℕ) (s : List ℕ) (here : ℕ) → Reaches s (keyOf n 0) here → here ≡ fontPlace n (recordsIn s)
-unfolding recordsIn
-place-is n s here r = rw (r .is) (r .at)
+use Rattle.cartridge.specs.Cartridge.{chosenPlace, recordAnswer, answeringFromTwo, MemoryPart, fits, recordPart}
 
 -- ── the two stores
-module _ (s : List ℕ) (v : Opened) (h : Opening s v) where
-  pub points : (c : Cursor) → v ≡ At c → Points s c
-  unfolding Opening
-  points c e = rw e at h
+module _ (s : List ℕ) (v : Begin) (h : Begun s v) where
+  pub begun : (p : ℕ) → v ≡ At p → Begun s (At p)
+  begun p e = rw e at h
 
   pub no-store : v ≡ NotStore → isStore s ≡ false
-  unfolding Opening
-  no-store e = let f : Opening s NotStore = rw e at h in Runs.not-begun s f
-
-pub begun : (s : List ℕ) (c : Cursor) → Points s c → Begun s (from markRecord)
-begun s c p = Runs.begun s (p .store) (p .is)
+  no-store e = rw e at h
 
 module _ (s t : List ℕ) (r : Request) where
   pub first-refused : isStore s ≡ false → recordAnswer s t not-store ≡ answeringFromTwo s t r
@@ -105,14 +92,16 @@ module _ (a b : MemoryPart) (c : RecordAnswer) where
   empty-part t u e f g h = rw (sym e, f, sym g, h, zero-add (a .spot .1)) refl
 
 -- ── the answer by what was chosen
-module _ (s t : List ℕ) (v : Chosen) where
-  pub in-soft : (p : Bool) (n at : ℕ) → v ≡ Number p n → p ≡ true → at ≡ fontPlace n (recordsIn s) → record { refusal = 0; font = n; which = 1; place = at } ≡ recordAnswer s t v
-  unfolding recordAnswer
-  in-soft p n at e q h = rw (e, q, h)
+module _ (s t : List ℕ) where
+  -- where the record of the font that is named begins
+  pub picked-place : (k : Picked) → PickedAt s t k → (p : Bool) (n : ℕ) → k .chosen ≡ Number p n → k .kept - fontKeptAt ≡ chosenPlace s t (k .chosen)
+  picked-place k h true n e = rw e (let l = h n .0 e in omega (arith, l))
+  picked-place k h false n e = rw e (let l = h n .1 e in omega (arith, l))
 
-  pub in-cartridge : (p : Bool) (n at : ℕ) → v ≡ Number p n → p ≡ false → at ≡ fontPlace n (recordsIn t) → record { refusal = 0; font = n; which = 2; place = at } ≡ recordAnswer s t v
+  pub named-answer : (v : Chosen) (p : Bool) (n which at : ℕ) → v ≡ Number p n → which ≡ cond p 1 2 → ((p : Bool) (n : ℕ) → v ≡ Number p n → at ≡ chosenPlace s t v)
+      → record { refusal = 0; font = n; which = which; place = at } ≡ recordAnswer s t v
   unfolding recordAnswer
-  in-cartridge p n at e q h = rw (e, q, h)
+  named-answer v p n which at e w h = let l = h p n e in rw (e, w) (rw (l, e))
 
-  pub none-for : (k : ℕ) (w : Chosen) (a : RecordAnswer) → a ≡ record { refusal = k; font = 0; which = 0; place = 0 } → v ≡ w → recordAnswer s t w ≡ record { refusal = k; font = 0; which = 0; place = 0 } → a ≡ recordAnswer s t v
-  none-for k w a e q h = e ∙ sym h ∙ ap (recordAnswer s t) (sym q)
+  pub none-for : (v w : Chosen) (k : ℕ) (a : RecordAnswer) → a ≡ record { refusal = k; font = 0; which = 0; place = 0 } → v ≡ w → recordAnswer s t w ≡ record { refusal = k; font = 0; which = 0; place = 0 } → a ≡ recordAnswer s t v
+  none-for v w k a e q h = e ∙ sym h ∙ ap (recordAnswer s t) (sym q)

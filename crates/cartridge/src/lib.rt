@@ -1,16 +1,17 @@
 // W-208, the old cartridge as a second place: the choice from two stores, with the chosen font's record as a part of whichever holds it.
 ghost use mathlib.Core.Path.{_≡_};
-ghost use Rattle.form.specs.Cursor.{Points};
-ghost use Rattle.form.specs.Records.{recordsIn, fontPlace};
-ghost use Rattle.cartridge.specs.Cartridge.{recordAnswer, answeringFromTwo, partOf, fits, recordPart};
+ghost use mathlib.Core.Bool.{Bool, cond};
+ghost use mathlib.Core.List.{List};
+ghost use Prim.Native.Nat.{ℕ, _-_};
+ghost use Rattle.form.specs.Layout.{fontKeptAt};
+ghost use Rattle.choice.specs.declared.Chosen.the-variants.{Number};
+ghost use Rattle.cartridge.specs.Cartridge.{chosenPlace, recordAnswer, answeringFromTwo, partOf, fits, recordPart};
 use choice::Chosen;
 use choice::Request;
+use form::layout::FONT_KEPT_AT;
 use form::layout::FONT_RECORD;
-use form::layout::MARK_RECORD;
-use form::locate;
-use form::locate::Cursor;
-use store::known;
-use store::known::Opened;
+use form::records;
+use form::records::Begin;
 
 const SOFT: u32 = 1;
 
@@ -31,12 +32,14 @@ pub struct ChosenRecord<'a> {
     pub answer: RecordAnswer,
 }
 
-// Where the record of a font begins.
-fn place_in(s: &[u8], c: Cursor, font: u32) -> u64
-    requires { ⌜ Points (now s) c ⌝ }
-    ensures { λ r. ⌜ r ≡ fontPlace font (recordsIn (now (s .entry))) ⌝ }
+// Where a record begins whose kept bytes stand at a place, 0 if there is no room for what comes before them.
+fn record_place(kept: usize) -> u64
+    ensures { λ r. ⌜ r ≡ kept - fontKeptAt ⌝ }
 {
-    locate::font_place(s, c, font as usize) as u64
+    if kept < FONT_KEPT_AT {
+        return 0;
+    }
+    (kept - FONT_KEPT_AT) as u64
 }
 
 fn refused(k: u32) -> RecordAnswer
@@ -50,49 +53,42 @@ fn refused(k: u32) -> RecordAnswer
     }
 }
 
-// The numbers that a choice answers, on two buffers that are known to be stores.
-fn answer_by(soft: &[u8], a: Cursor, cartridge: &[u8], b: Cursor, c: Chosen) -> RecordAnswer
-    requires { ⌜ Points (now soft) a × Points (now cartridge) b ⌝ }
-    ensures { λ r. ⌜ r ≡ recordAnswer (now (soft .entry)) (now (cartridge .entry)) c ⌝ }
+fn which_of(soft: bool) -> u32
+    ensures { λ r. ⌜ r ≡ cond soft 1 2 ⌝ }
+{
+    if soft { SOFT } else { CARTRIDGE }
+}
+
+// The numbers that a choice from any two stores answers, if the record of the font that it names begins at this place.
+fn answer_by(c: Chosen, place: u64) -> RecordAnswer
+    ensures { λ r. ⌜ ((s t : List ℕ) → ((p : Bool) (n : ℕ) → c ≡ Number p n → place ≡ chosenPlace s t c) → r ≡ recordAnswer s t c) ⌝ }
 {
     match c {
-        Chosen::Number {
-            soft: is_soft,
-            number,
-        } => {
-            if is_soft {
-                return RecordAnswer {
-                    refusal: 0,
-                    font: number,
-                    which: SOFT,
-                    place: place_in(soft, a, number),
-                };
-            }
-            RecordAnswer {
-                refusal: 0,
-                font: number,
-                which: CARTRIDGE,
-                place: place_in(cartridge, b, number),
-            }
-        }
+        Chosen::Number { soft, number } => RecordAnswer {
+            refusal: 0,
+            font: number,
+            which: which_of(soft),
+            place,
+        },
         Chosen::NotStore => refused(1),
         Chosen::OutOfRange => refused(2),
         Chosen::NoFont => refused(11),
     }
 }
 
-// The numbers of the choice from two stores: all that C is told.
+// The numbers of the choice from two stores: all that C is told. Each store is checked once and its fonts are passed over once.
 pub fn answer_from_two<'a>(soft: &'a [u8], cartridge: &'a [u8], r: Request) -> RecordAnswer
     ensures { λ a. ⌜ a ≡ answeringFromTwo (now (soft .entry)) (now (cartridge .entry)) r ⌝ }
 {
-    let Opened::At(a) = known::open_store(soft) else {
+    let Begin::At(a) = records::begin_records(soft) else {
         return refused(1);
     };
-    let Opened::At(b) = known::open_store(cartridge) else {
+    let Begin::At(b) = records::begin_records(cartridge) else {
         return refused(1);
     };
-    let c = choice::choose_among_two(soft, MARK_RECORD, cartridge, MARK_RECORD, r);
-    answer_by(soft, a, cartridge, b, c)
+    let p = choice::choose_among_two(soft, a, cartridge, b, r);
+    let c = p.chosen;
+    answer_by(c, record_place(p.kept))
 }
 
 // Whether a record that begins at a place ends within n bytes.

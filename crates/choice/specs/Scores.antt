@@ -3,17 +3,21 @@
 -- that the earlier step decides. That the font with the least numbers is the one that the steps leave is proved.
 use Prim.Native.Nat.{ℕ, _+_, _-_, _*_, _%_}
 use mathlib.Core.List.{List, [], _∷_}
-use mathlib.Core.Bool.{Bool, true, cond, _&&_, _||_}
+use mathlib.Core.Path.{_≡_}
+use mathlib.Core.Bool.{Bool, true, false, cond, _&&_, _||_}
 use lib.Dec.{ltb, eqb}
 use lib.IntN.{pos}
 use lib.Signed.{leZ}
 use Rattle.blocks.specs.Header.{strokeWeight}
+use Rattle.form.specs.Layout.{fontKeptAt}
+use Rattle.form.specs.Records.{recordsIn, fontPlace}
 use Rattle.choice.specs.Candidates.{Candidate}
 use Rattle.choice.specs.Request.{askedWeight}
 use Rattle.choice.specs.Fields.{headerOf, isFixed, isFine, comparedPitch}
 use Rattle.choice.specs.Steps.{hasSet, hasSpacing, qualifies, heightOff, hasStyle, exact, isThicker, isThinner, hasTypeface, hasOrientation, takesPart}
 use Rattle.choice.specs.declared.Request.{Request}
 use Rattle.choice.specs.declared.Score.{Score}
+use Rattle.choice.specs.declared.Picked.{Picked}
 use Rattle.choice.specs.declared.Chosen.{Chosen}
 use Rattle.choice.specs.declared.Chosen.the-variants.{Number, NoFont}
 
@@ -116,3 +120,17 @@ pass r best (f ∷ l) = pass r (weighed r best f) l
 
 abbrev pub scoreAnswer : Score → Chosen
 scoreAnswer s = cond (eqb (s .major) noMajor) NoFont (Number (s .soft) (s .number))
+
+-- ── where the chosen font stands
+-- where the kept bytes of font n stand in the store s
+abbrev pub keptPlace : ℕ → List ℕ → ℕ
+keptPlace n s = fontPlace n (recordsIn s) + fontKeptAt
+
+-- after a pass over fonts of the store s the best is the one before it, or one of s, whose kept bytes stand at a place
+pub data StandsAt (s : List ℕ) (soft : Bool) (first best : Score) (at : ℕ) : Type 0 where
+  earlier : best ≡ first → StandsAt s soft first best at
+  here : best .soft ≡ soft → at ≡ keptPlace (best .number) s → StandsAt s soft first best at
+
+-- the font that a choice from the stores s and t names stands where it says
+abbrev pub PickedAt : List ℕ → List ℕ → Picked → Type 0
+PickedAt s t p = (n : ℕ) → (p .chosen ≡ Number true n → p .kept ≡ keptPlace n s) × (p .chosen ≡ Number false n → p .kept ≡ keptPlace n t)

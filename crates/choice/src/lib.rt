@@ -5,7 +5,7 @@ use form::kept_fonts::NextFont;
 use form::records::Begin;
 ghost use Prim.Native.Nat.{ℕ, _+_, _*_, _%_, _^_, _<_, _≤_};
 ghost use mathlib.Core.Path.{_≡_};
-ghost use mathlib.Core.Bool.{Bool, true};
+ghost use mathlib.Core.Bool.{Bool, true, cond};
 ghost use lib.Dec.{eqb, leb, ltb};
 ghost use lib.ListN.{length};
 ghost use Rattle.blocks.specs.Field.{byte, word, join as joinOf};
@@ -18,7 +18,7 @@ ghost use Rattle.choice.specs.Fields.{asBytes, isFine, compared as compa
 ghost use Rattle.choice.specs.Steps.{pitchTestLimit, heightDistance, inMode, takesPart};
 ghost use Rattle.choice.specs.Candidates.{candidates, ofBoth};
 ghost use Rattle.choice.specs.Choosing.{choosingAmong, choosing};
-ghost use Rattle.choice.specs.Scores.{miss as missOf, mostCompared, pitchBase, pitchNumber, heightBound, weightBase, weightNumber, weightScore, majorOf, minorOf, better as betterOf, noScore, weighed, pass, scoreAnswer};
+ghost use Rattle.choice.specs.Scores.{miss as missOf, mostCompared, pitchBase, pitchNumber, heightBound, weightBase, weightNumber, weightScore, majorOf, minorOf, better as betterOf, noScore, weighed, pass, scoreAnswer, StandsAt, PickedAt};
 
 const ROMAN_8: u32 = 277;
 
@@ -95,6 +95,18 @@ struct Score {
     minor: u64,
     number: u32,
     soft: bool,
+}
+
+// The best of all fonts up to here, and where its kept bytes stand, if it is of the store that was passed over last.
+struct Scanned {
+    best: Score,
+    kept: usize,
+}
+
+// The choice from two stores, and where the kept bytes of the font that it names stand in the store that holds it.
+pub struct Picked {
+    pub chosen: Chosen,
+    pub kept: usize,
 }
 
 // A kept byte.
@@ -321,6 +333,13 @@ fn weigh(best: Score, f: &[u8], soft: bool, number: u32, r: Request) -> Score
     }
 }
 
+// One of two places.
+fn either(first: bool, a: usize, b: usize) -> usize
+    ensures { λ r. ⌜ r ≡ cond first a b ⌝ }
+{
+    if first { a } else { b }
+}
+
 // No font so far.
 fn nothing() -> Score
     ensures { λ b. ⌜ b ≡ noScore ⌝ }
@@ -333,19 +352,21 @@ fn nothing() -> Score
     }
 }
 
-// The best of the best so far and the fonts from a place of a store on, in one pass.
-fn scan(s: &[u8], from: usize, soft: bool, first: Score, r: Request) -> Score
+// The best of the best so far and the fonts from a place of a store on, in one pass; and where its kept bytes stand, if it is one of these.
+fn scan(s: &[u8], from: usize, soft: bool, first: Score, r: Request) -> Scanned
     requires { ⌜ RecordPlace (now s) from × (inRange r ≡ true) ⌝ }
-    ensures { λ b. ⌜ b ≡ pass r first (candidates soft (fontsAt (now (s .entry)) from)) ⌝ }
+    ensures { λ b. ⌜ (b .best ≡ pass r first (candidates soft (fontsAt (now (s .entry)) from))) × StandsAt (now (s .entry)) soft first (b .best) (b .kept) ⌝ }
 {
     let mut best = first;
+    let mut place = 0;
     let mut at = from;
     loop {
         let NextFont::Font { number, kept, next } = form::kept_fonts::next_font(s, at) else {
-            return best;
+            return Scanned { best, kept: place };
         };
         let end = kept + header::KEPT;
         best = weigh(best, &s[kept..end], soft, number, r);
+        place = either(best.number == number, kept, place);
         at = next;
     }
 }
@@ -387,7 +408,8 @@ pub fn choose_among(s: &[u8], from: usize, r: Request) -> Chosen
     ensures { λ a. ⌜ a ≡ choosingAmong (candidates true (fontsOf (now (s .entry)))) r ⌝ }
 {
     if in_range(r) {
-        answer(scan(s, from, true, nothing(), r))
+        let a = scan(s, from, true, nothing(), r);
+        answer(a.best)
     } else {
         Chosen::OutOfRange
     }
@@ -411,14 +433,24 @@ pub fn choose_among_two(
     cartridge: &[u8],
     cartridge_from: usize,
     r: Request,
-) -> Chosen
+) -> Picked
     requires { ⌜ Begun (now soft) (At «soft_from») × Begun (now cartridge) (At «cartridge_from») ⌝ }
-    ensures { λ a. ⌜ a ≡ choosingAmong (ofBoth (fontsOf (now (soft .entry))) (fontsOf (now (cartridge .entry)))) r ⌝ }
+    ensures { λ p. ⌜ (p .chosen ≡ choosingAmong (ofBoth (fontsOf (now (soft .entry))) (fontsOf (now (cartridge .entry)))) r) × PickedAt (now (soft .entry)) (now (cartridge .entry)) p ⌝ }
 {
     if in_range(r) {
-        let best = scan(soft, soft_from, true, nothing(), r);
-        answer(scan(cartridge, cartridge_from, false, best, r))
+        let a = scan(soft, soft_from, true, nothing(), r);
+        let first = a.best;
+        let b = scan(cartridge, cartridge_from, false, first, r);
+        let best = b.best;
+        let chosen = answer(best);
+        Picked {
+            chosen,
+            kept: either(best.soft, a.kept, b.kept),
+        }
     } else {
-        Chosen::OutOfRange
+        Picked {
+            chosen: Chosen::OutOfRange,
+            kept: 0,
+        }
     }
 }

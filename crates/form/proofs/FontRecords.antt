@@ -10,13 +10,13 @@ use lib.Seq.{drop-drop}
 use lib.Dec.{eqb, ltb}
 use borrow.Author.Tests.{eq-eqb, ne-eqb, eqb-true, eqb-false, ltb-true, ltb-false}
 use Rattle.form.specs.Layout.{keyOf, markRecord}
-use Rattle.form.specs.Model.{Rec, Under, under, alone, sorted, number, key, sizeOf, total, split}
+use Rattle.form.specs.Model.{Rec, Store, Under, under, alone, sorted, number, key, sizeOf, total, split, decode}
 use Rattle.form.specs.Order.{keep, below, from, after}
-use Rattle.form.specs.Records.{recordsOf, recordsAt, MetAt, Between}
+use Rattle.form.specs.Records.{recordsIn, recordsOf, recordsAt, MetAt, Between}
 use Rattle.form.specs.declared.walk.Places.{Places}
 use Rattle.form.proofs.RecordBytes.{size-pos}
 use Rattle.form.proofs.Codec.{Sorted, sorted-inv}
-use Rattle.form.proofs.Order.{from-in, from-out, sorted-from, place-small}
+use Rattle.form.proofs.Order.{split-at, from-in, from-out, sorted-from, place-small}
 use Rattle.form.proofs.Totals.{total-at, total-append}
 use Rattle.form.proofs.Seeks.{KeptFont}
 use Rattle.form.proofs.RecordRuns.{decoded}
@@ -114,6 +114,10 @@ records-at : (s : List ℕ) (at : ℕ) (rs : List Rec) → split (drop at s) ≡
 unfolding recordsAt
 records-at s at rs e = rw e
 
+records-all : (s : List ℕ) (st : Store) → decode s ≡ some st → recordsIn s ≡ st .recs
+unfolding recordsIn
+records-all s st e = rw e
+
 pub font-records : (n : ℕ) (s : List ℕ) (w : Places) (x : KeptFont n 0 s w) → Between s (w .lo) (w .hi) (recordsOf n (x .ready .store .recs))
 font-records n s w x =
     let r = x .ready in
@@ -127,7 +131,7 @@ font-records n s w x =
     let t = together rs n 0 alone o in
     let z : total (from (keyOf n 0) rs) ≡ total (recordsOf n rs) + total (from (keyOf (n + 1) 0) rs) = ap total t ∙ total-append (recordsOf n rs) (from (keyOf (n + 1) 0) rs) in
     record {
-      place = record { within = omega (arith, r .span, r .end, r .room); recs = from (keyOf n 0) rs; is = a; least = keyOf n 0; behind = after alone (below (keyOf n 0) rs); order = sorted-from (keyOf n 0) 0 alone rs o };
+      place = record { within = omega (arith, r .span, r .end, r .room); recs = from (keyOf n 0) rs; is = a; least = keyOf n 0; behind = after alone (below (keyOf n 0) rs); order = sorted-from (keyOf n 0) 0 alone rs o; before = below (keyOf n 0) rs; all = records-all s (r .store) (r .is) ∙ split-at (keyOf n 0) 0 alone rs o; sum = sym lo };
       are = records-at s (w .lo) _ a ∙ t ∙ ap (λ (l : List Rec). recordsOf n rs ++ l) (sym (records-at s (w .hi) _ b));
       sum = omega (arith, lo, hi, z, total-at (keyOf n 0) 0 alone rs o, total-at (keyOf (n + 1) 0) 0 alone rs o);
       within = omega (arith, r .end, r .room);

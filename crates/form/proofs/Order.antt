@@ -54,6 +54,18 @@ unfolding sorted
 weaken h k u [] e l = refl
 weaken h k u (r ∷ rs) e l = let w = sorted-inv h u r rs e in sorted-cons k u r rs (record { ok = w .ok; least = omega (arith, w .least); rest = w .rest })
 
+-- ── the records before one are those below its key
+later-key : (a : List Rec) (k : ℕ) (u : Under) (r : Rec) (b : List Rec) → sorted k u (a ++ (r ∷ b)) ≡ true → k ≤ key r
+later-key [] k u r b e = sorted-inv k u r b e .least
+later-key (x ∷ a) k u r b e = let w = sorted-inv k u x (a ++ (r ∷ b)) e in omega (arith, w .least, later-key a (key x + 1) (under u x) r b (w .rest))
+
+pub below-front : (a : List Rec) (k : ℕ) (u : Under) (r : Rec) (b : List Rec) → sorted k u (a ++ (r ∷ b)) ≡ true → below (key r) (a ++ (r ∷ b)) ≡ a
+below-front [] k u r b e = let w = sorted-inv k u r b e in below-out (key r) r b (omega arith) ∙ none-below (key r) (key r + 1) (under u r) b (w .rest) (omega arith)
+below-front (x ∷ a) k u r b e =
+    let w = sorted-inv k u x (a ++ (r ∷ b)) e in
+    let l = later-key a (key x + 1) (under u x) r b (w .rest) in
+    below-in (key r) x (a ++ (r ∷ b)) (omega arith) ∙ ap (λ (y : List Rec). x ∷ y) (below-front a (key x + 1) (under u x) r b (w .rest))
+
 -- ── sorted records split at a key
 -- a record stands before the key, or it and all behind it stand from the key on
 pub data Side (h : ℕ) (u : Under) (r : Rec) (rs : List Rec) : Type 0 where

@@ -1,6 +1,6 @@
 -- The records of a store by their places. Assumes nothing.
 use mathlib.Core.Path.{_≡_, refl, sym, ap, _∙_, subst}
-use mathlib.Core.List.{List, [], _∷_}
+use mathlib.Core.List.{List, [], _∷_, _++_, append-assoc}
 use mathlib.Core.Bool.{Bool, true, false, cond}
 use mathlib.Core.Option.{Option, none, some}
 use Prim.Native.Nat.{ℕ, _+_, _-_, _<_, _≤_}
@@ -9,13 +9,14 @@ use lib.ListN.{length, take, drop, length-take, length-drop}
 use lib.Seq.{drop-drop}
 use Rattle.form.specs.Layout.{kindAt, numberAt, markRecord, leastStore, fontKind, fontRecord, fontKeptAt, characterRecord, characterKeptAt, codeAt}
 use Rattle.form.specs.Num.{field, allZero}
-use Rattle.form.specs.Model.{Rec, fontIn, characterIn, Store, under, alone, allowed, sorted, key, headRec, sizeOf, andThen, split, tallyOf, counted, markIn, decode, validOr}
+use Rattle.form.specs.Model.{Rec, fontIn, characterIn, Store, under, alone, allowed, sorted, key, headRec, sizeOf, total, andThen, split, tallyOf, counted, markIn, decode, validOr}
 use Rattle.form.specs.Records.{isStore, recordsIn, recordsAt, RecordPlace, Begun, MetAt, fontFrom, FontMet, characterFrom, CharacterMet}
 use Rattle.form.specs.declared.records.Begin.the-variants.{At}
 use Rattle.form.proofs.Numbers.{zeros-field, both-l, both-r}
 use Rattle.form.proofs.Fields.{field-drop}
 use Rattle.form.proofs.RecordBytes.{zero-head, Headed, is-font, is-character, head-inv, guard-test, guard-is, allowed-char, allowed-font, kept-width}
 use Rattle.form.proofs.Codec.{sorted-inv, split-eq, consTo-some, storeOf, begins-parts}
+use Rattle.form.proofs.Totals.{total-append}
 
 -- ── what stands at a place of the run
 pub data Standing (s : List ℕ) (rs : List Rec) : Type 0 where
@@ -52,6 +53,9 @@ place-next s at p r ts e h q =
       least = key r + 1;
       behind = under (p .behind) r;
       order = sorted-inv (p .least) (p .behind) r ts o .rest;
+      before = p .before ++ (r ∷ []);
+      all = p .all ∙ rw (e, append-assoc (p .before) (r ∷ []) ts);
+      sum = unfold total in omega (arith, p .sum, total-append (p .before) (r ∷ []));
     }
 
 pub char-size : (s : List ℕ) → field 4 0 s ≤ length s → characterRecord ≤ field 4 0 s → sizeOf (characterIn s) ≡ field 4 0 s
@@ -68,7 +72,7 @@ character-in-at s at =
     rw (drop-drop numberAt at s, drop-drop codeAt at s, drop-drop characterKeptAt at s, drop-drop characterRecord at s, e)
 
 module _ (s : List ℕ) (at : ℕ) (p : RecordPlace s at) where
-  records-are : (rs : List Rec) → p .recs ≡ rs → recordsAt s at ≡ rs
+  pub records-are : (rs : List Rec) → p .recs ≡ rs → recordsAt s at ≡ rs
   unfolding recordsAt
   records-are rs e = rw (p .is, e)
 
@@ -189,10 +193,10 @@ decoded s st e = go (split (drop markRecord s)) refl (guard-is _ _ st e)
         (begins-parts s (guard-test _ _ st e) .0, rw (← j) q, rw (← j) (both-l _ _ (both-l _ _ (guard-test _ _ st e'))), rw (← j) (both-r _ _ (both-l _ _ (guard-test _ _ st e'))))
 
 pub begun : (s : List ℕ) (st : Store) → decode s ≡ some st → Begun s (At markRecord)
-unfolding isStore recordsIn recordsAt
+unfolding isStore recordsIn recordsAt total
 begun s st e =
     let d = decoded s st e in
-    (rw e, record { within = d .0; recs = st .recs; is = d .1; least = 0; behind = alone; order = d .2 }, rw (d .1, e))
+    (rw e, record { within = d .0; recs = st .recs; is = d .1; least = 0; behind = alone; order = d .2; before = []; all = rw e; sum = refl }, rw (d .1, e))
 
 pub not-begun : (s : List ℕ) → decode s ≡ none → isStore s ≡ false
 unfolding isStore

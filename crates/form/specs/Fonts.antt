@@ -6,9 +6,9 @@ use mathlib.Core.Bool.{cond}
 use lib.Dec.{eqb, ltb}
 use lib.ListN.{length, take, drop}
 use Rattle.blocks.specs.Header.{headerBytes}
-use Rattle.form.specs.Layout.{lastFont}
+use Rattle.form.specs.Layout.{lastFont, fontKeptAt}
 use Rattle.form.specs.Model.{Rec, font, character}
-use Rattle.form.specs.Records.{recordsIn, recordsAt, RecordPlace}
+use Rattle.form.specs.Records.{recordsIn, fontPlace, recordsAt, RecordPlace}
 use Rattle.form.specs.declared.kept_fonts.NextFont.{NextFont}
 use Rattle.form.specs.declared.kept_fonts.NextFont.the-variants.{Font as found, End}
 
@@ -55,9 +55,10 @@ abbrev pub RisingFrom : ℕ → List Font → Type 0
 RisingFrom n [] = Unit {0}
 RisingFrom n (f ∷ l) = (n ≤ f .number) × RisingFrom (suc (f .number)) l
 
--- none, or the font at a place of the run or after it, and then those from the next place
+-- none, or the font at a place of the run or after it, whose kept bytes stand in its record, and then those from the next place
 abbrev pub Onward : List ℕ → ℕ → NextFont → Type 0
 Onward s at End = fontsAt s at ≡ []
 Onward s at (found n k next) =
     (fontsAt s at ≡ record { number = n; kept = take headerBytes (drop k s) } ∷ fontsAt s next)
     × RecordPlace s next × (at < next) × (next ≤ length s) × (k + headerBytes ≤ length s) × (n ≤ lastFont)
+    × (k ≡ fontPlace n (recordsIn s) + fontKeptAt)

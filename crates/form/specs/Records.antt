@@ -68,6 +68,10 @@ pub record RecordPlace (s : List ℕ) (at : ℕ) : Type 0 where
   pub least : ℕ
   pub behind : Under
   pub order : sorted least behind recs ≡ true
+  -- after those before it, with which they are all the records of the buffer
+  pub before : List Rec
+  pub all : recordsIn s ≡ before ++ recs
+  pub sum : markRecord + total before ≡ at
 
 -- where the run begins, if the buffer is a store
 abbrev pub Begun : List ℕ → Begin → Type 0

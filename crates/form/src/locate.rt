@@ -126,14 +126,6 @@ fn seek_key(s: &[u8], c: Cursor, key: usize) -> usize
     advance(s, c.used, MARK_RECORD, key)
 }
 
-// Where the record of font `font` begins, if there is one.
-pub fn font_place(s: &[u8], c: Cursor, font: usize) -> usize
-    requires { ⌜ Points (now s) c × (font ≤ 4294967296) ⌝ }
-    ensures { λ r. ⌜ Reaches (now (s .entry)) (keyOf font 0) r ⌝ }
-{
-    seek_key(s, c, font * KEYS_EACH + 0)
-}
-
 // The place of a key in a font whose place lo is known: from the cursor, if it is nearer.
 fn seek_place(s: &[u8], c: Cursor, lo: usize, font: usize, key: usize) -> usize
     requires { ⌜ Points (now s) c × Reaches (now s) (keyOf font 0) lo × (keyOf font 0 ≤ key) ⌝ }

@@ -11,7 +11,7 @@ returns : tie.Need-returns
 returns c =
     let n = c .before .before in
     let i = n .before in
-    let b = one-pass _ _ _ (i .before .before .before .pre) _ _ (n .nothing .ensures) (c .before .scan .ensures) in
+    let b = one-pass _ _ _ (i .before .before .before .pre) _ _ (n .nothing .ensures) (c .before .scan .ensures .0) in
     chooses _ _ (store-keyed _ _) (sym (i .before .in-range .ensures) ∙ i .if1 .taken) _ b _ (c .answer .ensures)
 
 returns-2 : tie.Need-returns-2

@@ -1,6 +1,6 @@
-use mathlib.Core.Path.{sym, _∙_}
+use mathlib.Core.Path.{refl, sym, _∙_}
 use borrow.Author.Needs.{needs}
-use Rattle.choice.proofs.Walk.{out-of-range, chooses, stores-keyed, two-passes}
+use Rattle.choice.proofs.Walk.{out-of-range, chooses, stores-keyed, two-passes, picked, picked-none}
 use Rattle.choice.proofs.choose_among_two.Statement.{statement}
 use Rattle.choice.proofs.choose_among_two.Tie as tie
 
@@ -8,18 +8,25 @@ scan-requires : tie.Need-scan-requires
 scan-requires c κs = let i = c .before in (i .before .before .before .before .pre .0 .1, sym (i .before .in-range .ensures) ∙ i .if1 .taken)
 
 scan-requires-2 : tie.Need-scan-requires-2
-scan-requires-2 c κs = let i = c .before .before in (i .before .before .before .before .pre .1 .1, sym (i .before .in-range .ensures) ∙ i .if1 .taken)
+scan-requires-2 c κs = let i = c .before .before .before in (i .before .before .before .before .pre .1 .1, sym (i .before .in-range .ensures) ∙ i .if1 .taken)
 
 returns : tie.Need-returns
 returns c =
-    let n = c .before .before .before in
+    let b = c .before .before .before in
+    let a = b .before .before in
+    let n = a .before in
     let i = n .before in
     let p = i .before .before .before .before .pre in
-    let b = two-passes _ _ _ _ _ (p .0) (p .1) _ _ _ (n .nothing .ensures) (c .before .before .scan .ensures) (c .before .scan2 .ensures) in
-    chooses _ _ (stores-keyed _ _) (sym (i .before .in-range .ensures) ∙ i .if1 .taken) _ b _ (c .answer .ensures)
+    let x = a .scan .ensures in
+    let y = b .scan2 .ensures in
+    let best = two-passes _ _ _ _ _ (p .0) (p .1) _ _ _ (n .nothing .ensures) (x .0) (y .0) in (
+      chooses _ _ (stores-keyed _ _) (sym (i .before .in-range .ensures) ∙ i .if1 .taken) _ best _ (c .before .answer .ensures),
+      picked _ _ _ _ _ _ _ (n .nothing .ensures) (x .1) (y .1) _ (c .before .answer .ensures) (c .either .ensures),
+    )
 
 returns-2 : tie.Need-returns-2
-returns-2 c = out-of-range _ _ (sym (c .before .in-range .ensures) ∙ c .if1 .left)
+returns-2 c = (out-of-range _ _ (sym (c .before .in-range .ensures) ∙ c .if1 .left), picked-none _ _ _ refl)
 
 pub choose-among-two-spec : {M : Type 1} → statement M
-choose-among-two-spec = tie.close (tie.spec (λ c κs. search needs) (λ c κs. search needs) scan-requires scan-requires-2 (λ c κs. search needs) returns returns-2)
+choose-among-two-spec =
+    tie.close (tie.spec (λ c κs. search needs) (λ c κs. search needs) scan-requires scan-requires-2 (λ c κs. search needs) (λ c κs. search needs) returns returns-2)

@@ -1,11 +1,12 @@
-use mathlib.Core.Path.{_≡_, refl, sym, _∙_}
-use Prim.Native.Nat.{_-_, _≤_}
+use mathlib.Core.Path.{_≡_, refl, sym, ap, _∙_}
+use Prim.Native.Nat.{ℕ, _+_, _-_, _≤_}
 use lib.ListN.{length}
 use denote.Ref.{now}
+use Rattle.form.specs.Layout.{fontKeptAt}
 use Rattle.form.specs.Records.{RecordPlace}
 use Rattle.form.specs.Fonts.{fontsAt}
 use Rattle.form.proofs.RecordRuns.{font-met, character-met}
-use Rattle.form.proofs.KeptFonts.{fonts-short, fonts-zero, font-listed, character-passed}
+use Rattle.form.proofs.KeptFonts.{fonts-short, fonts-zero, font-listed, character-passed, font-place}
 use borrow.Author.Needs.{needs}
 use native.Mathlib.Omega.{arith}
 use Rattle.form.proofs.kept_fonts.next_font.Statement.{statement}
@@ -37,7 +38,7 @@ add-t11 c = let n = font-met (now (c .before .before .before .before .before .be
 
 returns-2 : tie.Need-returns-2 Inv-loop μ-loop
 returns-2 c = let n = font-met (now (c .before .before .before .before .before .before .before .before .args .s)) (c .before .before .before .before .before .before .loop .p) (c .before .before .before .before .before .before .loop .inv .0) (λ e. omega arith) (omega arith) in
-    (rw (c .le162 .ensures .0) (sym (c .before .before .before .before .before .before .loop .inv .1) ∙ font-listed _ _ _ _ _ n), n .met .place, omega (arith, c .before .before .before .before .before .before .loop .inv .2), n .met .within, n .room, rw (c .le162 .ensures .0) (n .low))
+    (rw (c .le162 .ensures .0) (sym (c .before .before .before .before .before .before .loop .inv .1) ∙ font-listed _ _ _ _ _ n), n .met .place, omega (arith, c .before .before .before .before .before .before .loop .inv .2), n .met .within, n .room, rw (c .le162 .ensures .0) (n .low), rw (c .le162 .ensures .0) (ap (λ (x : ℕ). x + fontKeptAt) (font-place _ _ _ _ _ (c .before .before .before .before .before .before .loop .inv .0) n)))
 
 add-p : tie.Need-add-p Inv-loop μ-loop
 add-p c = let o = character-met (now (c .before .before .before .before .before .before .before .args .s)) (c .before .before .before .before .before .loop .p) (c .before .before .before .before .before .loop .inv .0) (λ e. omega arith) (λ e. omega arith) in omega (arith, o .met .within)
