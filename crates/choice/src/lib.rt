@@ -98,7 +98,7 @@ struct Score {
 }
 
 // The best of all fonts up to here, and where its kept bytes stand, if it is of the store that was passed over last.
-struct Scanned {
+struct BestSoFar {
     best: Score,
     kept: usize,
 }
@@ -353,7 +353,7 @@ fn nothing() -> Score
 }
 
 // The best of the best so far and the fonts from a place of a store on, in one pass; and where its kept bytes stand, if it is one of these.
-fn scan(s: &[u8], from: usize, soft: bool, first: Score, r: Request) -> Scanned
+fn scan(s: &[u8], from: usize, soft: bool, first: Score, r: Request) -> BestSoFar
     requires { ⌜ RecordPlace (now s) from × (inRange r ≡ true) ⌝ }
     ensures { λ b. ⌜ (b .best ≡ pass r first (candidates soft (fontsAt (now (s .entry)) from))) × StandsAt (now (s .entry)) soft first (b .best) (b .kept) ⌝ }
 {
@@ -362,7 +362,7 @@ fn scan(s: &[u8], from: usize, soft: bool, first: Score, r: Request) -> Scanned
     let mut at = from;
     loop {
         let NextFont::Font { number, kept, next } = form::kept_fonts::next_font(s, at) else {
-            return Scanned { best, kept: place };
+            return BestSoFar { best, kept: place };
         };
         let end = kept + header::KEPT;
         best = weigh(best, &s[kept..end], soft, number, r);
