@@ -13,6 +13,10 @@ class Chosen(ctypes.Structure):
     _fields_ = [("refusal", U32), ("font", U32)]
 
 
+class ChosenRecord(ctypes.Structure):
+    _fields_ = [("refusal", U32), ("font", U32), ("which", U32), ("place", U64)]
+
+
 class Told(ctypes.Structure):
     _fields_ = [("refusal", U32), ("count", U32)]
 
@@ -45,6 +49,7 @@ def main(path, fonts):
     make_fresh = declared(library, "mf_make_fresh", U32)
     read_stream = declared(library, "mf_read_stream", StreamRead, None)
     choose = declared(library, "mf_choose", Chosen, *[U32] * 5, ctypes.c_int32, *[U32] * 3)
+    from_two = declared(library, "mf_choose_from_two", ChosenRecord, None, *choose.argtypes[2:])
     tell = declared(library, "mf_tell_character", Told, None, U32, U32)
     draw_row = declared(library, "mf_draw_row", U32, None, U32, U32, U32)
     check_profile = declared(library, "mf_check_profile", Profile, U32)
@@ -66,6 +71,13 @@ def main(path, fonts):
     must_be("chosen", (chosen.refusal, chosen.font), (0, 3))
     refused = choose(store, len(store), 277, 1, 1000, 1000, 0, -8, 0, 0, 300)
     must_be("weight -8", (refused.refusal, refused.font), (2, 0))
+    # the same from two stores, an empty one before it: a record of 24 bytes, not in registers
+    empty = ctypes.create_string_buffer(12)
+    must_be("an empty store", make_fresh(empty, len(empty)), 0)
+    request = (277, 1, 1000, 1000, 0, 3, 0, 0, 300)
+    for one, other, which in ((store, empty, 1), (empty, store, 2)):
+        found = from_two(one, len(one), other, len(other), *request)
+        must_be("from two", (found.refusal, found.font, found.which, found.place), (0, 3, which, 12))
     told = tell(store, len(store), kept, len(kept), chosen.font, ord("A"))
     must_be("told", told.refusal, 0)
     width, height = (int.from_bytes(kept.raw[at:at + 2], "big") for at in (10, 12))
