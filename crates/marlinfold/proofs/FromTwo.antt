@@ -17,7 +17,7 @@ use Rattle.choice.specs.Choosing.{choosingAmong, choosingFromTwo, refusalOf, fo
 use Rattle.choice.specs.Right.{Keyed, Without, With, Lawful}
 use Rattle.choice.specs.declared.Request.{Request}
 use Rattle.choice.specs.declared.Chosen.{Chosen}
-use Rattle.choice.specs.declared.Chosen.the-variants.{Number, NotStore, OutOfRange}
+use Rattle.choice.specs.declared.Chosen.the-variants.{Number, NotStore, OutOfRange, NoFont}
 use Rattle.choice.proofs.Least.{not-both}
 use Rattle.choice.proofs.Members.{in-left, in-right, in-either, font-in, not-cartridge, not-soft, soft-in, cartridge-in}
 use Rattle.choice.proofs.Choice.{two-keyed}
@@ -26,7 +26,7 @@ use Rattle.cartridge.specs.Cartridge.{chosenPlace, recordAnswer, answeringFromT
 use Rattle.cartridge.proofs.Stands.{font-stands}
 use Rattle.marlinfold.specs.Calls.{Call, leaves, ran}
 use Rattle.marlinfold.specs.Book.{bookFrom}
-use Rattle.marlinfold.specs.Demands.{AnswersFromTwo, placeAnswered, ChoosesFromTwo, Begins, fresh, dump, Demand3FromTwo, RefusesFromTwo, OneFromTwo}
+use Rattle.marlinfold.specs.Demands.{firstNumbers, AnswersFromTwo, placeAnswered, ChoosesFromTwo, Begins, fresh, dump, Demand3FromTwo, RefusesFromTwo, OneFromTwo}
 use Rattle.marlinfold.proofs.Demand3.{singly-ran, Kept, calls-kept, candidates-without, candidates-with, keyed, gone, fontBy, came}
 
 -- ── fonts that come or go beside the fonts of another store
@@ -66,6 +66,13 @@ module _ (s t : List ℕ) (book cart : List Font) (k : Kept s book) (j : Kept t 
       go false q = font-stands t _ (rw (j .1) (font-in false cart c (cartridge-in book cart c m q)))
 
 -- ── the claim
+by-numbers : (a : Chosen) → refusalOf a ∷ fontOf a ∷ whichOf a ∷ [] ≡ firstNumbers a
+by-numbers (Number true n) = refl
+by-numbers (Number false n) = refl
+by-numbers NotStore = refl
+by-numbers OutOfRange = refl
+by-numbers NoFont = refl
+
 module _ (r : Request) (i : inRange r ≡ true) where
   two-by : (s t : List ℕ) (book cart : List Font) → Kept s book → Kept t cart → choosingFromTwo s t r ≡ choice r (ofBoth book cart)
   unfolding choosingFromTwo choosingAmong
@@ -73,7 +80,7 @@ module _ (r : Request) (i : inRange r ≡ true) where
 
   says : (s t : List ℕ) (a : Chosen) → choosingFromTwo s t r ≡ a → AnswersFromTwo r s t a
   unfolding answeringFromTwo recordAnswer
-  says s t a e = record { refusal = ap refusalOf e; names = ap (λ (x : Chosen). fontOf x ∷ whichOf x ∷ []) e }
+  says s t a e = ap (λ (x : Chosen). refusalOf x ∷ fontOf x ∷ whichOf x ∷ []) e ∙ by-numbers a
 
   place-is : (s t : List ℕ) → placeAnswered r s t ≡ chosenPlace s t (choosingFromTwo s t r)
   unfolding answeringFromTwo recordAnswer

@@ -16,11 +16,10 @@ use Rattle.store.specs.Calls.{removeFont}
 use Rattle.choice.specs.Request.{inRange}
 use Rattle.choice.specs.Lists.{In}
 use Rattle.choice.specs.Candidates.{Candidate, candidates, ofBoth}
-use Rattle.choice.specs.Choosing.{refusalOf, fontOf, whichOf}
 use Rattle.choice.specs.Right.{Keyed, Unused, Right}
 use Rattle.choice.specs.declared.Request.{Request}
 use Rattle.choice.specs.declared.Chosen.{Chosen}
-use Rattle.choice.specs.declared.Chosen.the-variants.{Number}
+use Rattle.choice.specs.declared.Chosen.the-variants.{Number, NotStore, OutOfRange, NoFont}
 use Rattle.sheet.specs.declared.SheetAnswer.{SheetAnswer}
 use Rattle.stream.specs.Reading.{Progress, Ended, firstTarget, noneCounted, readFrom}
 use Rattle.stream.specs.declared.reading.Ending.the-variants.{BrokenAt}
@@ -191,10 +190,17 @@ Demand3 =
     → Chooses r (ran calls (leaves make-fresh s)) (bookAfter calls (leaves make-fresh s))
 
 -- ── W-208: demand 3 for the choice from two stores, the soft store s and the cartridge t
+-- a choice by its first numbers: the refusal, the font, "which store that is (1 soft, 2 cartridge)"
+abbrev pub firstNumbers : Chosen → List ℕ
+firstNumbers (Number true n) = 0 ∷ n ∷ 1 ∷ []
+firstNumbers (Number false n) = 0 ∷ n ∷ 2 ∷ []
+firstNumbers NotStore = 1 ∷ 0 ∷ 0 ∷ []
+firstNumbers OutOfRange = 2 ∷ 0 ∷ 0 ∷ []
+firstNumbers NoFont = 11 ∷ 0 ∷ 0 ∷ []
+
 -- choosing answers a, wherever the record of the font that it names stands
-pub record AnswersFromTwo (r : Request) (s t : List ℕ) (a : Chosen) : Type 0 where
-  pub refusal : outcome (choose-from-two true t r) s .refusal ≡ refusalOf a
-  pub names : take 2 (outcome (choose-from-two true t r) s .numbers) ≡ fontOf a ∷ whichOf a ∷ []
+abbrev pub AnswersFromTwo : Request → List ℕ → List ℕ → Chosen → Type 0
+AnswersFromTwo r s t a = outcome (choose-from-two true t r) s .refusal ∷ take 2 (outcome (choose-from-two true t r) s .numbers) ≡ firstNumbers a
 
 -- the place that it answers
 abbrev pub placeAnswered : Request → List ℕ → List ℕ → ℕ
