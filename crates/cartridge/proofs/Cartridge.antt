@@ -1,7 +1,7 @@
 -- The chosen font's record in two stores, from what the code finds. Assumes nothing.
 use Prim.Native.Nat.{ℕ, _+_, _-_, _<_, _≤_}
 use mathlib.Core.Path.{_≡_, refl, sym, ap, _∙_}
-use mathlib.Core.Bool.{Bool, true, false, cond, _&&_}
+use mathlib.Core.Bool.{Bool, true, false, cond, _&&_, false≢true}
 use mathlib.Core.List.{List}
 use native.Mathlib.Nat.{zero-add}
 use native.Mathlib.Omega.{arith}
@@ -14,13 +14,12 @@ use Rattle.form.specs.Fonts.{fontsOf}
 use Rattle.form.specs.declared.records.Begin.{Begin}
 use Rattle.form.specs.declared.records.Begin.the-variants.{At, NotStore}
 use Rattle.choice.specs.Candidates.{ofBoth}
-use Rattle.choice.specs.Choosing.{choosingAmong}
+use Rattle.choice.specs.Choosing.{choosingAmong, choosingFromTwo}
 use Rattle.choice.specs.Scores.{PickedAt}
 use Rattle.choice.specs.declared.Request.{Request}
 use Rattle.choice.specs.declared.Picked.{Picked}
 use Rattle.choice.specs.declared.Chosen.{Chosen}
 use Rattle.choice.specs.declared.Chosen.the-variants.{Number, NotStore as not-store}
-use Rattle.choice.proofs.Walk.{first-no-store, second-no-store, on-two-stores}
 use Rattle.cartridge.specs.declared.RecordAnswer.{RecordAnswer}
 use Rattle.cartridge.specs.Cartridge.{chosenPlace, recordAnswer, answeringFromTwo, MemoryPart, fits, recordPart}
 
@@ -34,25 +33,18 @@ module _ (s : List ℕ) (v : Begin) (h : Begun s v) where
 
 module _ (s t : List ℕ) (r : Request) where
   pub first-refused : isStore s ≡ false → recordAnswer s t not-store ≡ answeringFromTwo s t r
-  unfolding answeringFromTwo
-  first-refused e = ap (recordAnswer s t) (first-no-store s t r e)
+  unfolding answeringFromTwo choosingFromTwo
+  first-refused e = rw e
 
   pub second-refused : isStore s ≡ true → isStore t ≡ false → recordAnswer s t not-store ≡ answeringFromTwo s t r
-  unfolding answeringFromTwo
-  second-refused e f = ap (recordAnswer s t) (second-no-store s t r e f)
+  unfolding answeringFromTwo choosingFromTwo
+  second-refused e f = rw (e, f)
 
   pub both-stores : isStore s ≡ true → isStore t ≡ true → (c : Chosen) → c ≡ choosingAmong (ofBoth (fontsOf s) (fontsOf t)) r → (a : RecordAnswer) → a ≡ recordAnswer s t c → a ≡ answeringFromTwo s t r
-  unfolding answeringFromTwo
-  both-stores e f c h a k = k ∙ ap (recordAnswer s t) (on-two-stores s t r e f c h)
+  unfolding answeringFromTwo choosingFromTwo
+  both-stores e f c h a k = rw (e, f) (k ∙ ap (recordAnswer s t) h)
 
 -- ── the part
-never : _≡_ {A = Bool} false true → ⊥
-never e = let z : _≡_ {A = ℕ} 0 1 = cc in omega (arith, z)
-
-both-r : (b t : Bool) → b && t ≡ true → t ≡ true
-both-r true t e = e
-both-r false t e = absurd (never e)
-
 pub too-short : (n at : ℕ) → n < fontRecord → false ≡ fits n at
 unfolding fits
 too-short n at l = rw (lt-leb fontRecord n l) refl
@@ -63,12 +55,13 @@ long-enough n at l = rw (le-leb fontRecord n l) refl
 
 pub room : (n at : ℕ) (b t : Bool) → t ≡ fits n at → b && t ≡ true → at + fontRecord ≤ n
 unfolding fits
-room n at b t e f = go (leb fontRecord n) (leb at (n - fontRecord)) refl refl (sym e ∙ both-r b t f)
+room n at false t e f = absurd (false≢true f)
+room n at true t e f = go (leb fontRecord n) (leb at (n - fontRecord)) refl refl (sym e ∙ f)
   where
     go : (x y : Bool) → leb fontRecord n ≡ x → leb at (n - fontRecord) ≡ y → x && y ≡ true → at + fontRecord ≤ n
     go true true p q z = omega (arith, leb-true fontRecord n p, leb-true at (n - fontRecord) q)
-    go true false p q z = absurd (never z)
-    go false y p q z = absurd (never z)
+    go true false p q z = absurd (false≢true z)
+    go false y p q z = absurd (false≢true z)
 
 -- the three ways out
 module _ (a b : MemoryPart) (c : RecordAnswer) where

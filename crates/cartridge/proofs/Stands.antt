@@ -3,7 +3,7 @@ use Prim.Native.Nat.{ℕ, _+_, _-_, _≤_}
 use mathlib.Core.Path.{_≡_, refl, sym, ap, _∙_, subst}
 use mathlib.Core.Logic.{inl, inr}
 use mathlib.Core.Bool.{Bool, true, false, _&&_, cond}
-use mathlib.Core.List.{List, [], _∷_}
+use mathlib.Core.List.{List, [], _∷_, _++_}
 use mathlib.Core.Option.{Option, none, some}
 use native.Mathlib.Omega.{arith}
 use lib.ListN.{take, drop, length-drop}
@@ -12,9 +12,9 @@ use borrow.Author.Tests.{le-leb}
 use Rattle.blocks.specs.Header.{headerBytes}
 use Rattle.form.specs.Layout.{markRecord, fontRecord, keyOf, kindAt, numberAt, fontKeptAt}
 use Rattle.form.specs.Num.{field}
-use Rattle.form.specs.Model.{Rec, font, character, Store, Under, under, alone, sorted, number, place, key, total, headRec, split, decode}
+use Rattle.form.specs.Model.{tallyIn, tallyOf, Rec, font, character, Store, Under, under, alone, sorted, number, place, key, total, headRec, split, decode}
 use Rattle.form.specs.Order.{below, from, find}
-use Rattle.form.specs.Records.{isStore, recordsBy, recordsIn, fontPlace, FontStands}
+use Rattle.form.specs.Records.{isStore, recordsIn, recordsAt, recordsBehind, tallyByFont, fontPlace, FontStands}
 use Rattle.form.specs.Fonts.{Font, fontsIn, fontsOf}
 use Rattle.form.proofs.Fields.{field-drop}
 use Rattle.form.proofs.RecordBytes.{Headed, is-font, is-character, head-inv}
@@ -22,6 +22,8 @@ use Rattle.form.proofs.Codec.{sorted-inv}
 use Rattle.form.proofs.RecordRuns.{decoded}
 use Rattle.form.proofs.Lookup.{found, find-here, find-other, find-behind}
 use Rattle.form.proofs.Locates.{from-key, split-rest}
+use Rattle.form.proofs.Order.{split-at}
+use Rattle.form.proofs.Counts.{counts-true}
 use Rattle.choice.specs.Lists.{In}
 use Rattle.choice.specs.Candidates.{Candidate, ofBoth}
 use Rattle.choice.specs.Request.{inRange}
@@ -32,7 +34,7 @@ use Rattle.choice.specs.declared.Chosen.{Chosen}
 use Rattle.choice.specs.declared.Chosen.the-variants.{Number, NotStore, OutOfRange, NoFont}
 use Rattle.choice.proofs.Members.{font-in, soft-in, cartridge-in}
 use Rattle.choice.proofs.Choice.{choice-in}
-use Rattle.cartridge.specs.Cartridge.{recordAnswer, answeringFromTwo, MemoryPart, fits, recordPart, Gives, of-soft, of-cartridge, nothing, GivesRecord}
+use Rattle.cartridge.specs.Cartridge.{chosenPlace, recordAnswer, answeringFromTwo, MemoryPart, fits, recordPart, Gives, of-soft, of-cartridge, nothing, GivesRecord}
 
 -- ── among records by rising keys a font is found by its number
 later : (f : Font) (r : Rec) (rs : List Rec) (u : Under) → sorted (key r + 1) u rs ≡ true → find (keyOf (f .number) 0) rs ≡ some (font (f .number) (f .kept))
@@ -56,34 +58,61 @@ font-found f (character n c h d ∷ rs) k u o m =
     let w = sorted-inv k u (character n c h d) rs o in
     later f (character n c h d) rs (under u (character n c h d)) (w .rest) (font-found f rs (key (character n c h d) + 1) (under u (character n c h d)) (w .rest) m)
 
--- ── a font at the front, by its bytes
-front : (s : List ℕ) (at n : ℕ) (h : List ℕ) → headRec (drop at s) ≡ some (font n h) → FontStands s at n h
-front s at n h e = go (font n h) (head-inv (drop at s) (font n h) e) refl
-  where
-    go : (r : Rec) → Headed (drop at s) r → r ≡ font n h → FontStands s at n h
-    go r (is-character f k l) q = let z : _≡_ {A = ℕ} 0 1 = cc in absurd (omega arith)
-    go r (is-font x) q =
-        let i : field 2 numberAt (drop at s) ≡ n = cc in
-        let j : take headerBytes (drop fontKeptAt (drop at s)) ≡ h = cc in
-        record {
-          whole = omega (arith, x .fits, x .len, length-drop at s);
-          size = x .len;
-          kind = sym (field-drop 2 kindAt at s) ∙ x .kind;
-          number = sym (field-drop 2 numberAt at s) ∙ i;
-          kept = ap (take headerBytes) (sym (drop-drop fontKeptAt at s)) ∙ j;
-        }
+-- ── a font's record by its bytes
+module _ (s : List ℕ) (at n : ℕ) (h : List ℕ) (before later : List Rec) (w : recordsIn s ≡ before ++ (font n h ∷ later)) (p : at ≡ markRecord + total before) (c : tallyIn (drop at s) ≡ tallyOf (recordsIn s) n) where
+  front : headRec (drop at s) ≡ some (font n h) → FontStands s at n h
+  front e = go (font n h) (head-inv (drop at s) (font n h) e) refl
+    where
+      go : (r : Rec) → Headed (drop at s) r → r ≡ font n h → FontStands s at n h
+      go r (is-character f k l) q = let z : _≡_ {A = ℕ} 0 1 = cc in absurd (omega arith)
+      go r (is-font x) q =
+          let i : field 2 numberAt (drop at s) ≡ n = cc in
+          let j : take headerBytes (drop fontKeptAt (drop at s)) ≡ h = cc in
+          record {
+            before = before;
+            later = later;
+            records = w;
+            here = p;
+            whole = omega (arith, x .fits, x .len, length-drop at s);
+            size = x .len;
+            kind = sym (field-drop 2 kindAt at s) ∙ x .kind;
+            number = sym (field-drop 2 numberAt at s) ∙ i;
+            tally = c;
+            kept = ap (take headerBytes) (sym (drop-drop fontKeptAt at s)) ∙ j;
+          }
 
-pub font-stands : (s : List ℕ) (f : Font) → In f (fontsOf s) → FontStands s (fontPlace (f .number) (recordsIn s)) (f .number) (f .kept)
-unfolding fontsOf recordsIn
-font-stands s f = go (decode s) refl
+behind-is : (s : List ℕ) (st : Store) → decode s ≡ some st → recordsBehind s ≡ st .recs
+unfolding recordsAt
+behind-is s st e = rw (decoded s st e .1)
+
+in-is : (s : List ℕ) (st : Store) → decode s ≡ some st → recordsIn s ≡ st .recs
+unfolding recordsIn
+in-is s st e = rw e
+
+none-in : (s : List ℕ) → decode s ≡ none → fontsIn (recordsIn s) ≡ []
+unfolding recordsIn fontsIn
+none-in s e = rw e
+
+font-stands : (s : List ℕ) (f : Font) → In f (fontsOf s) → FontStands s (fontPlace (f .number) (recordsIn s)) (f .number) (f .kept)
+unfolding fontsOf
+font-stands s f m = go (decode s) refl
   where
-    go : (o : Option Store) → decode s ≡ o → In f (fontsIn (recordsBy o)) → FontStands s (fontPlace (f .number) (recordsBy o)) (f .number) (f .kept)
-    go none e m = absurd (unfold fontsIn in m)
-    go (some st) e m =
+    go : (o : Option Store) → decode s ≡ o → FontStands s (fontPlace (f .number) (recordsIn s)) (f .number) (f .kept)
+    go none e = absurd (rw (none-in s e) at m)
+    go (some st) e =
         let d = decoded s st e in
         let k = keyOf (f .number) 0 in
-        let t : split (drop (fontPlace (f .number) (st .recs)) s) ≡ some (font (f .number) (f .kept) ∷ from (k + 1) (st .recs)) = ap split (sym (drop-drop (total (below k (st .recs))) markRecord s)) ∙ from-key k 0 alone (st .recs) (drop markRecord s) (d .2) (d .1) ∙ ap some (found k 0 alone (font (f .number) (f .kept)) (st .recs) (d .2) (font-found f (st .recs) 0 alone (d .2) m) .rest) in
-        front s (fontPlace (f .number) (st .recs)) (f .number) (f .kept) (split-rest (drop (fontPlace (f .number) (st .recs)) s) (font (f .number) (f .kept)) (from (k + 1) (st .recs)) t .0)
+        let rs = st .recs in
+        let i : recordsIn s ≡ rs = in-is s st e in
+        let fd = font-found f rs 0 alone (d .2) (rw i at m) in
+        let fo = found k 0 alone (font (f .number) (f .kept)) rs (d .2) fd in
+        let at : ℕ = fontPlace (f .number) rs in
+        let t : split (drop at s) ≡ some (font (f .number) (f .kept) ∷ from (k + 1) rs) = ap split (sym (drop-drop (total (below k rs)) markRecord s)) ∙ from-key k 0 alone rs (drop markRecord s) (d .2) (d .1) ∙ ap some (fo .rest) in
+        let w : recordsIn s ≡ below k rs ++ (font (f .number) (f .kept) ∷ from (k + 1) rs) = i ∙ split-at k 0 alone rs (d .2) ∙ ap (λ (l : List Rec). below k rs ++ l) (fo .rest) in
+        let b : recordsBehind s ≡ rs = behind-is s st e in
+        let ct : tallyByFont (f .number) s ≡ tallyOf (recordsBehind s) (f .number) = counts-true s st e (f .number) (f .kept) (rw b fd) in
+        let c : tallyIn (drop at s) ≡ tallyOf (recordsIn s) (f .number) = rw i (rw b at ct) in
+        rw i (front s at (f .number) (f .kept) (below k rs) (from (k + 1) rs) w refl c (split-rest (drop at s) (font (f .number) (f .kept)) (from (k + 1) rs) t .0))
 
 -- ── what is chosen is one of the fonts of both stores, and stands at its place
 chosen-in : (s t : List ℕ) (r : Request) (p : Bool) (n : ℕ) → choosingFromTwo s t r ≡ Number p n → (c : Candidate) × In c (ofBoth (fontsOf s) (fontsOf t)) × (c .soft ≡ p) × (c .number ≡ n)
@@ -96,16 +125,19 @@ chosen-in s t r p n e = go (isStore s && isStore t) (inRange r) e
     go true false q = let z : _≡_ {A = ℕ} 0 1 = cc in absurd (omega arith)
     go false b q = let z : _≡_ {A = ℕ} 0 1 = cc in absurd (omega arith)
 
-module _ (s t : List ℕ) (r : Request) (n : ℕ) where
-  soft-stands : choosingFromTwo s t r ≡ Number true n → (h : List ℕ) × FontStands s (fontPlace n (recordsIn s)) n h
-  soft-stands e =
-      let c = chosen-in s t r true n e in
-      (c .0 .kept, subst (λ (x : ℕ). FontStands s (fontPlace x (recordsIn s)) x (c .0 .kept)) (c .3) (font-stands s _ (font-in true (fontsOf s) (c .0) (soft-in (fontsOf s) (fontsOf t) (c .0) (c .1) (c .2)))))
+-- a font of both stores stands at its place in its own
+pub stands-in : (s t : List ℕ) (c : Candidate) → In c (ofBoth (fontsOf s) (fontsOf t)) → FontStands (cond (c .soft) s t) (chosenPlace s t (Number (c .soft) (c .number))) (c .number) (c .kept)
+stands-in s t c m = go (c .soft) refl
+  where
+    go : (p : Bool) → c .soft ≡ p → FontStands (cond p s t) (chosenPlace s t (Number p (c .number))) (c .number) (c .kept)
+    go true q = font-stands s _ (font-in true (fontsOf s) c (soft-in (fontsOf s) (fontsOf t) c m q))
+    go false q = font-stands t _ (font-in false (fontsOf t) c (cartridge-in (fontsOf s) (fontsOf t) c m q))
 
-  cartridge-stands : choosingFromTwo s t r ≡ Number false n → (h : List ℕ) × FontStands t (fontPlace n (recordsIn t)) n h
-  cartridge-stands e =
-      let c = chosen-in s t r false n e in
-      (c .0 .kept, subst (λ (x : ℕ). FontStands t (fontPlace x (recordsIn t)) x (c .0 .kept)) (c .3) (font-stands t _ (font-in false (fontsOf t) (c .0) (cartridge-in (fontsOf s) (fontsOf t) (c .0) (c .1) (c .2)))))
+chosen-stands : (s t : List ℕ) (r : Request) (p : Bool) (n : ℕ) → choosingFromTwo s t r ≡ Number p n → (h : List ℕ) × FontStands (cond p s t) (chosenPlace s t (Number p n)) n h
+chosen-stands s t r p n e =
+    let c = chosen-in s t r p n e in
+    let h = c .0 .kept in
+    (h, subst (λ (x : ℕ). FontStands (cond p s t) (chosenPlace s t (Number p x)) x h) (c .3) (subst (λ (q : Bool). FontStands (cond q s t) (chosenPlace s t (Number q (c .0 .number))) (c .0 .number) h) (c .2) (stands-in s t (c .0) (c .1))))
 
 -- ── the part
 fitting : (n at : ℕ) → at + fontRecord ≤ n → fits n at ≡ true
@@ -119,11 +151,11 @@ module _ (soft cartridge : MemoryPart) where
   module _ (r : Request) (n : ℕ) where
     by-soft : choosingFromTwo (soft .bytes) (cartridge .bytes) r ≡ Number true n → Given (Number true n)
     unfolding recordAnswer recordPart
-    by-soft e = let f = soft-stands (soft .bytes) (cartridge .bytes) r n e in of-soft refl refl (record { part = rw (fitting _ _ (f .1 .whole)); kept = f .0; stands = f .1 })
+    by-soft e = let f = chosen-stands (soft .bytes) (cartridge .bytes) r true n e in of-soft refl refl (record { part = rw (fitting _ _ (f .1 .whole)); kept = f .0; stands = f .1 })
 
     by-cartridge : choosingFromTwo (soft .bytes) (cartridge .bytes) r ≡ Number false n → Given (Number false n)
     unfolding recordAnswer recordPart
-    by-cartridge e = let f = cartridge-stands (soft .bytes) (cartridge .bytes) r n e in of-cartridge refl refl (record { part = rw (fitting _ _ (f .1 .whole)); kept = f .0; stands = f .1 })
+    by-cartridge e = let f = chosen-stands (soft .bytes) (cartridge .bytes) r false n e in of-cartridge refl refl (record { part = rw (fitting _ _ (f .1 .whole)); kept = f .0; stands = f .1 })
 
   by-refusal : (v : Chosen) → (recordAnswer (soft .bytes) (cartridge .bytes) v .refusal ≡ 0 → ⊥) → whichOf v ≡ 0 → Given v
   unfolding recordAnswer recordPart

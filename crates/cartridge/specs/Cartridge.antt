@@ -59,7 +59,7 @@ pub record IsRecord (u p : MemoryPart) (a : RecordAnswer) : Type 0 where
   pub kept : List ℕ
   pub stands : FontStands (u .bytes) (a .place) (a .font) kept
 
--- the part p beside the numbers a of an answer: the record in the store that they name, or nothing of the soft store
+-- the part p beside the numbers a of an answer: the record in the store that they name; for a refusal, an empty part of the soft store
 pub data Gives (soft cartridge : MemoryPart) (a : RecordAnswer) (p : MemoryPart) : Type 0 where
   of-soft : a .refusal ≡ 0 → a .which ≡ 1 → IsRecord soft p a → Gives soft cartridge a p
   of-cartridge : a .refusal ≡ 0 → a .which ≡ 2 → IsRecord cartridge p a → Gives soft cartridge a p

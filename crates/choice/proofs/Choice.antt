@@ -1,5 +1,5 @@
 -- The choice depends on nothing but which fonts there are, and it stands if fonts that were not chosen go. Assumes nothing.
-use Prim.Native.Nat.{ℕ, suc, _≤_}
+use Prim.Native.Nat.{ℕ, suc, _≤_, _<_}
 use mathlib.Core.Path.{_≡_, refl, sym, ap, _∙_}
 use mathlib.Core.Logic.{_⊎_, inl, inr, ⊎-elim}
 use mathlib.Core.List.{List, [], _∷_}
@@ -9,14 +9,15 @@ use native.Mathlib.Omega.{arith}
 use Rattle.form.specs.Fonts.{Font, RisingFrom}
 use Rattle.choice.specs.Candidates.{Candidate, candidates, ofBoth}
 use Rattle.choice.specs.Lists.{In}
-use Rattle.choice.specs.Steps.{hasOrientation, fontsLeft, firstNumber, choice, takesPart}
-use Rattle.choice.specs.Scores.{miss, minorOf, scoreOf}
+use Rattle.choice.specs.Fields.{isFixed, isFine, comparedPitch, comparedHeight, weightOf}
+use Rattle.choice.specs.Steps.{hasSet, inMode, hasSpacing, qualifies, heightOff, hasStyle, exact, isThicker, isThinner, hasTypeface, hasOrientation, fontsLeft, firstNumber, choice, takesPart}
+use Rattle.choice.specs.Scores.{miss, pitchScore, weightScore, majorOf, minorOf, scoreOf}
 use Rattle.choice.specs.Right.{Keyed}
 use Rattle.choice.specs.declared.Request.{Request}
 use Rattle.choice.specs.declared.Chosen.the-variants.{Number, NoFont}
 use Rattle.choice.proofs.Least.{whether, not-both, miss-bound}
 use Rattle.choice.proofs.Steps.{Before, is-left}
-use Rattle.choice.proofs.Members.{soft-in, cartridge-in}
+use Rattle.choice.proofs.Members.{in-left, font-in, candidate-in, soft-in, cartridge-in}
 
 module _ (r : Request) where
   -- two that are level are of one store and have one number
@@ -58,14 +59,39 @@ module _ (r : Request) where
       go [] h mc = absurd mc
       go (f ∷ k) h mc = ap (λ (x : Candidate). Number (x .soft) (x .number)) (h f (inl refl))
 
-  -- what is named is one of the fonts
-  pub choice-in : (l : List Candidate) (p : Bool) (n : ℕ) → choice r l ≡ Number p n → (c : Candidate) × In c l × (c .soft ≡ p) × (c .number ≡ n)
+  -- what is named is left, and so is one of the fonts
+  choice-left : (l : List Candidate) (p : Bool) (n : ℕ) → choice r l ≡ Number p n → (c : Candidate) × In c (fontsLeft r l) × (c .soft ≡ p) × (c .number ≡ n)
   unfolding choice firstNumber
-  choice-in l p n e = go (fontsLeft r l) (λ x m. is-left r l .base x m .0) e
+  choice-left l p n e = go (fontsLeft r l) e
     where
-      go : (k : List Candidate) → ((x : Candidate) → In x k → In x l) → firstNumber k ≡ Number p n → (c : Candidate) × In c l × (c .soft ≡ p) × (c .number ≡ n)
-      go [] h q = let z : _≡_ {A = ℕ} 0 1 = cc in absurd (omega arith)
-      go (f ∷ k) h q = (f, h f (inl refl), cc, cc)
+      go : (k : List Candidate) → firstNumber k ≡ Number p n → (c : Candidate) × In c k × (c .soft ≡ p) × (c .number ≡ n)
+      go [] q = let z : _≡_ {A = ℕ} 0 1 = cc in absurd (omega arith)
+      go (f ∷ k) q = (f, inl refl, cc, cc)
+
+  pub choice-in : (l : List Candidate) (p : Bool) (n : ℕ) → choice r l ≡ Number p n → (c : Candidate) × In c l × (c .soft ≡ p) × (c .number ≡ n)
+  choice-in l p n e = let c = choice-left l p n e in (c .0, is-left r l .base (c .0) (c .1) .0, c .2, c .3)
+
+  -- a font of the cartridge that the soft store has too is not left
+  abbrev in-soft : Candidate → Candidate
+  in-soft c = record { soft = true; number = c .number; kept = c .kept }
+
+  soft-takes : (c : Candidate) → takesPart r (in-soft c) ≡ takesPart r c
+  unfolding takesPart hasSet inMode isFine
+  soft-takes c = refl
+
+  soft-major : (c : Candidate) → majorOf r (in-soft c) ≡ majorOf r c
+  unfolding majorOf hasSet hasSpacing isFixed pitchScore qualifies comparedPitch
+  soft-major c = refl
+
+  soft-minor : (c : Candidate) → c .soft ≡ false → minorOf r (in-soft c) < minorOf r c
+  unfolding minorOf heightOff comparedHeight hasStyle weightScore exact isThicker isThinner weightOf hasTypeface isFine hasOrientation
+  soft-minor c e = rw e (omega arith)
+
+  soft-first : (l : List Candidate) (c : Candidate) → In c (fontsLeft r l) → In (in-soft c) l → c .soft ≡ false → ⊥
+  unfolding Before scoreOf
+  soft-first l c m i e =
+      let h = is-left r l .low c (in-soft c) m (i, soft-takes c ∙ is-left r l .base c m .1) in
+      omega (arith, soft-minor c e, h .1 (omega (arith, soft-major c)) .0)
 
   -- either none takes part, and the answer is a refusal, or a font is left
   pub either : (l : List Candidate) → ((choice r l ≡ NoFont) × ((x : Candidate) → In x l → takesPart r x ≡ false)) ⊎ ((c : Candidate) × In c (fontsLeft r l))
@@ -116,3 +142,13 @@ two-keyed a b ka kb x y mx my s h = go (y .soft) refl
     go : (p : Bool) → y .soft ≡ p → x ≡ y
     go true q = ka x y (soft-in a b x mx (s ∙ q)) (soft-in a b y my q) s h
     go false q = kb x y (cartridge-in a b x mx (s ∙ q)) (cartridge-in a b y my q) s h
+
+-- where both stores have the same fonts, a soft one is chosen
+pub soft-of-same : (r : Request) (l : List Font) (p : Bool) (n : ℕ) → choice r (ofBoth l l) ≡ Number p n → p ≡ true
+unfolding ofBoth
+soft-of-same r l true n e = refl
+soft-of-same r l false n e =
+    let c = choice-left r (ofBoth l l) false n e in
+    let m = is-left r (ofBoth l l) .base (c .0) (c .1) .0 in
+    let soft = candidate-in true l (in-soft r (c .0)) refl (font-in false l (c .0) (cartridge-in l l (c .0) m (c .2))) in
+    absurd (soft-first r (ofBoth l l) (c .0) (c .1) (in-left (in-soft r (c .0)) (candidates true l) (candidates false l) soft) (c .2))

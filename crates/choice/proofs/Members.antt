@@ -4,7 +4,7 @@ use mathlib.Core.Logic.{_⊎_, inl, inr, ⊎-elim}
 use mathlib.Core.List.{List, [], _∷_, _++_}
 use mathlib.Core.Bool.{Bool, true, false}
 use Rattle.form.specs.Fonts.{Font}
-use Rattle.choice.specs.Candidates.{Candidate, candidate, candidates, ofBoth}
+use Rattle.choice.specs.Candidates.{Candidate, candidate, asFont, candidates, ofBoth}
 use Rattle.choice.specs.Lists.{In}
 use Rattle.choice.proofs.Least.{not-both}
 
@@ -22,10 +22,6 @@ module _ {A : Type 0} (x : A) where
   in-either [] b m = inr m
   in-either (y ∷ a) b (inl e) = inl (inl e)
   in-either (y ∷ a) b (inr m) = ⊎-elim (λ p. inl (inr p)) (λ p. inr p) (in-either a b m)
-
--- the font, whichever store holds it
-abbrev pub asFont : Candidate → Font
-asFont x = record { number = x .number; kept = x .kept }
 
 -- ── one store
 module _ (p : Bool) where

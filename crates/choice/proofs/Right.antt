@@ -3,7 +3,7 @@ use Prim.Native.Nat.{ℕ}
 use mathlib.Core.Path.{_≡_, refl, sym, ap, ap₂, _∙_}
 use mathlib.Core.Logic.{_⊎_, inl, inr, ⊎-elim}
 use mathlib.Core.List.{List, [], _∷_}
-use mathlib.Core.Bool.{Bool, true, false}
+use mathlib.Core.Bool.{Bool, Bool-discrete}
 use native.Mathlib.Omega.{arith}
 use native.Mathlib.Decide.{ℕ-discrete}
 use Rattle.choice.specs.Candidates.{Candidate}
@@ -16,12 +16,6 @@ use Rattle.choice.proofs.Least.{not-both, in-having, having-out}
 use Rattle.choice.proofs.Steps.{is-left}
 use Rattle.choice.proofs.Choice.{only-one, choice-is, choice-none, either, stands}
 use Rattle.choice.proofs.Single.{by-having, leaves-one}
-
-alike : (p q : Bool) → (p ≡ q) ⊎ (p ≡ q → ⊥)
-alike true true = inl refl
-alike false false = inl refl
-alike true false = inr (λ e. not-both true refl e)
-alike false true = inr (λ e. not-both true refl (sym e))
 
 module _ (r : Request) where
   module _ (l : List Candidate) (kd : Keyed l) (c : Candidate) (m : In c (fontsLeft r l)) where
@@ -46,10 +40,13 @@ module _ (r : Request) where
     -- a font of l is this one or another
     same-or-other : (b : Candidate) → In b l → (b ≡ c) ⊎ Other b c
     same-or-other b mb =
-        ⊎-elim (λ s. elim (ℕ-discrete (b .number) (c .number)) [
-          | yes e ↦ inl (kd b c mb mine s e)
-          | no o ↦ inr (λ e. o (ap (λ (g : Candidate). g .number) e))
-        ]) (λ o. inr (λ e. o (ap (λ (g : Candidate). g .soft) e))) (alike (b .soft) (c .soft))
+        elim (Bool-discrete (b .soft) (c .soft)) [
+          | yes s ↦ elim (ℕ-discrete (b .number) (c .number)) [
+            | yes e ↦ inl (kd b c mb mine s e)
+            | no o ↦ inr (λ e. o (ap (λ (g : Candidate). g .number) e))
+          ]
+          | no o ↦ inr (λ e. o (ap (λ (g : Candidate). g .soft) e))
+        ]
 
     pub best : Best r l c
     unfolding Beats

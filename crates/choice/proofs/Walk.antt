@@ -8,7 +8,7 @@ use native.Mathlib.Omega.{arith}
 use lib.ListN.{take, drop}
 use lib.Dec.{eqb}
 use borrow.Author.Tests.{eqb-true, eqb-false, eq-eqb}
-use Rattle.form.specs.Records.{isStore, Begun}
+use Rattle.form.specs.Records.{Begun}
 use Rattle.form.specs.Fonts.{Font, fontsAt, fontsOf, Onward}
 use Rattle.form.specs.declared.records.Begin.{Begin}
 use Rattle.form.specs.declared.records.Begin.the-variants.{At, NotStore}
@@ -18,7 +18,7 @@ use Rattle.form.proofs.KeptFonts.{fonts-rise, fonts-begun}
 use Rattle.blocks.specs.Header.{headerBytes}
 use Rattle.choice.specs.Candidates.{Candidate, candidates, ofBoth}
 use Rattle.choice.specs.Request.{inRange}
-use Rattle.choice.specs.Choosing.{choosingAmong, choosing, choosingFromTwo}
+use Rattle.choice.specs.Choosing.{choosingAmong, choosing}
 use Rattle.choice.specs.Steps.{takesPart}
 use Rattle.choice.specs.Right.{Keyed}
 use Rattle.choice.specs.Scores.{scoreOf, comesBefore, better, noMajor, noScore, weighed, pass, scoreAnswer, keptPlace, StandsAt, earlier, here, PickedAt}
@@ -163,17 +163,3 @@ module _ (s : List ℕ) (r : Request) (v : Begin) (h : Begun s v) where
     pub on-store : (a : Chosen) → a ≡ choosingAmong (candidates true (fontsOf s)) r → a ≡ choosing s r
     unfolding choosing
     on-store a f = rw (begun .0) f
-
--- ── two stores
-module _ (s t : List ℕ) (r : Request) where
-  pub first-no-store : isStore s ≡ false → not-store ≡ choosingFromTwo s t r
-  unfolding choosingFromTwo
-  first-no-store e = rw e
-
-  pub second-no-store : isStore s ≡ true → isStore t ≡ false → not-store ≡ choosingFromTwo s t r
-  unfolding choosingFromTwo
-  second-no-store e f = rw (e, f)
-
-  pub on-two-stores : isStore s ≡ true → isStore t ≡ true → (a : Chosen) → a ≡ choosingAmong (ofBoth (fontsOf s) (fontsOf t)) r → a ≡ choosingFromTwo s t r
-  unfolding choosingFromTwo
-  on-two-stores e f a h = rw (e, f) h

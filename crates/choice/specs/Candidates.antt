@@ -5,7 +5,7 @@ use mathlib.Core.List.{List, [], _∷_, _++_}
 use mathlib.Core.Bool.{Bool, true, false}
 use Rattle.form.specs.Fonts.{Font}
 
--- a font of the soft store, else of the cartridge: its number and its kept bytes
+-- a font: whether the soft store holds it, else the cartridge; its number; its kept bytes
 pub record Candidate : Type 0 where
   pub soft : Bool
   pub number : ℕ
@@ -14,11 +14,15 @@ pub record Candidate : Type 0 where
 abbrev pub candidate : Bool → Font → Candidate
 candidate soft f = record { soft = soft; number = f .number; kept = f .kept }
 
+-- the font, whichever store holds it
+abbrev pub asFont : Candidate → Font
+asFont x = record { number = x .number; kept = x .kept }
+
 -- the fonts of one store
 unfoldable pub candidates : Bool → List Font → List Candidate
 candidates soft [] = []
 candidates soft (f ∷ l) = candidate soft f ∷ candidates soft l
 
--- W-208: "for this call demand 3 ranges over the fonts of both": those of the soft store, and those of the cartridge
+-- W-208: "for this call demand 3 ranges over the fonts of both": those a of the soft store, and those b of the cartridge
 unfoldable pub ofBoth : List Font → List Font → List Candidate
-ofBoth soft cartridge = candidates true soft ++ candidates false cartridge
+ofBoth a b = candidates true a ++ candidates false b

@@ -426,7 +426,7 @@ pub fn choose(s: &[u8], r: Request) -> Chosen
 }
 
 // The choice on two buffers that are known to be stores, whose fonts begin at these places: one pass over the soft fonts, and one over the
-// cartridge's that goes on from its best.
+// cartridge's that goes on from the best of the first.
 pub fn choose_among_two(
     soft: &[u8],
     soft_from: usize,

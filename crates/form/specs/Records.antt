@@ -43,13 +43,18 @@ recordsOf n rs = keep (λ r. eqb (number r) n) rs
 abbrev pub fontPlace : ℕ → List Rec → ℕ
 fontPlace n rs = markRecord + total (below (keyOf n 0) rs)
 
--- the record of font n, whose kept bytes are h, stands whole at a place: "length of the whole record (4 bytes), kind (2), body", each of its
--- numbers in its bytes
+-- the record of font n, whose kept bytes are h, stands at a place: it is one of the records of s, those before it fill the bytes up to there, and
+-- every byte of it is said
 pub record FontStands (s : List ℕ) (at n : ℕ) (h : List ℕ) : Type 0 where
+  pub before : List Rec
+  pub later : List Rec
+  pub records : recordsIn s ≡ before ++ (font n h ∷ later)
+  pub here : at ≡ markRecord + total before
   pub whole : at + fontRecord ≤ length s
   pub size : field 4 at s ≡ fontRecord
   pub kind : field 2 (at + kindAt) s ≡ fontKind
   pub number : field 2 (at + numberAt) s ≡ n
+  pub tally : tallyIn (drop at s) ≡ tallyOf (recordsIn s) n
   pub kept : take headerBytes (drop (at + fontKeptAt) s) ≡ h
 
 -- those from a place of the run on

@@ -24,12 +24,12 @@ use Rattle.store.proofs.Again.{fresh-leaves, font-leaves, character-leaves, rem
 use Rattle.choice.specs.Lists.{In, having}
 use Rattle.choice.specs.Request.{inRange}
 use Rattle.choice.specs.Steps.{choice}
-use Rattle.choice.specs.Candidates.{Candidate, candidate, candidates}
+use Rattle.choice.specs.Candidates.{Candidate, candidate, asFont, candidates}
 use Rattle.choice.specs.Choosing.{choosingAmong, choosing}
 use Rattle.choice.specs.Right.{Keyed, Unused, Without, With, Lawful}
 use Rattle.choice.specs.declared.Request.{Request}
 use Rattle.choice.proofs.Least.{in-having, having-out}
-use Rattle.choice.proofs.Members.{in-left, in-right, in-either, asFont, of-store, font-in, candidate-in}
+use Rattle.choice.proofs.Members.{in-left, in-right, in-either, of-store, font-in, candidate-in}
 use Rattle.choice.proofs.Choice.{rising-keyed}
 use Rattle.choice.proofs.Right.{claim}
 use Rattle.stream.specs.Reading.{Download, font-block, character-block, making}
@@ -256,6 +256,7 @@ module _ (r : Request) (i : inRange r ≡ true) where
   chooses : (s : List ℕ) (book : List Font) → Kept s book → Chooses r s book
   chooses s book k =
       record {
+        meant = λ x. (λ m. (of-store true book x m, font-in true book x m), λ h. candidate-in true book x (h .0) (h .1));
         numbers = keyed s book k true;
         choice = choice r (candidates true book);
         chosen = chooses-by s book k;

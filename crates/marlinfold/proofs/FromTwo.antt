@@ -1,32 +1,31 @@
 -- W-208: demand 3 for the choice from two stores, and its refusals. Assumes nothing.
 use Prim.Native.Nat.{ℕ}
-use mathlib.Core.Path.{_≡_, refl, sym, ap, _∙_}
+use mathlib.Core.Path.{_≡_, refl, ap, _∙_}
 use mathlib.Core.Logic.{_⊎_, _↔_, inl, inr, ⊎-elim}
 use mathlib.Core.List.{List, [], _∷_, _++_}
-use mathlib.Core.Bool.{Bool, true, false, cond, _&&_}
+use mathlib.Core.Bool.{Bool, true, false, cond, _&&_, true≢false, false≢true}
 use native.Mathlib.Omega.{arith}
-use Rattle.form.specs.Records.{isStore, FontStands}
+use Rattle.form.specs.Records.{isStore}
 use Rattle.form.specs.Fonts.{Font, fontsOf, fontsWith}
 use Rattle.store.specs.Calls.{downloadingFont}
 use Rattle.store.proofs.Again.{fresh-leaves}
 use Rattle.choice.specs.Lists.{In}
 use Rattle.choice.specs.Request.{inRange}
 use Rattle.choice.specs.Steps.{fontsLeft, firstNumber, choice}
-use Rattle.choice.specs.Candidates.{Candidate, candidate, candidates, ofBoth}
+use Rattle.choice.specs.Candidates.{Candidate, candidate, asFont, candidates, ofBoth}
 use Rattle.choice.specs.Choosing.{choosingAmong, choosingFromTwo, refusalOf, fontOf, whichOf}
 use Rattle.choice.specs.Right.{Keyed, Without, With, Lawful}
 use Rattle.choice.specs.declared.Request.{Request}
 use Rattle.choice.specs.declared.Chosen.{Chosen}
 use Rattle.choice.specs.declared.Chosen.the-variants.{Number, NotStore, OutOfRange, NoFont}
-use Rattle.choice.proofs.Least.{not-both}
-use Rattle.choice.proofs.Members.{in-left, in-right, in-either, font-in, not-cartridge, not-soft, soft-in, cartridge-in}
-use Rattle.choice.proofs.Choice.{two-keyed}
+use Rattle.choice.proofs.Members.{in-left, in-right, in-either, font-in, candidate-in, not-cartridge, not-soft, soft-in, cartridge-in}
+use Rattle.choice.proofs.Choice.{two-keyed, soft-of-same}
 use Rattle.choice.proofs.Right.{claim}
 use Rattle.cartridge.specs.Cartridge.{chosenPlace, recordAnswer, answeringFromTwo}
-use Rattle.cartridge.proofs.Stands.{font-stands}
+use Rattle.cartridge.proofs.Stands.{stands-in}
 use Rattle.marlinfold.specs.Calls.{Call, leaves, ran}
 use Rattle.marlinfold.specs.Book.{bookFrom}
-use Rattle.marlinfold.specs.Demands.{firstNumbers, AnswersFromTwo, placeAnswered, ChoosesFromTwo, Begins, fresh, dump, Demand3FromTwo, RefusesFromTwo, OneFromTwo}
+use Rattle.marlinfold.specs.Demands.{firstNumbers, AnswersFromTwo, placeAnswered, ChoosesFromTwo, Begins, fresh, dump, Demand3FromTwo, RefusesFromTwo, OneFromTwo, SoftOfOne}
 use Rattle.marlinfold.proofs.Demand3.{singly-ran, Kept, calls-kept, candidates-without, candidates-with, keyed, gone, fontBy, came}
 
 -- ── fonts that come or go beside the fonts of another store
@@ -55,15 +54,18 @@ module _ (l k m : List Candidate) where
     λ h. ⊎-elim (λ e. in-right x m k (w x .1 (inl e))) (λ i. ⊎-elim (λ j. in-left x m k j) (λ j. in-right x m k (w x .1 (inr j))) (in-either x m l i)) h,
   )
 
--- ── the record that an answer names
-module _ (s t : List ℕ) (book cart : List Font) (k : Kept s book) (j : Kept t cart) (c : Candidate) (m : In c (ofBoth book cart)) where
-  -- the place of a font of the books is that of its record
-  at-place : (v : Chosen) → v ≡ Number (c .soft) (c .number) → FontStands (cond (c .soft) s t) (chosenPlace s t v) (c .number) (c .kept)
-  at-place v e = rw e (go (c .soft) refl)
-    where
-      go : (p : Bool) → c .soft ≡ p → FontStands (cond p s t) (chosenPlace s t (Number p (c .number))) (c .number) (c .kept)
-      go true q = font-stands s _ (rw (k .1) (font-in true book c (soft-in book cart c m q)))
-      go false q = font-stands t _ (rw (j .1) (font-in false cart c (cartridge-in book cart c m q)))
+-- ── the fonts of both books
+both-are : (book cart : List Font) (x : Candidate) → In x (ofBoth book cart) ↔ In (asFont x) (cond (x .soft) book cart)
+unfolding ofBoth
+both-are book cart x = (λ m. out (x .soft) refl m, λ h. back (x .soft) refl h)
+  where
+    out : (p : Bool) → x .soft ≡ p → In x (ofBoth book cart) → In (asFont x) (cond p book cart)
+    out true q m = font-in true book x (soft-in book cart x m q)
+    out false q m = font-in false cart x (cartridge-in book cart x m q)
+
+    back : (p : Bool) → x .soft ≡ p → In (asFont x) (cond p book cart) → In x (candidates true book ++ candidates false cart)
+    back true q h = in-left x (candidates true book) (candidates false cart) (candidate-in true book x q h)
+    back false q h = in-right x (candidates true book) (candidates false cart) (candidate-in false cart x q h)
 
 -- ── the claim
 by-numbers : (a : Chosen) → refusalOf a ∷ fontOf a ∷ whichOf a ∷ [] ≡ firstNumbers a
@@ -92,11 +94,12 @@ module _ (r : Request) (i : inRange r ≡ true) where
       let A = candidates true book in
       let B = candidates false cart in
       record {
+        meant = both-are book cart;
         numbers = kd;
         choice = choice r (ofBoth book cart);
         chosen = says s t _ (two-by s t book cart k j);
         right = c .right;
-        stands = λ d m e. rw (place-is s t) (at-place s t book cart k j d m (choosingFromTwo s t r) (two-by s t book cart k j ∙ e));
+        stands = λ d m e. rw (place-is s t, two-by s t book cart k j ∙ e) (stands-in s t d (rw (k .1, j .1) m));
         soft-removed = λ n d w o. says (leaves d s) t _ (two-by (leaves d s) t (fontsWith n [] book) cart (gone s book k n d w) j
             ∙ c .removed true n (candidates true (fontsWith n [] book) ++ B) (without-left A (candidates true (fontsWith n [] book)) B true n (not-soft cart) (candidates-without true n book)) o);
         cartridge-removed = λ n d w o. says s (leaves d t) _ (two-by s (leaves d t) book (fontsWith n [] cart) k (gone t cart j n d w)
@@ -146,17 +149,15 @@ module _ (s t : List ℕ) (r : Request) where
       go [] = inr refl
       go (f ∷ l) = inl refl
 
-  no : true ≡ false → ⊥
-  no e = not-both true refl e
-
   refuses-by : (a b c : Bool)
       → ((refusalOf (chosenBy a b c) ≡ 1) ↔ ((a ≡ false) ⊎ (b ≡ false))) × ((refusalOf (chosenBy a b c) ≡ 2) ↔ ((a ≡ true) × (b ≡ true) × (c ≡ false)))
-  refuses-by false b c = ((λ _. inl refl, λ _. refl), (λ e. absurd (omega (arith, e)), λ h. absurd (no (sym (h .0)))))
-  refuses-by true false c = ((λ _. inr refl, λ _. refl), (λ e. absurd (omega (arith, e)), λ h. absurd (no (sym (h .1)))))
-  refuses-by true true false = ((λ e. absurd (omega (arith, e)), λ h. absurd (⊎-elim no no h)), (λ _. (refl, refl, refl), λ _. refl))
-  refuses-by true true true =
-      let other : (k : ℕ) → refusalOf (chosenBy true true true) ≡ k → (k ≡ 0) ⊎ (k ≡ 11) = λ k e. ⊎-elim (λ q. inl (sym e ∙ q)) (λ q. inr (sym e ∙ q)) named-or-none in
-      ((λ e. absurd (⊎-elim (λ q. omega (arith, q)) (λ q. omega (arith, q)) (other 1 e)), λ h. absurd (⊎-elim no no h)), (λ e. absurd (⊎-elim (λ q. omega (arith, q)) (λ q. omega (arith, q)) (other 2 e)), λ h. absurd (no (h .2))))
+  refuses-by false b c = ((λ _. inl refl, λ _. refl), (λ e. absurd (omega (arith, e)), λ h. absurd (false≢true (h .0))))
+  refuses-by true false c = ((λ _. inr refl, λ _. refl), (λ e. absurd (omega (arith, e)), λ h. absurd (false≢true (h .1))))
+  refuses-by true true false = ((λ e. absurd (omega (arith, e)), λ h. absurd (⊎-elim true≢false true≢false h)), (λ _. (refl, refl, refl), λ _. refl))
+  refuses-by true true true = (
+    (λ e. absurd (⊎-elim (λ q. omega (arith, e, q)) (λ q. omega (arith, e, q)) named-or-none), λ h. absurd (⊎-elim true≢false true≢false h)),
+    (λ e. absurd (⊎-elim (λ q. omega (arith, e, q)) (λ q. omega (arith, e, q)) named-or-none), λ h. absurd (true≢false (h .2))),
+  )
 
 pub refuses-from-two : RefusesFromTwo
 unfolding answeringFromTwo recordAnswer choosingFromTwo choosingAmong
@@ -164,3 +165,19 @@ refuses-from-two s t r = refuses-by s t r (isStore s) (isStore t) (inRange r)
 
 pub one-from-two : OneFromTwo
 one-from-two s t r = refl
+
+-- one buffer as both
+soft-by : (s : List ℕ) (r : Request) (a c : Bool) → refusalOf (chosenBy s s r a a c) ≡ 0 → whichOf (chosenBy s s r a a c) ≡ 1
+soft-by s r false c e = absurd (omega (arith, e))
+soft-by s r true false e = absurd (omega (arith, e))
+soft-by s r true true e = go (choice r (ofBoth (fontsOf s) (fontsOf s))) refl e
+  where
+    go : (v : Chosen) → choice r (ofBoth (fontsOf s) (fontsOf s)) ≡ v → refusalOf v ≡ 0 → whichOf v ≡ 1
+    go (Number p n) q h = rw (soft-of-same r (fontsOf s) p n q)
+    go NotStore q h = absurd (omega (arith, h))
+    go OutOfRange q h = absurd (omega (arith, h))
+    go NoFont q h = absurd (omega (arith, h))
+
+pub soft-of-one : SoftOfOne
+unfolding answeringFromTwo recordAnswer choosingFromTwo choosingAmong
+soft-of-one s r e = soft-by s r (isStore s) (inRange r) e

@@ -41,7 +41,7 @@ pub data Call : Type 0 where
   -- W-207
   check-profile : (n : ℕ) → Call
   write-profiled : (n : ℕ) (out : List ℕ) → Call
-  -- W-208: the store is the soft one or else the cartridge, and the other of the two stands beside it
+  -- W-208: on the soft store (true) or on the cartridge (false), with the other of the two beside it
   choose-from-two : (soft : Bool) (other : List ℕ) (r : Request) → Call
 
 -- a sheet's answers as an output: the two numbers of each, one after the other

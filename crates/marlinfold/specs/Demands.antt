@@ -15,7 +15,7 @@ use Rattle.form.specs.Fonts.{Font, fontsOf}
 use Rattle.store.specs.Calls.{removeFont}
 use Rattle.choice.specs.Request.{inRange}
 use Rattle.choice.specs.Lists.{In}
-use Rattle.choice.specs.Candidates.{Candidate, candidates, ofBoth}
+use Rattle.choice.specs.Candidates.{Candidate, asFont, candidates, ofBoth}
 use Rattle.choice.specs.Right.{Keyed, Unused, Right}
 use Rattle.choice.specs.declared.Request.{Request}
 use Rattle.choice.specs.declared.Chosen.{Chosen}
@@ -169,6 +169,8 @@ Answers r s a = outcome (choose-font r) s ≡ ofChoice s a
 
 -- what holds of a store and a book, for a request
 pub record Chooses (r : Request) (s : List ℕ) (book : List Font) : Type 0 where
+  -- the fonts meant are those of the book
+  pub meant : (x : Candidate) → In x (candidates true book) ↔ ((x .soft ≡ true) × In (asFont x) book)
   -- no two of the book's fonts have one number
   pub numbers : Keyed (candidates true book)
   -- "The choice is what choosing answers on the store as last left"
@@ -207,26 +209,28 @@ abbrev pub placeAnswered : Request → List ℕ → List ℕ → ℕ
 placeAnswered r s t = getD (outcome (choose-from-two true t r) s .numbers) 2 0
 
 -- what holds of two stores and their books, for a request
-pub record ChoosesFromTwo (r : Request) (s t : List ℕ) (book cartridge : List Font) : Type 0 where
+pub record ChoosesFromTwo (r : Request) (s t : List ℕ) (softBook cartridgeBook : List Font) : Type 0 where
+  -- the fonts meant are those of both books, each in its store
+  pub meant : (x : Candidate) → In x (ofBoth softBook cartridgeBook) ↔ In (asFont x) (cond (x .soft) softBook cartridgeBook)
   -- no two fonts of one book have one number
-  pub numbers : Keyed (ofBoth book cartridge)
+  pub numbers : Keyed (ofBoth softBook cartridgeBook)
   pub choice : Chosen
   pub chosen : AnswersFromTwo r s t choice
   -- one of both books', beats every other, the only one that no other beats; refused with 11 exactly if none takes part
-  pub right : Right r (ofBoth book cartridge) choice
+  pub right : Right r (ofBoth softBook cartridgeBook) choice
   -- "The answer gives the chosen font's record itself": the record of the book's font stands whole at the place answered, in the store answered
   pub stands :
-      (c : Candidate) → In c (ofBoth book cartridge) → choice ≡ Number (c .soft) (c .number)
+      (c : Candidate) → In c (ofBoth softBook cartridgeBook) → choice ≡ Number (c .soft) (c .number)
       → FontStands (cond (c .soft) s t) (placeAnswered r s t) (c .number) (c .kept)
   -- one more call on either store that removes a font that was not chosen leaves the choice standing
   pub soft-removed : (n : ℕ) (c : Call) → Removes s n c → (choice ≡ Number true n → ⊥) → AnswersFromTwo r (leaves c s) t choice
   pub cartridge-removed : (n : ℕ) (c : Call) → Removes t n c → (choice ≡ Number false n → ⊥) → AnswersFromTwo r s (leaves c t) choice
   -- one that accepts a font under a number that is unused in that store leaves it standing or makes the new font the choice
   pub soft-accepted :
-      (n : ℕ) (b : List ℕ) → outcome (download-font n b) s .refusal ≡ 0 → Unused true n (ofBoth book cartridge)
+      (n : ℕ) (b : List ℕ) → outcome (download-font n b) s .refusal ≡ 0 → Unused true n (ofBoth softBook cartridgeBook)
       → AnswersFromTwo r (leaves (download-font n b) s) t choice ⊎ AnswersFromTwo r (leaves (download-font n b) s) t (Number true n)
   pub cartridge-accepted :
-      (n : ℕ) (b : List ℕ) → outcome (download-font n b) t .refusal ≡ 0 → Unused false n (ofBoth book cartridge)
+      (n : ℕ) (b : List ℕ) → outcome (download-font n b) t .refusal ≡ 0 → Unused false n (ofBoth softBook cartridgeBook)
       → AnswersFromTwo r s (leaves (download-font n b) t) choice ⊎ AnswersFromTwo r s (leaves (download-font n b) t) (Number false n)
 
 -- how a store's list of calls begins, and its book: made fresh, with an empty one; or "a dump that these calls didn't make starts its book with the
@@ -238,8 +242,8 @@ pub data Begins : List ℕ → List Font → Type 0 where
 -- "each store has its own list and its own book": for any two stores, with any calls on each, and every request within range
 abbrev pub Demand3FromTwo : Type 0
 Demand3FromTwo =
-    (s t : List ℕ) (book cartridge : List Font) → Begins s book → Begins t cartridge → (calls others : List Call) (r : Request) → inRange r ≡ true
-    → ChoosesFromTwo r (ran calls s) (ran others t) (bookFrom book calls s) (bookFrom cartridge others t)
+    (s t : List ℕ) (softBook cartridgeBook : List Font) → Begins s softBook → Begins t cartridgeBook → (softCalls cartridgeCalls : List Call) (r : Request)
+    → inRange r ≡ true → ChoosesFromTwo r (ran softCalls s) (ran cartridgeCalls t) (bookFrom softBook softCalls s) (bookFrom cartridgeBook cartridgeCalls t)
 
 -- "Refusals: 1 if either isn't a store, then 2": for any two buffers and any request. (When it is 11 is said above.)
 abbrev pub RefusesFromTwo : Type 0
@@ -248,9 +252,13 @@ RefusesFromTwo =
     → let k : ℕ = outcome (choose-from-two true t r) s .refusal in
     ((k ≡ 1) ↔ ((isStore s ≡ false) ⊎ (isStore t ≡ false))) × ((k ≡ 2) ↔ ((isStore s ≡ true) × (isStore t ≡ true) × (inRange r ≡ false)))
 
--- the call is one, whichever of the two stores is the one whose list has it
+-- the call answers the same in the list of either store
 abbrev pub OneFromTwo : Type 0
 OneFromTwo = (s t : List ℕ) (r : Request) → answer (choose-from-two false s r) t ≡ answer (choose-from-two true t r) s
+
+-- where one buffer is both stores, the font chosen is the soft store's: which is 1
+abbrev pub SoftOfOne : Type 0
+SoftOfOne = (s : List ℕ) (r : Request) → outcome (choose-from-two true s r) s .refusal ≡ 0 → getD (outcome (choose-from-two true s r) s .numbers) 1 0 ≡ 1
 
 -- ── W-201: "each entry what a single choice would give on the same store"
 -- for every sheet that is done and each of its requests: the entry's two numbers are those that choosing answers

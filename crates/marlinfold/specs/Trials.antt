@@ -10,7 +10,7 @@ use Rattle.pictures.specs.declared.picture.Judged.{Judged}
 use Rattle.pictures.specs.declared.picture.Judged.the-variants.{Complete, PastWidth}
 use Rattle.choice.specs.Request.{requestOf}
 use Rattle.choice.specs.declared.Request.{Request}
-use Rattle.marlinfold.specs.Calls.{Call, make-fresh, download-font, choose-font, choose-from-two, Answer, answer, ran}
+use Rattle.marlinfold.specs.Calls.{Call, make-fresh, download-font, download-character, choose-font, choose-from-two, Answer, answer, ran}
 
 -- ── the fonts
 -- the first 64 bytes of a font block by descriptor size, format (W-206), orientation, spacing, set, pitch, height, weight byte, typeface and the
@@ -55,6 +55,10 @@ bold n = download-font n (header 0 0 277 120 200 3 3)
 
 unfoldable pub landscape : ℕ → Call
 landscape n = download-font n (header 1 0 277 120 200 0 3)
+
+-- a character of B: one row of 10 dots, in a record of 28 bytes
+unfoldable pub lettered : Call
+lettered = download-character 2 65 (4 ∷ 0 ∷ 14 ∷ 1 ∷ 0 ∷ 0 ∷ 0 ∷ 0 ∷ 0 ∷ 0 ∷ 0 ∷ 10 ∷ 0 ∷ 1 ∷ 0 ∷ 0 ∷ 255 ∷ 192 ∷ [])
 
 -- and with an extended byte of the pitch
 unfoldable pub finer : ℕ → ℕ → ℕ → Call
@@ -181,7 +185,7 @@ table =
     -- W-208: one number in both stores: the weight decides between the two fonts;
     ∷ choosesFromTwo (A ∷ []) (bold 5 ∷ []) (requestWith 277 1000 0 0) (namesRecord 5 1 12)
     ∷ choosesFromTwo (A ∷ []) (bold 5 ∷ []) (requestWith 277 1000 3 0) (namesRecord 5 2 12)
-    -- the same fonts in both: the soft one, in its order among four records;
+    -- the same fonts in both: the soft one, at its place among four records;
     ∷ choosesFromTwo all all (requestWith 277 1000 3 0) (namesRecord 2 1 12)
     ∷ choosesFromTwo all all (requestWith 277 1000 0 1) (namesRecord 9 1 258)
     -- a soft font before one of the cartridge that has the page's orientation, and the lower number;
@@ -195,6 +199,9 @@ table =
     ∷ choosesFromTwo all [] (requestWith 277 1000 0 0) (namesRecord 5 1 94)
     ∷ choosesFromTwo [] all (requestWith 277 1000 0 0) (namesRecord 5 2 94)
     ∷ choosesFromTwo [] [] (requestWith 277 1000 0 0) noRecord
+    -- a landscape font of the cartridge is chosen where it fits best; a place comes after the characters of lower fonts;
+    ∷ choosesFromTwo (D ∷ []) all (requestWith 277 1000 0 1) (namesRecord 9 2 258)
+    ∷ choosesFromTwo [] (A ∷ B ∷ lettered ∷ []) (requestWith 277 1000 0 0) (namesRecord 5 2 122)
     -- 600 dpi fonts in one store alone: in mode 300 they take no part, in mode 600 they go before a soft font of 300 dpi
     ∷ choosesFromTwo (fine 3 240 400 ∷ []) (A ∷ []) (requestIn 300 277 1000 0 0) (namesRecord 5 2 12)
     ∷ choosesFromTwo (A ∷ []) (fine 3 240 400 ∷ []) (requestIn 300 277 1000 0 0) (namesRecord 5 1 12)

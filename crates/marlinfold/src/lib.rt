@@ -198,7 +198,7 @@ pub extern "C" fn mf_write_profiled(store: &[u8], out: &mut [u8], font: u32) -> 
     check::write_profiled(store, out, font)
 }
 
-// W-208
+// W-208. One lifetime for both stores, which the borrow checker asks for where both go to one call.
 #[no_mangle]
 pub extern "C" fn mf_choose_from_two<'a>(
     soft: &'a [u8],
