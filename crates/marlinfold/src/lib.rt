@@ -75,6 +75,33 @@ fn font_chosen(a: Chosen) -> FontChosen
     }
 }
 
+// The numbers of a request as C passes them, one by one.
+fn request_by(
+    symbol_set: u32,
+    spacing: u32,
+    pitch: u32,
+    height: u32,
+    style: u32,
+    weight: u32,
+    typeface: u32,
+    orientation: u32,
+    mode: u32,
+) -> Request
+    ensures { λ r. ⌜ r ≡ requestOf «symbol_set» spacing pitch height style weight typeface orientation mode ⌝ }
+{
+    Request {
+        symbol_set: symbol_set,
+        spacing: spacing,
+        pitch: pitch,
+        height: height,
+        style: style,
+        weight: weight,
+        typeface: typeface,
+        orientation: orientation,
+        mode: mode,
+    }
+}
+
 #[no_mangle]
 pub extern "C" fn mf_choose(
     store: &[u8],
@@ -90,17 +117,17 @@ pub extern "C" fn mf_choose(
 ) -> FontChosen
     ensures { λ r. ⌜ answered (r .refusal) (r .font ∷ []) (now (store .entry)) [] ≡ outcome (choose-font (requestOf «symbol_set» spacing pitch height style weight typeface orientation mode)) (now (store .entry)) ⌝ }
 {
-    let r = Request {
-        symbol_set: symbol_set,
-        spacing: spacing,
-        pitch: pitch,
-        height: height,
-        style: style,
-        weight: weight,
-        typeface: typeface,
-        orientation: orientation,
-        mode: mode,
-    };
+    let r = request_by(
+        symbol_set,
+        spacing,
+        pitch,
+        height,
+        style,
+        weight,
+        typeface,
+        orientation,
+        mode,
+    );
     font_chosen(choice::choose(store, r))
 }
 
@@ -216,16 +243,16 @@ pub extern "C" fn mf_choose_from_two<'a>(
     ensures { λ r. ⌜ answered (r .refusal) (r .font ∷ r .which ∷ r .place ∷ []) (now (soft .entry)) [] ≡ outcome (choose-from-two true (now (cartridge .entry)) (requestOf «symbol_set» spacing pitch height style weight typeface orientation mode)) (now (soft .entry)) ⌝ }
     ensures { λ r. ⌜ answered (r .refusal) (r .font ∷ r .which ∷ r .place ∷ []) (now (cartridge .entry)) [] ≡ outcome (choose-from-two false (now (soft .entry)) (requestOf «symbol_set» spacing pitch height style weight typeface orientation mode)) (now (cartridge .entry)) ⌝ }
 {
-    let r = Request {
-        symbol_set: symbol_set,
-        spacing: spacing,
-        pitch: pitch,
-        height: height,
-        style: style,
-        weight: weight,
-        typeface: typeface,
-        orientation: orientation,
-        mode: mode,
-    };
+    let r = request_by(
+        symbol_set,
+        spacing,
+        pitch,
+        height,
+        style,
+        weight,
+        typeface,
+        orientation,
+        mode,
+    );
     cartridge::answer_from_two(soft, cartridge, r)
 }
