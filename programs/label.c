@@ -1,60 +1,37 @@
 /* marlinfold-label: writes one line of text as a picture, in the font that fits the
  * options best. What it can do stands in help, and in docs/marlinfold-label.1. */
+#include "arguments.h"
+#include "kept.h"
+#include "loading.h"
+#include "message.h"
+#include "output.h"
 #include "page.h"
 #include "request.h"
 
+#include <stdlib.h>
+
 #define MARGIN 12
 
-static const about program = {
+static long turn, plain;
+static const char *out;
+
+static const option options[] = {
+    REQUEST_OPTIONS,
+    {NUMBER, "--turn", "N", &turn, 0, 3, "the label turned clockwise by N quarters, 0 to 3 (0)"},
+    {FLAG, "--plain", NULL, &plain, 1, 0, "PBM in plain digits"},
+    {WORD, "-o", "FILE", &out, 0, 0, "write to this file (-, standard output)"}};
+
+static const description program = {
     "marlinfold-label", "[OPTIONS] TEXT FILE...",
     "Reads the fonts of each FILE, - for standard input, chooses the one that fits best, and\n"
-    "writes TEXT in it to standard output, as a picture of the font's dots to the inch.\n\n"
-    REQUEST_HELP
-    "  --turn N          the label turned clockwise by N quarters, 0 to 3 (0)\n"
-    "  --plain           PBM in plain digits\n"
-    "  -o FILE           write to this file\n"
-    "  --help            print this\n"
-    "  --version         print the version\n"
-    "  --                what follows is no option\n\n"
+    "writes TEXT in it to standard output, as a picture of the font's dots to the inch.\n",
     "The bytes of TEXT are the codes of the characters. In UTF-8 a letter beyond ASCII has two\n"
     "bytes or more, which would be as many codes: make them bytes of the font's symbol set, as\n"
     "  marlinfold-label \"$(iconv -f UTF-8 -t HP-ROMAN8 <TEXTFILE)\" FILE...\n"
     PAGE_HELP
     "Exit status: 0 if the label is whole, 2 if it was written but a character is missing or\n"
-    "incomplete or a font file was not taken whole, 1 if it was not written.\n"};
-
-typedef struct {
-    mf_request font;
-    uint32_t turn;
-    int plain;
-    const char *out;
-    const unsigned char *text;
-} order;
-
-/* Takes the words of the command line: TEXT, and the files that are gathered. */
-static order read_order(words *from)
-{
-    order asked = {default_request, 0, 0, NULL, NULL};
-    const char *value;
-
-    while (at_option(from)) {
-        check_request(*from);
-        if (take_request(from, &asked.font))
-            continue;
-        if (take(from, "--plain"))
-            asked.plain = 1;
-        else if ((value = take_value(from, "--turn")))
-            asked.turn = (uint32_t)number_within("--turn", value, 0, 3);
-        else if ((value = take_value(from, "-o")))
-            asked.out = value;
-        else
-            take_common(from, &program);
-    }
-    if (from->count < 2)
-        stop_usage(&program);
-    asked.text = (const unsigned char *)from->gathered[0];
-    return asked;
-}
+    "incomplete or a font file was not taken whole, 1 if it was not written.\n",
+    options, sizeof options / sizeof *options};
 
 #define NONE_TO_CHOOSE "no font has the symbol set asked for or 8U"
 
@@ -67,11 +44,12 @@ static uint32_t choose(const mf_request *asked)
                   asked->mode);
 
     if (chosen.refusal == MF_NONE_TO_CHOOSE)
-        stop("choosing", asked->mode == MF_MODE_300
-                             ? NONE_TO_CHOOSE "; fonts of 600 dpi need --mode 600"
-                             : NONE_TO_CHOOSE);
+        stop("choosing: %s", asked->mode == MF_MODE_300
+                                 ? NONE_TO_CHOOSE "; fonts of 600 dpi need --mode 600"
+                                 : NONE_TO_CHOOSE);
     if (chosen.refusal)
         refuse("choosing", chosen.refusal);
+    begin_message();
     print_font(stderr, chosen.font);
     fputc('\n', stderr);
     return chosen.font;
@@ -149,63 +127,72 @@ static void set_line(line *of, page *label)
 /* Tells what the font lacks of the line, where a space needs no character. */
 static int tell_missing(const line *of)
 {
-    uint8_t incomplete[MF_CODE_MAX + 1], said[MF_CODE_MAX + 1] = {0};
+    uint8_t said[MF_CODE_MAX + 1] = {0};
     const unsigned char *at;
     mf_character_fields told;
     int status = COMPLETE, beyond = 0;
 
-    find_incomplete(of->number, incomplete);
     for (at = of->text; *at; at++) {
         int there = tell_character(of->number, *at, &told);
-        if (said[*at] || (there ? !incomplete[*at] : *at == ' '))
+        if (said[*at] || (there ? !is_incomplete(of->number, *at) : *at == ' '))
             continue;
-        fprintf(stderr, "code %u: %s\n", *at,
-                there ? "incomplete, rows are missing" : "no such character, left blank");
+        tell("code %u: %s", *at,
+             there ? "incomplete, rows are missing" : "no such character, left blank");
         said[*at] = 1;
         status = INCOMPLETE;
         beyond |= *at > 127;
     }
     if (beyond)
-        fputs("codes above 127: each byte of the text is a code; text in UTF-8 needs iconv "
-              "(see --help)\n", stderr);
+        tell("codes above 127: each byte of the text is a code; text in UTF-8 needs iconv (see "
+             "--help)");
     return status;
 }
 
 /* The label turned by so many quarters, 0 leaving it as it is. */
-static page turned(page label, uint32_t turn)
+static page turned(page label, uint32_t quarters)
 {
     page made;
     uint32_t refusal;
 
-    if (turn == 0)
+    if (quarters == 0)
         return label;
-    made = turn == 2 ? new_page(label.width, label.height) : new_page(label.height, label.width);
+    if (label.width > MF_SIDE_MAX || label.height > MF_SIDE_MAX)
+        stop("--turn %u: a label of %ld by %ld dots, and at most %d by %d can be turned",
+             (unsigned)quarters, label.width, label.height, MF_SIDE_MAX, MF_SIDE_MAX);
+    made = quarters == 2 ? new_page(label.width, label.height)
+                         : new_page(label.height, label.width);
     refusal = mf_turn_picture(label.dots, label.row_bytes * (size_t)label.height, made.dots,
                               made.row_bytes * (size_t)made.height, (uint32_t)label.width,
-                              (uint32_t)label.height, turn);
+                              (uint32_t)label.height, quarters);
     if (refusal)
         refuse("turning", refusal);
     free(label.dots);
     return made;
 }
 
-int main(int count, char **given)
+int main(int argc, char **argv)
 {
-    words from = words_of(given + (count > 0));
-    order asked = read_order(&from);
-    int status = load_files(from.gathered + 1, from.count - 1), lacking;
-    line set = {asked.text, 0, {0}, 0, 0, 0, 0};
+    size_t count = take_arguments(&program, argc, argv);
+    mf_request asked = request_asked();
+    line set = {NULL, 0, {0}, 0, 0, 0, 0};
+    int status, lacking;
     uint32_t characters;
     page label;
 
-    set.number = choose(&asked.font);
+    if (count < 2)
+        stop_usage(&program);
+    check_output(out, argv + 2, count - 1);
+    status = load_files(argv + 2, count - 1);
+    set.text = (const unsigned char *)argv[1];
+    set.number = choose(&asked);
     set.font = tell_font(set.number, &characters);
     lacking = tell_missing(&set);
     set_line(&set, NULL);
     label = new_page(set.right - set.left + 2 * MARGIN, set.bottom - set.top + 2 * MARGIN);
     set_line(&set, &label);
-    label = turned(label, asked.turn);
-    write_page(&label, asked.plain, asked.out);
+    label = turned(label, (uint32_t)turn);
+    write_page(&label, plain != 0, out);
     free(label.dots);
+    forget_kept();
     return lacking ? lacking : status;
 }

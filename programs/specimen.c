@@ -1,58 +1,40 @@
 /* marlinfold-specimen: draws a sheet of every character of a font, or says whether the
  * font meets the profile of spine labels. What it can do stands in help, and in
  * docs/marlinfold-specimen.1. */
+#include "arguments.h"
+#include "kept.h"
+#include "loading.h"
+#include "message.h"
+#include "output.h"
 #include "page.h"
 
-#define GAP 8
-#define NO_FONT (MF_FONT_MAX + 1)
+#include <stdlib.h>
 
-static const about program = {
+#define GAP 8
+
+static long chosen = NOT_GIVEN, plain, profile;
+static const char *out;
+
+static const option options[] = {
+    {NUMBER, "--font", "N", &chosen, 0, MF_FONT_MAX,
+     "the font's number (the lowest that is there)"},
+    {FLAG, "--plain", NULL, &plain, 1, 0, "PBM in plain digits"},
+    {FLAG, "--profile", NULL, &profile, 1, 0,
+     "draw nothing: say in words whether the font meets the profile of spine\n"
+     "labels, and if not, which rule it breaks and where"},
+    {WORD, "-o", "FILE", &out, 0, 0, "write to this file (-, standard output)"}};
+
+static const description program = {
     "marlinfold-specimen", "[OPTIONS] FILE...",
     "Reads the fonts of each FILE, - for standard input, and draws every character of one font\n"
     "to standard output: sixteen codes to a line, by rising code, lines without characters left\n"
-    "out.\n\n"
-    "  --font N     the font's number (the lowest that is there)\n"
-    "  --plain      PBM in plain digits\n"
-    "  --profile    draw nothing: say in words whether the font meets the profile of spine\n"
-    "               labels, and if not, which rule it breaks and where\n"
-    "  -o FILE      write to this file\n"
-    "  --help       print this\n"
-    "  --version    print the version\n"
-    "  --           what follows is no option\n\n"
+    "out.\n",
     PAGE_HELP
     "Exit status: 0 if the sheet is whole, 2 if it was written but a character is incomplete or\n"
     "a font file was not taken whole, 1 if it was not written. With --profile: 0 if the font\n"
     "meets it, 2 if it does not or a font file was not taken whole, 1 if that was not found\n"
-    "out.\n"};
-
-typedef struct {
-    uint32_t font; /* NO_FONT if none is named */
-    int plain, profile;
-    const char *out;
-} order;
-
-/* Takes the words of the command line; the files are gathered. */
-static order read_order(words *from)
-{
-    order asked = {NO_FONT, 0, 0, NULL};
-    const char *value;
-
-    while (at_option(from)) {
-        if (take(from, "--plain"))
-            asked.plain = 1;
-        else if (take(from, "--profile"))
-            asked.profile = 1;
-        else if ((value = take_value(from, "--font")))
-            asked.font = (uint32_t)number_within("--font", value, 0, MF_FONT_MAX);
-        else if ((value = take_value(from, "-o")))
-            asked.out = value;
-        else
-            take_common(from, &program);
-    }
-    if (from->count < 1)
-        stop_usage(&program);
-    return asked;
-}
+    "out.\n",
+    options, sizeof options / sizeof *options};
 
 /* A field that takes every character around one point, and the lines that have any. */
 typedef struct {
@@ -104,33 +86,32 @@ static page draw_sheet(uint32_t font, const field *of)
 
 static int tell_missing(uint32_t font)
 {
-    uint8_t incomplete[MF_CODE_MAX + 1];
     uint32_t code;
     int status = COMPLETE;
 
-    find_incomplete(font, incomplete);
     for (code = 0; code <= MF_CODE_MAX; code++)
-        if (incomplete[code]) {
-            fprintf(stderr, "code %u: incomplete, rows are missing\n", (unsigned)code);
+        if (is_incomplete(font, code)) {
+            tell("code %u: incomplete, rows are missing", (unsigned)code);
             status = INCOMPLETE;
         }
     return status;
 }
 
 /* Writes the sheet; the exit status. */
-static int write_sheet(const order *asked)
+static int write_sheet(uint32_t font)
 {
-    field around = measure(asked->font);
+    field around = measure(font);
     page sheet;
     int status;
 
-    print_font(stderr, asked->font);
+    begin_message();
+    print_font(stderr, font);
     fputc('\n', stderr);
     if (!around.lines)
-        stop("font", "has no characters");
-    status = tell_missing(asked->font);
-    sheet = draw_sheet(asked->font, &around);
-    write_page(&sheet, asked->plain, asked->out);
+        stop("font %u: has no characters", (unsigned)font);
+    status = tell_missing(font);
+    sheet = draw_sheet(font, &around);
+    write_page(&sheet, plain != 0, out);
     free(sheet.dots);
     return status;
 }
@@ -180,34 +161,37 @@ static void print_profile(FILE *to, uint32_t number, const mf_profile *found)
 }
 
 /* Says in words what the check of the profile found; the exit status. */
-static int write_profile(const order *asked)
+static int write_profile(uint32_t font)
 {
-    mf_profile found = mf_check_profile(store, sizeof store, asked->font);
+    mf_profile found = mf_check_profile(store, sizeof store, font);
     FILE *to;
 
     if (found.refusal)
         refuse("profile", found.refusal);
-    to = open_output(asked->out);
+    to = open_output(out);
     if (found.rule == MF_PROFILE_MET)
-        fprintf(to, "font %u meets the profile\n", (unsigned)asked->font);
+        fprintf(to, "font %u meets the profile\n", (unsigned)font);
     else
-        print_profile(to, asked->font, &found);
-    finish(to, asked->out);
+        print_profile(to, font, &found);
+    close_output(to, out);
     return found.rule == MF_PROFILE_MET ? COMPLETE : INCOMPLETE;
 }
 
-int main(int count, char **given)
+int main(int argc, char **argv)
 {
-    words from = words_of(given + (count > 0));
-    order asked = read_order(&from);
-    int loaded = load_files(from.gathered, from.count), status;
-    uint32_t characters;
+    size_t count = take_arguments(&program, argc, argv);
+    int loaded, status;
+    uint32_t font, characters;
 
-    if (asked.font == NO_FONT)
-        asked.font = mf_next_font(store, sizeof store, 0);
-    if (asked.font == NO_FONT)
-        stop("font", "there is none");
-    tell_font(asked.font, &characters);
-    status = asked.profile ? write_profile(&asked) : write_sheet(&asked);
+    if (count < 1)
+        stop_usage(&program);
+    check_output(out, argv + 1, count);
+    loaded = load_files(argv + 1, count);
+    font = chosen == NOT_GIVEN ? mf_next_font(store, sizeof store, 0) : (uint32_t)chosen;
+    if (font > MF_FONT_MAX)
+        stop("no font in the files");
+    tell_font(font, &characters);
+    status = profile ? write_profile(font) : write_sheet(font);
+    forget_kept();
     return status ? status : loaded;
 }
