@@ -155,10 +155,15 @@ const char *weight_name(int32_t weight)
     return names[weight - MF_ULTRA_THIN];
 }
 
+const char *orientation_name(uint32_t orientation)
+{
+    static const char *const names[] = {"portrait", "landscape", "reverse portrait",
+                                        "reverse landscape"};
+    return names[orientation];
+}
+
 void print_font(FILE *to, uint32_t number)
 {
-    static const char *const orientation[] = {"portrait", "landscape", "reverse portrait",
-                                              "reverse landscape"};
     uint32_t characters;
     mf_font_fields font = tell_font(number, &characters);
 
@@ -168,7 +173,7 @@ void print_font(FILE *to, uint32_t number)
             font.spacing == MF_FIXED ? "fixed" : "proportional", mf_pitch_of(&font) / 100.0,
             mf_height_of(&font) / 100.0, (unsigned)font.style, (int)font.weight,
             weight_name(font.weight), (unsigned)font.typeface);
-    fprintf(to, "%s, %u dpi, %u character%s", orientation[font.orientation],
+    fprintf(to, "%s, %u dpi, %u character%s", orientation_name(font.orientation),
             (unsigned)font.resolution, (unsigned)characters, characters == 1 ? "" : "s");
     print_name(to, font.name);
 }

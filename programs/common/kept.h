@@ -28,7 +28,8 @@ void print_font(FILE *to, uint32_t number);
 /* As 8U; a number where that has no letter. */
 void print_symbol_set(FILE *to, uint32_t set);
 
-/* As "bold". */
+/* As "bold" and "landscape". */
 const char *weight_name(int32_t weight);
+const char *orientation_name(uint32_t orientation);
 
 #endif
