@@ -3,10 +3,12 @@
  * docs/marlinfold-rewrite.1. */
 #include "arguments.h"
 #include "commands.h"
-#include "marlinfold.h"
+#include "kept.h"
+#include "loading.h"
 #include "message.h"
 #include "output.h"
 #include "printer.h"
+#include "profile.h"
 
 #include <stdlib.h>
 #include <string.h>
@@ -17,6 +19,9 @@
 #define FORMAT_20 20
 #define FORMAT_0_BYTES 64
 #define FORMAT_20_BYTES 68
+#define RESOLUTION_AT 64
+#define PITCH_MAX 16800 /* quarter-dots */
+#define HEIGHT_MAX 10922
 
 /* A field: where it stands, and what its option gave. */
 typedef struct {
@@ -25,36 +30,45 @@ typedef struct {
     long given;
 } field;
 
-enum { DESCRIPTOR_SIZE, FORMAT, SPACING, SET, PITCH, HEIGHT, WEIGHT, FACE, FIELDS };
+enum { DESCRIPTOR_SIZE, FORMAT, PITCH_MORE, HEIGHT_MORE, PITCH, HEIGHT, PLAIN,
+       TYPE = PLAIN, SPACING, SET, WEIGHT, FACE, FIELDS };
 static field fields[FIELDS] = {
-    {0, 2, 0, NOT_GIVEN}, /* the two that have no option */
+    {0, 2, 0, NOT_GIVEN}, /* these four have no option of their own */
     {FORMAT_AT, 1, 0, NOT_GIVEN},
+    {40, 1, 0, NOT_GIVEN}, /* 256ths of a quarter-dot */
+    {41, 1, 0, NOT_GIVEN},
+    {16, 2, 0, NOT_GIVEN}, /* hundredths of a character per inch */
+    {18, 2, 0, NOT_GIVEN}, /* hundredths of a point */
+    {3, 1, 0, NOT_GIVEN},  /* from here on the value stands in the block as it is given */
     {13, 1, 0, NOT_GIVEN},
     {14, 2, 0, NOT_GIVEN},
-    {16, 2, 0, NOT_GIVEN},
-    {18, 2, 0, NOT_GIVEN},
     {24, 1, 0, NOT_GIVEN},
     {25, 2, 1, NOT_GIVEN}};
 
-static long added, format_0, quiet;
+static long chosen = NOT_GIVEN, added, format_0, quiet, profiled;
 static const char *out;
 
 static const option options[] = {
-    {NUMBER, "--font", "N", &added, 0, MF_FONT_MAX, "add N to every font number (0)"},
+    {NUMBER, "--font", "N", &chosen, 0, MF_FONT_MAX, "write font N of the stream alone (all)"},
+    {NUMBER, "--renumber", "N", &added, 0, MF_FONT_MAX, "add N to every font number (0)"},
     {FLAG, "--format-0", NULL, &format_0, 1, 0,
      "write font blocks of format 20 in format 0, without their resolution"},
     {FLAG, "--quiet", NULL, &quiet, 1, 0,
      "for a printer's job with pages: text and commands of other kinds that\n"
      "are left out, and codes that do not rise, are not told"},
+    {FLAG, "--profiled", NULL, &profiled, 1, 0,
+     "write only fonts that meet the profile of spine labels, and tell what\n"
+     "is against the others"},
     {WORD, "-o", "FILE", &out, 0, 0, "write to this file (-, standard output)"},
     {HEADING, NULL, NULL, NULL, 0, 0,
      "These put a field of every font block right; a field stays as it was without its option:"},
+    {NUMBER, "--type", "N", &fields[TYPE].given, 0, 2,
+     "0: codes 32 to 127 print, 1: also 160 to 255, 2: all"},
     {NUMBER, "--spacing", "N", &fields[SPACING].given, 0, 1, "0 fixed, 1 proportional"},
     {SYMBOL_SET, "--set", "SET", &fields[SET].given, 0, 2047,
      "symbol set, as 8U or as its number 277"},
-    {NUMBER, "--pitch", "N", &fields[PITCH].given, 0, 65535,
-     "in quarter-dots, 1200 to the inch, at 600 dots to the inch 2400"},
-    {NUMBER, "--height", "N", &fields[HEIGHT].given, 0, 65535, "the same"},
+    {HUNDREDTHS, "--pitch", "CPI", &fields[PITCH].given, 10, 57600, "characters to the inch"},
+    {HUNDREDTHS, "--height", "POINTS", &fields[HEIGHT].given, 0, 99975, "height"},
     {NUMBER, "--weight", "N", &fields[WEIGHT].given, MF_ULTRA_THIN, MF_ULTRA_BLACK,
      "stroke weight, -7 to 7, where 3 is bold"},
     {NUMBER, "--face", "N", &fields[FACE].given, 0, 65535, "typeface, 0 to 65535"}};
@@ -219,6 +233,36 @@ static size_t font_bytes(input *from, const printer_command *given)
     return length;
 }
 
+/* Gives a size its value, in quarter-dots; stops at one that the library would cut. */
+static void put_size(uint8_t *block, int size, int more, const char *name, uint32_t value,
+                     uint32_t high)
+{
+    if (value > high)
+        stop("%s %g: %u quarter-dots, and a font has at most %u", name,
+             (double)fields[size].given / 100, (unsigned)value, (unsigned)high);
+    put(block, &fields[size], (long)value);
+    put(block, &fields[more], 0);
+}
+
+/* Gives the pitch and the height their values, by the font's resolution. */
+static void put_sizes(uint8_t *block, uint32_t resolution)
+{
+    uint32_t pitch = (uint32_t)fields[PITCH].given, height = (uint32_t)fields[HEIGHT].given;
+
+    if (fields[PITCH].given != NOT_GIVEN)
+        put_size(block, PITCH, PITCH_MORE, "--pitch", mf_pitch_quarter_dots(pitch, resolution),
+                 PITCH_MAX);
+    if (fields[HEIGHT].given != NOT_GIVEN)
+        put_size(block, HEIGHT, HEIGHT_MORE, "--height",
+                 mf_height_quarter_dots(height, resolution), HEIGHT_MAX);
+}
+
+/* Whether the font that the stream names is to be written. */
+static int is_chosen(const rewriting *of)
+{
+    return chosen == NOT_GIVEN || chosen == of->number;
+}
+
 /* Writes a font block in its format, or in format 0, with the fields that were given. */
 static void rewrite_font(rewriting *of, const printer_command *given)
 {
@@ -235,17 +279,20 @@ static void rewrite_font(rewriting *of, const printer_command *given)
     memcpy(block, of->from->next, length);
     put(block, &fields[DESCRIPTOR_SIZE], (long)length);
     put(block, &fields[FORMAT], length == FORMAT_0_BYTES ? FORMAT_0 : FORMAT_20);
-    for (at = SPACING; at < FIELDS; at++)
+    put_sizes(block, length == FORMAT_0_BYTES ? 300 : mf_field(block, RESOLUTION_AT));
+    for (at = PLAIN; at < FIELDS; at++)
         if (fields[at].given != NOT_GIVEN)
             put(block, &fields[at], fields[at].given);
+    memset(font, 0, sizeof *font);
+    font->headed = 1;
+    font->last = -1;
+    if (!is_chosen(of))
+        return;
     say(of, "*c", of->number + added, 'D');
     say(of, ")s", (long)length, 'W');
     gather(&of->written, block, length);
     of->said = of->number;
     of->said_code = -1;
-    memset(font, 0, sizeof *font);
-    font->headed = 1;
-    font->last = -1;
 }
 
 /* Whether a code is another one that has lost a digit. */
@@ -302,6 +349,8 @@ static void rewrite_character(rewriting *of, const printer_command *given)
     if (look(of->from, (size_t)given->data) < given->data)
         broken(of->from, given->place, "cut off in a block");
     check_character(of, given);
+    if (!is_chosen(of))
+        return;
     if (of->said != of->number)
         say(of, "*c", of->number + added, 'D');
     if (of->said != of->number || of->said_code != of->code)
@@ -369,9 +418,76 @@ static void rewrite(rewriting *of)
         pass_block(of, &given);
     }
     end_stream(of, &before);
-    if (of->said < 0 && !of->from->failed)
+    if (of->said < 0 && !of->from->failed) {
+        if (chosen != NOT_GIVEN && of->from->place)
+            stop("%s: no font %ld in it", shown(of->from->name), chosen);
         stop("%s: %s", shown(of->from->name),
              of->from->place ? "no font in it" : "empty, no font in it");
+    }
+}
+
+/* ---- the profile ---- */
+
+/* Loads one font of what was gathered into a fresh store. */
+static void load_one(const gathered *all, uint32_t font)
+{
+    uint32_t number = 0, code = 0;
+    command given;
+    size_t at;
+
+    fresh_store();
+    for (at = 0; at < all->length; at += given.length) {
+        given = command_at(all->bytes + at, all->length - at);
+        if (given.found == FONT_NUMBER)
+            number = given.number;
+        else if (given.found == CODE)
+            code = given.number;
+        else if (number == font && given.found == FONT_BLOCK)
+            mf_download_font(store, sizeof store, given.block, given.number, font);
+        else if (number == font)
+            mf_download_character(store, sizeof store, given.block, given.number, font, code);
+    }
+}
+
+/* Tells what is against a font, whose number is that of the store. */
+static void tell_unfit(rewriting *of, uint32_t font)
+{
+    uint8_t kept[MF_FONT_BYTES];
+
+    of->status = INCOMPLETE;
+    if (mf_tell_font(store, sizeof store, kept, sizeof kept, font).refusal)
+        tell("%s: font %u is refused by the library, left out", shown(of->from->name),
+             (unsigned)font);
+    else {
+        tell("%s: font %u does not meet the profile, left out", shown(of->from->name),
+             (unsigned)font);
+        print_profile(stderr, font);
+    }
+}
+
+/* Keeps of what was gathered the fonts that meet the profile, as the library writes them. */
+static void keep_profiled(rewriting *of)
+{
+    static uint8_t written[MF_WRITTEN_MAX(MF_STORE_MAX)];
+    gathered kept = {NULL, 0, 0};
+    uint32_t font;
+
+    for (font = 0; font + (uint32_t)added <= MF_FONT_MAX; font++) {
+        uint32_t number = font + (uint32_t)added;
+        mf_written made;
+        if (!fonts[font].headed || (chosen != NOT_GIVEN && (uint32_t)chosen != font))
+            continue;
+        load_one(&of->written, number);
+        made = mf_write_profiled(store, sizeof store, written, sizeof written, number);
+        if (made.refusal)
+            tell_unfit(of, number);
+        else
+            gather(&kept, written, made.length);
+    }
+    if (!kept.length)
+        stop("%s: no font in it meets the profile", shown(of->from->name));
+    free(of->written.bytes);
+    of->written = kept;
 }
 
 int main(int argc, char **argv)
@@ -393,6 +509,8 @@ int main(int argc, char **argv)
     rewrite(&made); /* stops where it is broken, before anything is written */
     if (!close_input(&from))
         return FAILED;
+    if (profiled)
+        keep_profiled(&made);
     to = open_output(out);
     fwrite(made.written.bytes, 1, made.written.length, to);
     close_output(to, out);

@@ -7,6 +7,7 @@
 #include "message.h"
 #include "output.h"
 #include "page.h"
+#include "profile.h"
 
 #include <stdlib.h>
 
@@ -21,7 +22,7 @@ static const option options[] = {
     {FLAG, "--plain", NULL, &plain, 1, 0, "PBM in plain digits"},
     {FLAG, "--profile", NULL, &profile, 1, 0,
      "draw nothing: say in words whether the font meets the profile of spine\n"
-     "labels, and if not, which rule it breaks and where"},
+     "labels, and if not, every rule that it breaks, with the codes"},
     {WORD, "-o", "FILE", &out, 0, 0, "write to this file (-, standard output)"}};
 
 static const description program = {
@@ -116,65 +117,14 @@ static int write_sheet(uint32_t font)
     return status;
 }
 
-/* A rule that a character breaks, with its numbers. */
-static void print_break(FILE *to, const mf_font_fields *font, const mf_character_fields *told,
-                        const mf_profile *found)
-{
-    fprintf(to, "code %u: ", (unsigned)found->code);
-    switch (found->rule) {
-    case MF_PROFILE_LEFT:
-        fprintf(to, "its left offset is %d, below 0\n", (int)told->left);
-        break;
-    case MF_PROFILE_WIDTH:
-        fprintf(to, "left offset %d plus width %u is more than the cell width %u\n",
-                (int)told->left, (unsigned)told->width, (unsigned)font->cell_width);
-        break;
-    case MF_PROFILE_HEIGHT:
-        fprintf(to, "its height %u is more than the cell height %u\n", (unsigned)told->height,
-                (unsigned)font->cell_height);
-        break;
-    default:
-        fprintf(to, "its delta X %u is not the font's pitch %u\n", (unsigned)told->delta_x,
-                (unsigned)font->pitch);
-    }
-}
-
-/* Which rule a font breaks, and where. */
-static void print_profile(FILE *to, uint32_t number, const mf_profile *found)
-{
-    uint32_t characters;
-    mf_font_fields font = tell_font(number, &characters);
-    mf_character_fields told;
-
-    fprintf(to, "font %u breaks rule %u of the profile: ", (unsigned)number,
-            (unsigned)found->rule);
-    if (found->rule == MF_PROFILE_TYPE)
-        fprintf(to, "its type is %u, not 0\n", (unsigned)font.type);
-    else if (found->rule == MF_PROFILE_SPACING)
-        fputs("its spacing is proportional, not fixed\n", to);
-    else if (!tell_character(number, found->code, &told))
-        fprintf(to, "code %u is not there\n", (unsigned)found->code);
-    else if (found->rule == MF_PROFILE_CODES)
-        fprintf(to, "code %u is not complete\n", (unsigned)found->code);
-    else
-        print_break(to, &font, &told, found);
-}
-
 /* Says in words what the check of the profile found; the exit status. */
 static int write_profile(uint32_t font)
 {
-    mf_profile found = mf_check_profile(store, sizeof store, font);
-    FILE *to;
+    FILE *to = open_output(out);
+    int met = print_profile(to, font);
 
-    if (found.refusal)
-        refuse("profile", found.refusal);
-    to = open_output(out);
-    if (found.rule == MF_PROFILE_MET)
-        fprintf(to, "font %u meets the profile\n", (unsigned)font);
-    else
-        print_profile(to, font, &found);
     close_output(to, out);
-    return found.rule == MF_PROFILE_MET ? COMPLETE : INCOMPLETE;
+    return met ? COMPLETE : INCOMPLETE;
 }
 
 int main(int argc, char **argv)
