@@ -9,14 +9,22 @@
 #include "request.h"
 
 #include <stdlib.h>
+#include <string.h>
 
 #define MARGIN 12
 
-static long turn, plain;
+static long named = NOT_GIVEN, exact, ink, space = NOT_GIVEN, turn, plain;
 static const char *out;
 
 static const option options[] = {
     REQUEST_OPTIONS,
+    {NUMBER, "--font", "N", &named, 0, MF_FONT_MAX, "take font N, whatever it is"},
+    {FLAG, "--exact", NULL, &exact, 1, 0,
+     "write nothing if no font has what the options ask for"},
+    {FLAG, "--ink", NULL, &ink, 1, 0,
+     "the picture ends with the text's dots (with the font's cell)"},
+    {NUMBER, "--space", "DOTS", &space, 0, 16384,
+     "width of a space that the font lacks (its pitch)"},
     {NUMBER, "--turn", "N", &turn, 0, 3, "the label turned clockwise by N quarters, 0 to 3 (0)"},
     {FLAG, "--plain", NULL, &plain, 1, 0, "PBM in plain digits"},
     {WORD, "-o", "FILE", &out, 0, 0, "write to this file (-, standard output)"}};
@@ -24,7 +32,8 @@ static const option options[] = {
 static const description program = {
     "marlinfold-label", "[OPTIONS] TEXT FILE...",
     "Reads the fonts of each FILE, - for standard input, chooses the one that fits best, and\n"
-    "writes TEXT in it to standard output, as a picture of the font's dots to the inch.\n",
+    "writes TEXT in it to standard output, as a picture of the font's dots to the inch. The\n"
+    "picture is as high as the font's cell, so that labels of one font align.\n",
     "The bytes of TEXT are the codes of the characters. In UTF-8 a letter beyond ASCII has two\n"
     "bytes or more, which would be as many codes: make them bytes of the font's symbol set, as\n"
     "  marlinfold-label \"$(iconv -f UTF-8 -t HP-ROMAN8 <TEXTFILE)\" FILE...\n"
@@ -33,15 +42,137 @@ static const description program = {
     "incomplete or a font file was not taken whole, 1 if it was not written.\n",
     options, sizeof options / sizeof *options};
 
+/* ---- choosing ---- */
+
+/* Adds to a list of what differs. */
+static void differ(char *list, size_t room, const char *what)
+{
+    size_t length = strlen(list);
+    snprintf(list + length, room - length, "%s%s", length ? ", " : "", what);
+}
+
+/* Whether a number of the font is another than was asked for; then it is added. */
+static void compare(char *list, size_t room, const char *name, long has, long asked)
+{
+    char what[80];
+
+    if (asked == NOT_GIVEN || has == asked)
+        return;
+    snprintf(what, sizeof what, "%s %ld for %ld", name, has, asked);
+    differ(list, room, what);
+}
+
+static void compare_set(char *list, size_t room, uint32_t has)
+{
+    char what[80], of[2][16];
+
+    if (requested.symbol_set == NOT_GIVEN || (long)has == requested.symbol_set)
+        return;
+    name_symbol_set(of[0], sizeof of[0], has);
+    name_symbol_set(of[1], sizeof of[1], (uint32_t)requested.symbol_set);
+    snprintf(what, sizeof what, "set %s for %s", of[0], of[1]);
+    differ(list, room, what);
+}
+
+static void compare_weight(char *list, size_t room, int32_t has)
+{
+    char what[80];
+
+    if (requested.weight == NOT_GIVEN || has == requested.weight)
+        return;
+    snprintf(what, sizeof what, "weight %d (%s) for %ld (%s)", (int)has, weight_name(has),
+             requested.weight, weight_name((int32_t)requested.weight));
+    differ(list, room, what);
+}
+
+/* A quarter of a point counts as none. */
+static void compare_height(char *list, size_t room, uint32_t has)
+{
+    char what[80];
+    long off = (long)has - requested.height;
+
+    if (requested.height == NOT_GIVEN || (off <= 25 && off >= -25))
+        return;
+    snprintf(what, sizeof what, "height %.2f for %.2f", (double)has / 100,
+             (double)requested.height / 100);
+    differ(list, room, what);
+}
+
+/* What a font has otherwise than the options ask for, in words; empty if there is nothing. The
+ * last answer alone is kept. */
+static const char *differences(uint32_t number)
+{
+    static char list[400];
+    uint32_t characters;
+    mf_font_fields font = tell_font(number, &characters);
+
+    list[0] = '\0';
+    compare_set(list, sizeof list, font.symbol_set);
+    if (requested.spacing != NOT_GIVEN && (long)font.spacing != requested.spacing)
+        differ(list, sizeof list, "fixed for proportional");
+    compare_height(list, sizeof list, mf_height_of(&font));
+    compare(list, sizeof list, "style", (long)font.style, requested.style);
+    compare_weight(list, sizeof list, font.weight);
+    compare(list, sizeof list, "face", (long)font.typeface, requested.typeface);
+    return list;
+}
+
+/* Whether two fonts are the same for every step of choosing but the last. */
+static int are_level(uint32_t a, uint32_t b)
+{
+    uint32_t characters;
+    mf_font_fields of = tell_font(a, &characters), to = tell_font(b, &characters);
+
+    return of.symbol_set == to.symbol_set && of.spacing == to.spacing && of.pitch == to.pitch &&
+           of.pitch_extended == to.pitch_extended && of.height == to.height &&
+           of.height_extended == to.height_extended && of.style == to.style &&
+           of.weight == to.weight && of.typeface == to.typeface &&
+           of.resolution == to.resolution && of.orientation == to.orientation;
+}
+
+/* Whether a font has every letter of the text; a space needs no character. */
+static int has_all(uint32_t font, const unsigned char *text)
+{
+    mf_character_fields told;
+
+    for (; *text; text++)
+        if (*text != ' ' && !tell_character(font, *text, &told))
+            return 0;
+    return 1;
+}
+
+/* The first font from a number on that is level with another and has all letters. */
+static uint32_t complete_one(uint32_t font, const unsigned char *text)
+{
+    uint32_t other;
+
+    if (has_all(font, text))
+        return font;
+    for (other = mf_next_font(store, sizeof store, 0); other <= MF_FONT_MAX;
+         other = mf_next_font(store, sizeof store, other + 1))
+        if (are_level(other, font) && has_all(other, text))
+            return other;
+    return font;
+}
+
+/* The first font that has all that was asked for, or another one if there is none. */
+static uint32_t exact_one(uint32_t mode, uint32_t otherwise)
+{
+    uint32_t font, characters;
+
+    for (font = mf_next_font(store, sizeof store, 0); font <= MF_FONT_MAX;
+         font = mf_next_font(store, sizeof store, font + 1))
+        if (!*differences(font) && tell_font(font, &characters).resolution <= mode)
+            return font;
+    return otherwise;
+}
+
 #define NONE_TO_CHOOSE "no font has the symbol set asked for or 8U"
 
-/* The number of the font that fits best, and a line about it for the user. */
-static uint32_t choose(const mf_request *asked)
+/* The number of the font that fits best. */
+static uint32_t best_font(const mf_request *asked)
 {
-    mf_chosen chosen =
-        mf_choose(store, sizeof store, asked->symbol_set, asked->spacing, asked->pitch,
-                  asked->height, asked->style, asked->weight, asked->typeface, asked->orientation,
-                  asked->mode);
+    mf_chosen chosen = mf_choose_request(store, sizeof store, asked);
 
     if (chosen.refusal == MF_NONE_TO_CHOOSE)
         stop("choosing: %s", asked->mode == MF_MODE_300
@@ -49,19 +180,68 @@ static uint32_t choose(const mf_request *asked)
                                  : NONE_TO_CHOOSE);
     if (chosen.refusal)
         refuse("choosing", chosen.refusal);
-    begin_message();
-    print_font(stderr, chosen.font);
-    fputc('\n', stderr);
     return chosen.font;
 }
 
-/* How far a character moves the cursor along the line, in 256ths of a quarter-dot. Fixed
- * fonts move it by their pitch, proportional ones by the character's delta X; a code that
- * has no character leaves a space of the font's pitch. */
-static int64_t advance(const mf_font_fields *font, const mf_character_fields *character)
+/* The font to take, and a line about it for the user. */
+static uint32_t choose(const mf_request *asked, const unsigned char *text)
 {
-    if (!character || font->spacing == MF_FIXED)
-        return 256 * (int64_t)font->pitch + font->pitch_extended;
+    uint32_t font = named == NOT_GIVEN ? best_font(asked) : (uint32_t)named;
+
+    if (exact && named == NOT_GIVEN && *differences(font))
+        font = exact_one(asked->mode, font);
+    if (exact && *differences(font))
+        stop("no font has what was asked for; font %u has %s", (unsigned)font, differences(font));
+    if (named == NOT_GIVEN)
+        font = complete_one(font, text);
+    begin_message();
+    print_font(stderr, font);
+    fputc('\n', stderr);
+    if (*differences(font))
+        tell("not as asked for: %s", differences(font));
+    return font;
+}
+
+/* ---- setting ---- */
+
+/* The line that is set, and the paper that it needs around the cursor's first place. */
+typedef struct {
+    const unsigned char *text;
+    uint32_t number;
+    mf_font_fields font;
+    int64_t blank; /* what a missing character leaves free, in 256ths of a quarter-dot */
+    long left, top, right, bottom;
+} line;
+
+/* What a missing character leaves free: the pitch, unless that is no width of a space. */
+static int64_t blank_of(const line *of)
+{
+    int64_t pitch = 256 * (int64_t)of->font.pitch + of->font.pitch_extended;
+    mf_character_fields n, blank;
+
+    if (space != NOT_GIVEN)
+        return 1024 * (int64_t)space;
+    if (of->font.spacing == MF_FIXED || of->font.pitch <= 8 * of->font.cell_width ||
+        !strchr((const char *)of->text, ' ') || tell_character(of->number, ' ', &blank))
+        return pitch;
+    if (!tell_character(of->number, 'n', &n)) {
+        tell("the font's pitch, %u dots, is wide for a space; --space sets another",
+             (unsigned)of->font.pitch / 4);
+        return pitch;
+    }
+    tell("the font's pitch, %u dots, is too wide for a space: the width of n is taken, %u dots",
+         (unsigned)of->font.pitch / 4, (unsigned)n.delta_x / 4);
+    return 256 * (int64_t)n.delta_x;
+}
+
+/* How far a character moves the cursor along the line, in 256ths of a quarter-dot. Fixed
+ * fonts move it by their pitch, proportional ones by the character's delta X. */
+static int64_t advance(const line *of, const mf_character_fields *character)
+{
+    if (!character)
+        return of->blank;
+    if (of->font.spacing == MF_FIXED)
+        return 256 * (int64_t)of->font.pitch + of->font.pitch_extended;
     return 256 * (int64_t)character->delta_x;
 }
 
@@ -79,14 +259,6 @@ static void go_along(const mf_font_fields *font, int64_t cursor, long *left, lon
     default: *top += dots; break;
     }
 }
-
-/* The line that is set, and the paper that it needs around the cursor's first place. */
-typedef struct {
-    const unsigned char *text;
-    uint32_t number;
-    mf_font_fields font;
-    long left, top, right, bottom;
-} line;
 
 static void take_in(line *in, long left, long top, long right, long bottom)
 {
@@ -117,11 +289,30 @@ static void set_line(line *of, page *label)
             place(label, of->number, *at, &told, left - of->left + MARGIN, top - of->top + MARGIN);
         else if (there)
             take_in(of, left, top, left + (long)told.width, top + (long)told.height);
-        cursor += advance(&of->font, there ? &told : NULL);
+        cursor += advance(of, there ? &told : NULL);
     }
     left = top = 0;
     go_along(&of->font, cursor, &left, &top);
     take_in(of, left, top, left, top);
+}
+
+/* Takes in the font's cell, across the line: as far above the baseline and below it as every
+ * label of this font. Tells if dots stand beyond it. */
+static void take_cell(line *of)
+{
+    long above = (long)of->font.baseline, high = (long)of->font.cell_height, below = high - above;
+    long across;
+
+    switch (of->font.orientation) {
+    case MF_PORTRAIT: take_in(of, 0, -above, 0, below); break;
+    case MF_LANDSCAPE: take_in(of, -above, 0, below, 0); break;
+    case MF_REVERSE_PORTRAIT: take_in(of, 0, 1 - below, 0, above + 1); break;
+    default: take_in(of, 1 - below, 0, above + 1, 0);
+    }
+    across = of->font.orientation % 2 ? of->right - of->left : of->bottom - of->top;
+    if (across > high)
+        tell("dots stand beyond the font's cell of %ld dots: the label takes %ld and may not align",
+             high, across);
 }
 
 /* Tells what the font lacks of the line, where a space needs no character. */
@@ -136,8 +327,9 @@ static int tell_missing(const line *of)
         int there = tell_character(of->number, *at, &told);
         if (said[*at] || (there ? !is_incomplete(of->number, *at) : *at == ' '))
             continue;
-        tell("code %u: %s", *at,
-             there ? "incomplete, rows are missing" : "no such character, left blank");
+        begin_message();
+        fprintf(stderr, *at > ' ' && *at <= '~' ? "code %u, \"%c\": " : "code %u: ", *at, *at);
+        fputs(there ? "incomplete, rows are missing\n" : "no such character, left blank\n", stderr);
         said[*at] = 1;
         status = INCOMPLETE;
         beyond |= *at > 127;
@@ -147,6 +339,8 @@ static int tell_missing(const line *of)
              "--help)");
     return status;
 }
+
+/* ---- the label ---- */
 
 /* The label turned by so many quarters, 0 leaving it as it is. */
 static page turned(page label, uint32_t quarters)
@@ -170,11 +364,25 @@ static page turned(page label, uint32_t quarters)
     return made;
 }
 
+/* Draws the line on a label of its size. */
+static page draw(line *of)
+{
+    page label;
+
+    of->blank = blank_of(of);
+    set_line(of, NULL);
+    if (!ink)
+        take_cell(of);
+    label = new_page(of->right - of->left + 2 * MARGIN, of->bottom - of->top + 2 * MARGIN);
+    set_line(of, &label);
+    return turned(label, (uint32_t)turn);
+}
+
 int main(int argc, char **argv)
 {
     size_t count = take_arguments(&program, argc, argv);
     mf_request asked = request_asked();
-    line set = {NULL, 0, {0}, 0, 0, 0, 0};
+    line set = {NULL, 0, {0}, 0, 0, 0, 0, 0};
     int status, lacking;
     uint32_t characters;
     page label;
@@ -184,13 +392,10 @@ int main(int argc, char **argv)
     check_output(out, argv + 2, count - 1);
     status = load_files(argv + 2, count - 1);
     set.text = (const unsigned char *)argv[1];
-    set.number = choose(&asked);
+    set.number = choose(&asked, set.text);
     set.font = tell_font(set.number, &characters);
     lacking = tell_missing(&set);
-    set_line(&set, NULL);
-    label = new_page(set.right - set.left + 2 * MARGIN, set.bottom - set.top + 2 * MARGIN);
-    set_line(&set, &label);
-    label = turned(label, (uint32_t)turn);
+    label = draw(&set);
     write_page(&label, plain != 0, out);
     free(label.dots);
     forget_kept();

@@ -122,12 +122,20 @@ int is_incomplete(uint32_t font, uint32_t code)
     return kept.incomplete[code];
 }
 
-void print_symbol_set(FILE *to, uint32_t set)
+void name_symbol_set(char *to, size_t room, uint32_t set)
 {
     if (set % 32 >= 1 && set % 32 <= 26)
-        fprintf(to, "%u%c", (unsigned)(set / 32), (int)(64 + set % 32));
+        snprintf(to, room, "%u%c", (unsigned)(set / 32), (int)(64 + set % 32));
     else
-        fprintf(to, "%u", (unsigned)set);
+        snprintf(to, room, "%u", (unsigned)set);
+}
+
+void print_symbol_set(FILE *to, uint32_t set)
+{
+    char name[16];
+
+    name_symbol_set(name, sizeof name, set);
+    fputs(name, to);
 }
 
 /* The font's own name, if it has one: without the spaces at its end, and with a ? for each

@@ -27,6 +27,7 @@ void print_font(FILE *to, uint32_t number);
 
 /* As 8U; a number where that has no letter. */
 void print_symbol_set(FILE *to, uint32_t set);
+void name_symbol_set(char *to, size_t room, uint32_t set);
 
 /* As "bold" and "landscape". */
 const char *weight_name(int32_t weight);

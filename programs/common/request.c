@@ -2,23 +2,28 @@
 
 #include "message.h"
 
-request_words requested = {MF_ROMAN_8, MF_FIXED, 1000, 1200, 0, MF_MEDIUM, 3, MF_PORTRAIT,
-                           MF_MODE_300};
+request_words requested = {NOT_GIVEN, NOT_GIVEN, NOT_GIVEN, NOT_GIVEN, NOT_GIVEN,
+                           NOT_GIVEN, NOT_GIVEN, NOT_GIVEN, NOT_GIVEN};
+
+static uint32_t given(long value, uint32_t otherwise)
+{
+    return value == NOT_GIVEN ? otherwise : (uint32_t)value;
+}
 
 mf_request request_asked(void)
 {
     mf_request made;
 
-    if (requested.mode != MF_MODE_300 && requested.mode != MF_MODE_600)
-        stop("--mode %ld: not 300 or 600", requested.mode);
-    made.symbol_set = (uint32_t)requested.symbol_set;
-    made.spacing = (uint32_t)requested.spacing;
-    made.pitch = (uint32_t)requested.pitch;
-    made.height = (uint32_t)requested.height;
-    made.style = (uint32_t)requested.style;
-    made.weight = (int32_t)requested.weight;
-    made.typeface = (uint32_t)requested.typeface;
-    made.orientation = (uint32_t)requested.orientation;
-    made.mode = (uint32_t)requested.mode;
+    made.symbol_set = given(requested.symbol_set, MF_ROMAN_8);
+    made.spacing = given(requested.spacing, MF_FIXED);
+    made.pitch = given(requested.pitch, 1000);
+    made.height = given(requested.height, 1200);
+    made.style = given(requested.style, 0);
+    made.weight = requested.weight == NOT_GIVEN ? MF_MEDIUM : (int32_t)requested.weight;
+    made.typeface = given(requested.typeface, 3);
+    made.orientation = given(requested.orientation, MF_PORTRAIT);
+    made.mode = given(requested.mode, MF_MODE_300);
+    if (made.mode != MF_MODE_300 && made.mode != MF_MODE_600)
+        stop("--mode %u: not 300 or 600", (unsigned)made.mode);
     return made;
 }

@@ -2,9 +2,10 @@
 #ifndef REQUEST_H
 #define REQUEST_H
 
+#include "arguments.h"
 #include "marlinfold.h"
 
-/* What the options gave, in the units of mf_request. */
+/* What the options gave, in the units of mf_request; NOT_GIVEN where none was. */
 typedef struct {
     long symbol_set, spacing, pitch, height, style, weight, typeface, orientation, mode;
 } request_words;
@@ -31,7 +32,8 @@ extern request_words requested;
     {NUMBER, "--mode", "N", &requested.mode, 300, 600, \
      "dots to the inch of the page, 300 or 600 (300)"}
 
-/* The request; stops if the mode is neither 300 nor 600. */
+/* The request, with what holds where no option was given; stops if the mode is neither 300 nor
+ * 600. */
 mf_request request_asked(void);
 
 #endif
