@@ -27,6 +27,10 @@ common = target/objects/common.a
 examples = $(patsubst %.c,target/%,$(wildcard examples/*.c))
 crates = crates.txt $(shell find crates -type f)
 headers = include/marlinfold.h $(wildcard programs/common/*.h)
+# The programs that draw write PNG too, if libpng is there.
+with_png := $(shell pkg-config --exists libpng 2>/dev/null && echo yes)
+png_flags := $(if $(with_png),-DWITH_PNG $(shell pkg-config --cflags libpng))
+png_libraries := $(if $(with_png),$(shell pkg-config --libs libpng))
 compile = $(CC) -std=c99 -Wall -Wextra -pedantic $(CPPFLAGS) $(CFLAGS) -Iinclude
 label = target/programs/marlinfold-label --height 10
 
@@ -74,7 +78,7 @@ $(shared): $(archive)
 # What the programs share is compiled once.
 target/objects/%.o: programs/common/%.c $(headers)
 	@mkdir -p $(@D)
-	$(compile) -c $< -o $@
+	$(compile) $(png_flags) -c $< -o $@
 
 $(common): $(modules)
 	rm -f $@
@@ -82,7 +86,9 @@ $(common): $(modules)
 
 target/programs/marlinfold-%: programs/%.c $(headers) $(common) $(archive)
 	@mkdir -p $(@D)
-	$(compile) -Iprograms/common $< $(common) $(archive) $(LDFLAGS) -o $@
+	$(compile) -Iprograms/common $< $(common) $(archive) $(LDFLAGS) $(libraries) -o $@
+
+target/programs/marlinfold-label target/programs/marlinfold-specimen: libraries = $(png_libraries)
 
 # As a user builds them: with the installed header alone.
 target/examples/%: examples/%.c include/marlinfold.h $(archive)

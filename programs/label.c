@@ -13,7 +13,7 @@
 
 #define MARGIN 12
 
-static long named = NOT_GIVEN, exact, ink, space = NOT_GIVEN, turn, plain;
+static long named = NOT_GIVEN, exact, ink, space = NOT_GIVEN, turn, plain, png;
 static const char *out;
 
 static const option options[] = {
@@ -27,6 +27,7 @@ static const option options[] = {
      "width of a space that the font lacks (its pitch)"},
     {NUMBER, "--turn", "N", &turn, 0, 3, "the label turned clockwise by N quarters, 0 to 3 (0)"},
     {FLAG, "--plain", NULL, &plain, 1, 0, "PBM in plain digits"},
+    {FLAG, "--png", NULL, &png, 1, 0, "PNG, also by the ending of the file's name (PBM)"},
     {WORD, "-o", "FILE", &out, 0, 0, "write to this file (-, standard output)"}};
 
 static const description program = {
@@ -385,10 +386,13 @@ int main(int argc, char **argv)
     line set = {NULL, 0, {0}, 0, 0, 0, 0, 0};
     int status, lacking;
     uint32_t characters;
+    enum page_form form;
     page label;
+    FILE *to;
 
     if (count < 2)
         stop_usage(&program);
+    form = form_asked(plain != 0, png != 0, out);
     check_output(out, argv + 2, count - 1);
     status = load_files(argv + 2, count - 1);
     set.text = (const unsigned char *)argv[1];
@@ -396,7 +400,9 @@ int main(int argc, char **argv)
     set.font = tell_font(set.number, &characters);
     lacking = tell_missing(&set);
     label = draw(&set);
-    write_page(&label, plain != 0, out);
+    to = open_output(out);
+    write_page(to, &label, form, set.font.resolution);
+    close_output(to, out);
     free(label.dots);
     forget_kept();
     return lacking ? lacking : status;

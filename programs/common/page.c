@@ -2,9 +2,10 @@
 
 #include "kept.h"
 #include "message.h"
-#include "output.h"
+#include "png_file.h"
 
 #include <stdlib.h>
+#include <string.h>
 
 page new_page(long width, long height)
 {
@@ -21,7 +22,7 @@ page new_page(long width, long height)
     return made;
 }
 
-static void blacken(page *on, long x, long y)
+void blacken(page *on, long x, long y)
 {
     if (x >= 0 && y >= 0 && x < on->width && y < on->height)
         on->dots[(size_t)y * on->row_bytes + (size_t)x / 8] |= (uint8_t)(0x80 >> x % 8);
@@ -40,6 +41,19 @@ void place(page *on, uint32_t font, uint32_t code, const mf_character_fields *to
                 blacken(on, left + (long)x, top + (long)y);
 }
 
+enum page_form form_asked(int plain, int png, const char *name)
+{
+    size_t length = name ? strlen(name) : 0;
+
+    png |= length > 4 && strcmp(name + length - 4, ".png") == 0;
+    if (png && plain)
+        stop("--plain: PBM in plain digits, and PNG is asked for as well");
+    if (png && !can_write_png())
+        stop("PNG: this program was built without libpng; pnmtopng FILE.pbm >FILE.png makes it "
+             "of a PBM");
+    return png ? PNG : plain ? PLAIN_PBM : PBM;
+}
+
 static void write_plain(FILE *to, const page *from)
 {
     long x, y;
@@ -53,14 +67,15 @@ static void write_plain(FILE *to, const page *from)
     }
 }
 
-void write_page(const page *from, int plain, const char *name)
+void write_page(FILE *to, const page *from, enum page_form form, uint32_t resolution)
 {
-    FILE *to = open_output(name);
-
-    fprintf(to, "%s\n%ld %ld\n", plain ? "P1" : "P4", from->width, from->height);
-    if (plain)
+    if (form == PNG) {
+        write_png(to, from, resolution);
+        return;
+    }
+    fprintf(to, "%s\n%ld %ld\n", form == PLAIN_PBM ? "P1" : "P4", from->width, from->height);
+    if (form == PLAIN_PBM)
         write_plain(to, from);
     else
         fwrite(from->dots, from->row_bytes, (size_t)from->height, to);
-    close_output(to, name);
 }
