@@ -7,13 +7,14 @@
 #include "output.h"
 #include "page.h"
 #include "request.h"
+#include "text.h"
 
 #include <stdlib.h>
 #include <string.h>
 
 #define MARGIN 12
 
-static long named = NOT_GIVEN, exact, ink, space = NOT_GIVEN, turn, plain, png;
+static long named = NOT_GIVEN, exact, ink, space = NOT_GIVEN, turn, bytes, plain, png;
 static const char *out;
 
 static const option options[] = {
@@ -25,6 +26,8 @@ static const option options[] = {
      "the picture ends with the text's dots (with the font's cell)"},
     {NUMBER, "--space", "DOTS", &space, 0, 16384,
      "width of a space that the font lacks (its pitch)"},
+    {FLAG, "--bytes", NULL, &bytes, 1, 0,
+     "each byte of TEXT is a code (TEXT is in the locale's encoding)"},
     {NUMBER, "--turn", "N", &turn, 0, 3, "the label turned clockwise by N quarters, 0 to 3 (0)"},
     {FLAG, "--plain", NULL, &plain, 1, 0, "PBM in plain digits"},
     {FLAG, "--png", NULL, &png, 1, 0, "PNG, also by the ending of the file's name (PBM)"},
@@ -35,9 +38,7 @@ static const description program = {
     "Reads the fonts of each FILE, - for standard input, chooses the one that fits best, and\n"
     "writes TEXT in it to standard output, as a picture of the font's dots to the inch. The\n"
     "picture is as high as the font's cell, so that labels of one font align.\n",
-    "The bytes of TEXT are the codes of the characters. In UTF-8 a letter beyond ASCII has two\n"
-    "bytes or more, which would be as many codes: make them bytes of the font's symbol set, as\n"
-    "  marlinfold-label \"$(iconv -f UTF-8 -t HP-ROMAN8 <TEXTFILE)\" FILE...\n"
+    "TEXT is turned into codes of the font's symbol set, if iconv knows that by a name.\n"
     PAGE_HELP
     "Exit status: 0 if the label is whole, 2 if it was written but a character is missing or\n"
     "incomplete or a font file was not taken whole, 1 if it was not written.\n",
@@ -131,27 +132,34 @@ static int are_level(uint32_t a, uint32_t b)
            of.resolution == to.resolution && of.orientation == to.orientation;
 }
 
+/* Whether a font has a code. */
+static int has_code(uint32_t font, int code, mf_character_fields *told)
+{
+    return code != NO_CODE && tell_character(font, (uint32_t)code, told);
+}
+
 /* Whether a font has every letter of the text; a space needs no character. */
-static int has_all(uint32_t font, const unsigned char *text)
+static int has_all(uint32_t font, const text *words)
 {
     mf_character_fields told;
+    size_t at;
 
-    for (; *text; text++)
-        if (*text != ' ' && !tell_character(font, *text, &told))
+    for (at = 0; at < words->count; at++)
+        if (words->letters[at].code != ' ' && !has_code(font, words->letters[at].code, &told))
             return 0;
     return 1;
 }
 
 /* The first font from a number on that is level with another and has all letters. */
-static uint32_t complete_one(uint32_t font, const unsigned char *text)
+static uint32_t complete_one(uint32_t font, const text *words)
 {
     uint32_t other;
 
-    if (has_all(font, text))
+    if (has_all(font, words))
         return font;
     for (other = mf_next_font(store, sizeof store, 0); other <= MF_FONT_MAX;
          other = mf_next_font(store, sizeof store, other + 1))
-        if (are_level(other, font) && has_all(other, text))
+        if (are_level(other, font) && has_all(other, words))
             return other;
     return font;
 }
@@ -184,35 +192,47 @@ static uint32_t best_font(const mf_request *asked)
     return chosen.font;
 }
 
-/* The font to take, and a line about it for the user. */
-static uint32_t choose(const mf_request *asked, const unsigned char *text)
-{
-    uint32_t font = named == NOT_GIVEN ? best_font(asked) : (uint32_t)named;
-
-    if (exact && named == NOT_GIVEN && *differences(font))
-        font = exact_one(asked->mode, font);
-    if (exact && *differences(font))
-        stop("no font has what was asked for; font %u has %s", (unsigned)font, differences(font));
-    if (named == NOT_GIVEN)
-        font = complete_one(font, text);
-    begin_message();
-    print_font(stderr, font);
-    fputc('\n', stderr);
-    if (*differences(font))
-        tell("not as asked for: %s", differences(font));
-    return font;
-}
-
-/* ---- setting ---- */
-
 /* The line that is set, and the paper that it needs around the cursor's first place. */
 typedef struct {
-    const unsigned char *text;
+    text words;
     uint32_t number;
     mf_font_fields font;
     int64_t blank; /* what a missing character leaves free, in 256ths of a quarter-dot */
     long left, top, right, bottom;
 } line;
+
+/* Takes a font for the line, tells the user which, and turns the words into its codes. */
+static void choose(line *of, const mf_request *asked, const char *words)
+{
+    uint32_t font = named == NOT_GIVEN ? best_font(asked) : (uint32_t)named, characters;
+
+    if (exact && named == NOT_GIVEN && *differences(font))
+        font = exact_one(asked->mode, font);
+    if (exact && *differences(font))
+        stop("no font has what was asked for; font %u has %s", (unsigned)font, differences(font));
+    of->font = tell_font(font, &characters);
+    of->words = bytes ? text_of_bytes(words) : text_of_words(words, of->font.symbol_set);
+    if (named == NOT_GIVEN)
+        font = complete_one(font, &of->words);
+    of->number = font;
+    of->font = tell_font(font, &characters);
+    begin_message();
+    print_font(stderr, font);
+    fputc('\n', stderr);
+    if (*differences(font))
+        tell("not as asked for: %s", differences(font));
+}
+
+/* ---- setting ---- */
+
+static int has_space(const text *words)
+{
+    size_t at = 0;
+
+    while (at < words->count && words->letters[at].code != ' ')
+        at++;
+    return at < words->count;
+}
 
 /* What a missing character leaves free: the pitch, unless that is no width of a space. */
 static int64_t blank_of(const line *of)
@@ -223,7 +243,7 @@ static int64_t blank_of(const line *of)
     if (space != NOT_GIVEN)
         return 1024 * (int64_t)space;
     if (of->font.spacing == MF_FIXED || of->font.pitch <= 8 * of->font.cell_width ||
-        !strchr((const char *)of->text, ' ') || tell_character(of->number, ' ', &blank))
+        !has_space(&of->words) || tell_character(of->number, ' ', &blank))
         return pitch;
     if (!tell_character(of->number, 'n', &n)) {
         tell("the font's pitch, %u dots, is wide for a space; --space sets another",
@@ -273,13 +293,14 @@ static void take_in(line *in, long left, long top, long right, long bottom)
  * characters on it. */
 static void set_line(line *of, page *label)
 {
-    const unsigned char *at;
+    size_t at;
     int64_t cursor = 0;
     long left = 0, top = 0;
 
-    for (at = of->text; *at; at++) {
+    for (at = 0; at < of->words.count; at++) {
+        int code = of->words.letters[at].code;
         mf_character_fields told;
-        int there = tell_character(of->number, *at, &told);
+        int there = has_code(of->number, code, &told);
         if (there) {
             /* Offsets are from the cursor, to the right and up. */
             left = told.left;
@@ -287,7 +308,8 @@ static void set_line(line *of, page *label)
             go_along(&of->font, cursor, &left, &top);
         }
         if (there && label)
-            place(label, of->number, *at, &told, left - of->left + MARGIN, top - of->top + MARGIN);
+            place(label, of->number, (uint32_t)code, &told, left - of->left + MARGIN,
+                  top - of->top + MARGIN);
         else if (there)
             take_in(of, left, top, left + (long)told.width, top + (long)told.height);
         cursor += advance(of, there ? &told : NULL);
@@ -316,28 +338,56 @@ static void take_cell(line *of)
              high, across);
 }
 
+/* Tells a letter that is not there, or not whole. */
+static void tell_letter(const line *of, const letter *missing, int there)
+{
+    char set[16];
+
+    begin_message();
+    if (missing->code == NO_CODE) {
+        name_symbol_set(set, sizeof set, of->font.symbol_set);
+        fprintf(stderr, "\"%s\"", missing->name);
+        if (missing->unicode)
+            fprintf(stderr, " (U+%04lX)", missing->unicode);
+        fprintf(stderr, " has no code in set %s, left blank\n", set);
+        return;
+    }
+    fprintf(stderr, "code %d", missing->code);
+    if (missing->name[0])
+        fprintf(stderr, ", \"%s\"", missing->name);
+    fprintf(stderr, ": %s\n",
+            there ? "incomplete, rows are missing" : "no such character, left blank");
+}
+
+/* Whether a letter stands earlier in the line. */
+static int was_before(const text *words, size_t at)
+{
+    size_t before;
+
+    for (before = 0; before < at; before++)
+        if (words->letters[before].code == words->letters[at].code &&
+            (words->letters[at].code != NO_CODE ||
+             strcmp(words->letters[before].name, words->letters[at].name) == 0))
+            return 1;
+    return 0;
+}
+
 /* Tells what the font lacks of the line, where a space needs no character. */
 static int tell_missing(const line *of)
 {
-    uint8_t said[MF_CODE_MAX + 1] = {0};
-    const unsigned char *at;
     mf_character_fields told;
-    int status = COMPLETE, beyond = 0;
+    int status = COMPLETE;
+    size_t at;
 
-    for (at = of->text; *at; at++) {
-        int there = tell_character(of->number, *at, &told);
-        if (said[*at] || (there ? !is_incomplete(of->number, *at) : *at == ' '))
+    for (at = 0; at < of->words.count; at++) {
+        const letter *each = &of->words.letters[at];
+        int there = has_code(of->number, each->code, &told);
+        if (there ? !is_incomplete(of->number, (uint32_t)each->code) : each->code == ' ')
             continue;
-        begin_message();
-        fprintf(stderr, *at > ' ' && *at <= '~' ? "code %u, \"%c\": " : "code %u: ", *at, *at);
-        fputs(there ? "incomplete, rows are missing\n" : "no such character, left blank\n", stderr);
-        said[*at] = 1;
         status = INCOMPLETE;
-        beyond |= *at > 127;
+        if (!was_before(&of->words, at))
+            tell_letter(of, each, there);
     }
-    if (beyond)
-        tell("codes above 127: each byte of the text is a code; text in UTF-8 needs iconv (see "
-             "--help)");
     return status;
 }
 
@@ -383,9 +433,8 @@ int main(int argc, char **argv)
 {
     size_t count = take_arguments(&program, argc, argv);
     mf_request asked = request_asked();
-    line set = {NULL, 0, {0}, 0, 0, 0, 0, 0};
+    line set = {{NULL, 0}, 0, {0}, 0, 0, 0, 0, 0};
     int status, lacking;
-    uint32_t characters;
     enum page_form form;
     page label;
     FILE *to;
@@ -395,15 +444,14 @@ int main(int argc, char **argv)
     form = form_asked(plain != 0, png != 0, out);
     check_output(out, argv + 2, count - 1);
     status = load_files(argv + 2, count - 1);
-    set.text = (const unsigned char *)argv[1];
-    set.number = choose(&asked, set.text);
-    set.font = tell_font(set.number, &characters);
+    choose(&set, &asked, argv[1]);
     lacking = tell_missing(&set);
     label = draw(&set);
     to = open_output(out);
     write_page(to, &label, form, set.font.resolution);
     close_output(to, out);
     free(label.dots);
+    free(set.words.letters);
     forget_kept();
     return lacking ? lacking : status;
 }
