@@ -22,7 +22,8 @@ int is_command(const printer_command *given, const char *group, uint8_t letter)
 
 int is_known(const printer_command *given)
 {
-    static const char groups[] = "&a&b&c&d&f&k&l&n&p&r&s&t&u&v*a*b*c*d*g*i*l*m*o*p*r*s*t*v*w(s)s(f)f";
+    static const char groups[] = "&a&b&c&d&f&k&l&n&p&r&s&t&u&v"
+                                 "*a*b*c*d*g*i*l*m*o*p*r*s*t*v*w(s)s(f)f";
     const char *at;
 
     if (!given->group[0])

@@ -431,7 +431,8 @@ static void put(const uint8_t *picture, uint32_t width, uint32_t height, long x,
 int set_line(const uint8_t *file, size_t file_len, const unsigned char *text, long x, long y)
 {
     static uint8_t store[MF_STORE_MAX], kept[MF_FONT_BYTES], picture[MF_PICTURE_MAX];
-    mf_request asked = {MF_ROMAN_8, MF_FIXED, 1000, 1200, 0, MF_BOLD, 3, MF_PORTRAIT, MF_MODE_300};
+    mf_request asked = {MF_ROMAN_8, MF_FIXED, 1000,        1200,       0,
+                        MF_BOLD,    3,        MF_PORTRAIT, MF_MODE_300};
     mf_stream_read read;
     mf_chosen chosen;
     mf_font_fields font;
