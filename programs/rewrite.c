@@ -192,8 +192,8 @@ static void pass_block(rewriting *of, const printer_command *given)
 {
     if (pass_data(of->from, given))
         warn(of, "swallowed", given->place, -1, -1,
-             "its block holds the beginning of a font command, and no command follows it: bytes "
-             "are missing before, and a command is lost");
+             "its block holds the beginning of a font command, and no command follows it: bytes of "
+             "the block are missing, and a command is lost");
 }
 
 /* ---- fonts ---- */
