@@ -10,9 +10,11 @@
 #include <stdlib.h>
 #include <string.h>
 
-static long number = NOT_GIVEN, together, json;
+static long chosen = NOT_GIVEN, number = NOT_GIVEN, together, json;
 
 static const option options[] = {
+    {NUMBER, "--font", "N", &chosen, 0, MF_FONT_MAX,
+     "list the fonts that are number N in their files alone (all)"},
     {FLAG, "--together", NULL, &together, 1, 0,
      "read all files into one store, where a font replaces another of its\n"
      "number (a fresh store for each file)"},
@@ -24,7 +26,7 @@ static const option options[] = {
      "and for the sums"}};
 
 static const description program = {
-    "marlinfold-fonts", "[--together] [--number N] [--json] FILE...",
+    "marlinfold-fonts", "[OPTIONS] FILE...",
     "Reads the font streams of each FILE, - for standard input, into a store of 65536 bytes, and\n"
     "prints a line for each font that is kept, by rising number, with its file, and at last the\n"
     "commands done and refused. Each refused command, each font that replaces another, each\n"
@@ -183,6 +185,8 @@ static void list_store(void)
     for (font = mf_next_font(store, sizeof store, 0); font <= MF_FONT_MAX;
          font = mf_next_font(store, sizeof store, font + 1)) {
         const listed *same = same_as(font);
+        if (chosen != NOT_GIVEN && (uint32_t)chosen != origin[font].number)
+            continue;
         if (json)
             list_font_json(font, same);
         else

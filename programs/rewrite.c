@@ -3,6 +3,7 @@
  * docs/marlinfold-rewrite.1. */
 #include "arguments.h"
 #include "commands.h"
+#include "judging.h"
 #include "kept.h"
 #include "loading.h"
 #include "message.h"
@@ -19,6 +20,7 @@
 #define FORMAT_20 20
 #define FORMAT_0_BYTES 64
 #define FORMAT_20_BYTES 68
+#define ORIENTATION_AT 12
 #define RESOLUTION_AT 64
 #define PITCH_MAX 16800 /* quarter-dots */
 #define HEIGHT_MAX 10922
@@ -55,7 +57,7 @@ static const option options[] = {
      "write font blocks of format 20 in format 0, without their resolution"},
     {FLAG, "--quiet", NULL, &quiet, 1, 0,
      "for a printer's job with pages: text and commands of other kinds that\n"
-     "are left out, and codes that do not rise, are not told"},
+     "are left out, and codes that merely do not rise, are not told"},
     {FLAG, "--profiled", NULL, &profiled, 1, 0,
      "write only fonts that meet the profile of spine labels, and tell what\n"
      "is against the others"},
@@ -104,9 +106,10 @@ typedef struct {
 
 /* What has come of each font of the stream. */
 typedef struct {
-    uint8_t headed;   /* a header has come */
-    uint8_t told;     /* that none has */
-    int16_t last;     /* code; -1 for none */
+    uint8_t headed;      /* a header has come */
+    uint8_t orientation; /* as it has it */
+    uint8_t told;        /* that no header has come */
+    int16_t last;        /* code; -1 for none */
     uint8_t codes[(MF_CODE_MAX + 1) / 8];
 } met;
 static met fonts[MF_FONT_MAX + 1];
@@ -126,6 +129,17 @@ static void warn(rewriting *of, const char *kind, uint64_t at, long font, long c
     snprintf(said.what, sizeof said.what, "%s", what);
     tell_note(&said);
     of->status = INCOMPLETE;
+}
+
+/* Tells a block that is written, but that the library refuses. */
+static void warn_refused(rewriting *of, uint64_t at, long code, const judgement *made)
+{
+    char what[200];
+
+    if (!made->refusal)
+        return;
+    snprintf(what, sizeof what, "the library refuses it: %s", made->why);
+    warn(of, "refused", at, of->number, code, what);
 }
 
 static void start_gap(rewriting *of, uint64_t at)
@@ -269,6 +283,7 @@ static void rewrite_font(rewriting *of, const printer_command *given)
     uint8_t block[FORMAT_20_BYTES];
     size_t length = font_bytes(of->from, given);
     met *font = &fonts[of->number];
+    judgement made;
     int at;
 
     if (font->headed && !quiet)
@@ -285,7 +300,10 @@ static void rewrite_font(rewriting *of, const printer_command *given)
             put(block, &fields[at], fields[at].given);
     memset(font, 0, sizeof *font);
     font->headed = 1;
+    font->orientation = block[ORIENTATION_AT];
     font->last = -1;
+    judge_font(&made, block, length);
+    warn_refused(of, given->place, -1, &made);
     if (!is_chosen(of))
         return;
     say(of, "*c", of->number + added, 'D');
@@ -301,22 +319,27 @@ static int lacks_digit(long code, long of)
     return code == of / 10 || code == of / 100 * 10 + of % 10 || (of > 99 && code == of % 100);
 }
 
-/* Tells what speaks against a character's code: most files have their codes rising. */
+/* Tells what speaks against a character's code: most files have their codes rising, and in most
+ * fonts each code is one more than the code before. */
 static void check_code(rewriting *of, const printer_command *given, const met *font)
 {
+    long code = of->code, last = font->last;
     char what[120];
 
-    if (quiet || font->last < 0 || of->code == font->last)
+    if (last < 0 || code == last)
         return;
-    if (of->code < font->last) {
-        snprintf(what, sizeof what, "follows code %d: codes that do not rise may lack a digit",
-                 font->last);
-        warn(of, "code", given->place, of->number, of->code, what);
-    } else if (of->code > font->last + 1 && lacks_digit(font->last, of->code - 1)) {
-        snprintf(what, sizeof what, "follows code %d, which may be %ld without a digit",
-                 font->last, of->code - 1);
-        warn(of, "code", given->place, of->number, of->code, what);
-    }
+    if (code < last && lacks_digit(code, last + 1))
+        snprintf(what, sizeof what, "follows code %ld, and may be %ld without a digit", last,
+                 last + 1);
+    else if (code > last + 1 && lacks_digit(last, code - 1))
+        snprintf(what, sizeof what, "follows code %ld, which may be %ld without a digit", last,
+                 code - 1);
+    else if (code < last && !quiet)
+        snprintf(what, sizeof what, "follows code %ld: codes that do not rise may lack a digit",
+                 last);
+    else
+        return;
+    warn(of, "code", given->place, of->number, code, what);
 }
 
 /* Tells what speaks against a character block, which is a first one or a continuation. */
@@ -324,12 +347,17 @@ static void check_character(rewriting *of, const printer_command *given)
 {
     met *font = &fonts[of->number];
     uint8_t *codes = &font->codes[of->code / 8], bit = (uint8_t)(1 << of->code % 8);
+    judgement made;
 
     if (!font->headed && !font->told) {
         warn(of, "no header", given->place, of->number, -1,
              "characters of a font that has no header in the stream");
         font->told = 1;
         font->last = -1;
+    }
+    if (font->headed) {
+        judge_character(&made, of->from->next, (size_t)given->data, font->orientation);
+        warn_refused(of, given->place, of->code, &made);
     }
     if (given->data > 1 && of->from->next[1] != 0)
         return;

@@ -179,7 +179,7 @@ static char **take_option(const description *of, char **at)
 size_t take_options(const description *of, char **words)
 {
     char **at = words;
-    size_t gathered = 0;
+    size_t count = 0;
     int ended = 0;
 
     while (*at) {
@@ -189,9 +189,9 @@ size_t take_options(const description *of, char **words)
         } else if (!ended && (*at)[0] == '-' && (*at)[1] != '\0')
             at = take_option(of, at);
         else
-            words[gathered++] = *at++;
+            words[count++] = *at++;
     }
-    return gathered;
+    return count;
 }
 
 size_t take_arguments(const description *of, int argc, char **argv)

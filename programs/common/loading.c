@@ -112,8 +112,8 @@ static void tell_broken(const loading *of, enum found found)
 {
     static const char *const why[] = {
         "stream broken, no command begins here",
-        "stream broken, not one of the four commands that are read; marlinfold-rewrite makes them "
-        "of a printer's stream",
+        ("stream broken, not one of the four commands that are read; marlinfold-rewrite makes them "
+         "of a printer's stream"),
         "stream broken, a block of more than 32767 bytes",
         "stream broken, the file ends in a command"};
 
