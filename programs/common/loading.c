@@ -237,18 +237,20 @@ static void take_command(loading *into, const command *given)
 
 /* ---- files ---- */
 
-/* Whether what is left is no more than what some systems fill files with. */
-static int is_padding(const input *from)
+/* Whether what is left is no more than what some systems fill files with. It is looked at as far
+ * as INPUT_AHEAD: a longer rest is none. */
+static int is_padding(input *from)
 {
     size_t at;
 
+    look(from, INPUT_AHEAD);
     for (at = 0; at < from->left; at++)
         if (from->next[at] != 0 && from->next[at] != 26)
             return 0;
     return from->place > 0 && !from->file;
 }
 
-static void end_broken(loading *into, const input *from, enum found found)
+static void end_broken(loading *into, input *from, enum found found)
 {
     into->broken++;
     if (found != NO_ESC || !is_padding(from)) {
