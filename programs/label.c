@@ -225,13 +225,15 @@ static void choose(line *of, const mf_request *asked, const char *words)
 
 /* ---- setting ---- */
 
-static int has_space(const text *words)
+/* Whether a letter of the line, or a space, is not there. */
+static int needs_blank(const line *of)
 {
+    mf_character_fields told;
     size_t at = 0;
 
-    while (at < words->count && words->letters[at].code != ' ')
+    while (at < of->words.count && has_code(of->number, of->words.letters[at].code, &told))
         at++;
-    return at < words->count;
+    return at < of->words.count;
 }
 
 /* What a missing character leaves free: the pitch, unless that is no width of a space. */
@@ -243,7 +245,7 @@ static int64_t blank_of(const line *of)
     if (space != NOT_GIVEN)
         return 1024 * (int64_t)space;
     if (of->font.spacing == MF_FIXED || of->font.pitch <= 8 * of->font.cell_width ||
-        !has_space(&of->words) || tell_character(of->number, ' ', &blank))
+        !needs_blank(of) || tell_character(of->number, ' ', &blank))
         return pitch;
     if (!tell_character(of->number, 'n', &n)) {
         tell("the font's pitch, %u dots, is wide for a space; --space sets another",
