@@ -141,19 +141,24 @@ static int tell_missing(uint32_t font)
     return status;
 }
 
-/* Writes the sheet to an open file; the exit status. */
-static int write_sheet(FILE *to, uint32_t number, enum page_form form)
+/* Draws a font's sheet and writes it to a file, or to standard output, which stays open; the exit
+ * status. */
+static int write_sheet(const char *name, uint32_t number, enum page_form form)
 {
     field around = measure(number);
     uint32_t characters;
     mf_font_fields font = tell_font(number, &characters);
-    page sheet;
     int status = tell_missing(number);
+    page sheet;
+    FILE *to;
 
     around.gap = (long)font.resolution * GAP / 300;
     around.scale = (long)font.resolution / 150;
     sheet = draw_sheet(number, &font, &around);
+    to = open_output(name);
     write_page(to, &sheet, form, font.resolution);
+    if (to != stdout)
+        close_output(to, name);
     free(sheet.dots);
     return status;
 }
@@ -172,15 +177,9 @@ static int has_characters(uint32_t number)
 
 static int write_one(uint32_t number, enum page_form form)
 {
-    FILE *to;
-    int status;
-
     if (!has_characters(number))
         stop("font %u: has no characters", (unsigned)number);
-    to = open_output(out);
-    status = write_sheet(to, number, form);
-    close_output(to, out);
-    return status;
+    return write_sheet(out, number, form);
 }
 
 /* A file's name with a number before its ending, as sheet-3.png. */
@@ -201,7 +200,6 @@ static int write_all(enum page_form form, char **inputs, size_t count)
     int to_files = out && strcmp(out, "-") != 0, status = COMPLETE, drawn = 0;
     char name[4096];
     uint32_t font;
-    FILE *to = stdout;
 
     if (form == PNG && !to_files)
         stop("--all --png: a file for each font is needed; -o gives the name");
@@ -215,17 +213,13 @@ static int write_all(enum page_form form, char **inputs, size_t count)
         if (to_files) {
             numbered(name, sizeof name, font);
             check_output(name, inputs, count);
-            to = open_output(name);
         }
-        status = write_sheet(to, font, form) || status ? INCOMPLETE : COMPLETE;
+        if (write_sheet(to_files ? name : NULL, font, form))
+            status = INCOMPLETE;
         drawn = 1;
-        if (to_files)
-            close_output(to, name);
     }
     if (!drawn)
         stop("no font has characters");
-    if (!to_files)
-        close_output(to, NULL);
     return status;
 }
 
@@ -256,10 +250,12 @@ int main(int argc, char **argv)
     if (font > MF_FONT_MAX)
         stop("no font in the files");
     tell_font(font, &characters);
-    if (all)
-        status = write_all(form, argv + 1, count);
-    else
-        status = profile ? write_profile(font) : write_one(font, form);
+    if (profile)
+        status = write_profile(font);
+    else {
+        status = all ? write_all(form, argv + 1, count) : write_one(font, form);
+        close_output(stdout, NULL);
+    }
     forget_kept();
     return status ? status : loaded;
 }
