@@ -1,5 +1,5 @@
-/* A cartridge beside the font files: two stores, of which one is in use. What loading.h and kept.h
- * tell is of the store in use. */
+/* A cartridge beside the font files: two stores, of which one is in use, the store of loading.h.
+ * What kept.h tells is of that one; the origins of fonts stay those of the files. */
 #ifndef CARTRIDGE_H
 #define CARTRIDGE_H
 

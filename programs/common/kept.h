@@ -1,5 +1,6 @@
 /* What the store keeps: its fonts and characters as the library tells and draws them. What is
- * told is kept here until the store is made fresh, since each call checks the whole store. */
+ * told is kept here until the store is made fresh or another is taken into use, since each call
+ * checks the whole store. */
 #ifndef KEPT_H
 #define KEPT_H
 

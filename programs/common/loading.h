@@ -7,6 +7,7 @@
 #include "input.h"
 #include "marlinfold.h"
 
+/* The store in use. */
 extern uint8_t store[MF_STORE_MAX];
 
 #define OWN_NUMBERS (MF_FONT_MAX + 2)
