@@ -170,30 +170,35 @@ static uint32_t complete_one(uint32_t font, const text *words)
     return font;
 }
 
-/* The first font of the store in use that has all that was asked for; above MF_FONT_MAX if there
- * is none. */
-static uint32_t exact_in_store(uint32_t mode)
+/* The first font of the store in use that has all that was asked for, one with the page's
+ * orientation before the others; above MF_FONT_MAX if there is none. */
+static uint32_t exact_in_store(const mf_request *asked)
 {
-    uint32_t font, characters;
+    uint32_t font, characters, first = MF_FONT_MAX + 1;
 
     for (font = mf_next_font(store, sizeof store, 0); font <= MF_FONT_MAX;
-         font = mf_next_font(store, sizeof store, font + 1))
-        if (!*differences(font) && tell_font(font, &characters).resolution <= mode)
-            break;
-    return font;
+         font = mf_next_font(store, sizeof store, font + 1)) {
+        mf_font_fields told = tell_font(font, &characters);
+        if (*differences(font) || told.resolution > asked->mode)
+            continue;
+        if (told.orientation == asked->orientation)
+            return font;
+        first = first > MF_FONT_MAX ? font : first;
+    }
+    return first;
 }
 
 /* The first font that has all that was asked for, of the files and then of the cartridge, or
  * another one of the store in use if there is none. */
-static uint32_t exact_one(uint32_t mode, uint32_t otherwise)
+static uint32_t exact_one(const mf_request *asked, uint32_t otherwise)
 {
     uint32_t held = store_in_use(), font;
 
     use_store(MF_SOFT);
-    font = exact_in_store(mode);
+    font = exact_in_store(asked);
     if (font > MF_FONT_MAX) {
         use_store(MF_CARTRIDGE);
-        font = exact_in_store(mode);
+        font = exact_in_store(asked);
     }
     if (font <= MF_FONT_MAX)
         return font;
@@ -252,7 +257,7 @@ static void choose(line *of, const mf_request *asked, const char *words)
     uint32_t characters;
 
     if (exact && named == NOT_GIVEN && *differences(font))
-        font = exact_one(asked->mode, font);
+        font = exact_one(asked, font);
     if (exact && *differences(font))
         stop("%sfont %u%s has %s",
              named == NOT_GIVEN ? "no font has what was asked for; " : "", (unsigned)font,
