@@ -12,7 +12,7 @@ LIBDIR = $(PREFIX)/lib
 INCLUDEDIR = $(PREFIX)/include
 MANDIR = $(PREFIX)/share/man
 DOCDIR = $(PREFIX)/share/doc/marlinfold
-CFLAGS = -O2
+CFLAGS ?= -O2
 TEXT = Handle with care: 12 x 3.50 (No. 7)
 
 # It stands once, in the header.
@@ -22,10 +22,16 @@ $(if $(VERSION),,$(error include/marlinfold.h has no MF_VERSION))
 archive = target/staticlib/libmarlinfold.a
 listing = target/bin/listing
 programs = $(patsubst programs/%.c,target/programs/marlinfold-%,$(wildcard programs/*.c))
+modules = $(patsubst programs/common/%.c,target/objects/%.o,$(wildcard programs/common/*.c))
+common = target/objects/common.a
 examples = $(patsubst %.c,target/%,$(wildcard examples/*.c))
 crates = crates.txt $(shell find crates -type f)
-headers = include/marlinfold.h $(wildcard programs/*.h)
-compile = $(CC) -std=c99 -Wall -Wextra -pedantic $(CPPFLAGS) $(CFLAGS) -Iinclude -Iprograms
+headers = include/marlinfold.h $(wildcard programs/common/*.h)
+# The programs that draw write PNG too, if libpng is there.
+with_png := $(shell pkg-config --exists libpng 2>/dev/null && echo yes)
+png_flags := $(if $(with_png),-DWITH_PNG $(shell pkg-config --cflags libpng))
+png_libraries := $(if $(with_png),$(shell pkg-config --libs libpng))
+compile = $(CC) -std=c99 -Wall -Wextra -pedantic $(CPPFLAGS) $(CFLAGS) -Iinclude
 label = target/programs/marlinfold-label --height 10
 
 # Programs that were linked with one soname run with every library that has it.
@@ -69,11 +75,23 @@ $(shared): $(archive)
 	    -Wl,-z,defs -Wl,--whole-archive $(archive) -Wl,--no-whole-archive -o $@
 	@for link in $(links); do ln -sf $(@F) $(@D)/$$link || exit 1; done
 
-target/programs/marlinfold-%: programs/%.c $(headers) $(archive)
+# What the programs share is compiled once.
+target/objects/%.o: programs/common/%.c $(headers)
 	@mkdir -p $(@D)
-	$(compile) $< $(archive) $(LDFLAGS) -o $@
+	$(compile) $(png_flags) -c $< -o $@
 
-target/examples/%: examples/%.c $(headers) $(archive)
+$(common): $(modules)
+	rm -f $@
+	$(AR) rcs $@ $(modules)
+
+target/programs/marlinfold-%: programs/%.c $(headers) $(common) $(archive)
+	@mkdir -p $(@D)
+	$(compile) -Iprograms/common $< $(common) $(archive) $(LDFLAGS) $(libraries) -o $@
+
+target/programs/marlinfold-label target/programs/marlinfold-specimen: libraries = $(png_libraries)
+
+# As a user builds them: with the installed header alone.
+target/examples/%: examples/%.c include/marlinfold.h $(archive)
 	@mkdir -p $(@D)
 	$(compile) $< $(archive) $(LDFLAGS) -o $@
 

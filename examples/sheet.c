@@ -1,84 +1,109 @@
 /* Prints which font each label of a sheet gets.
  *
- *     sheet FILE... < REQUESTS
+ *     sheet FILE < REQUESTS
  *
- * reads soft font streams, and from standard input one request a line, made of the
- * options of request.h; an empty line asks for what they stand for if left out. All
- * of them are handed to the library in one call. Each gets a line: the font chosen,
- * or the refusal. */
-#include "fonts.h"
-#include "request.h"
+ * reads a soft font stream, and from standard input one request a line: the nine numbers of
+ * mf_request in its order, as
+ *
+ *     277 0 1000 1200 0 0 3 0 300
+ *
+ * All of them are handed to the library in one call. Each gets a line: the number of the font
+ * chosen, or the refusal. */
+#include "marlinfold.h"
 
-#define LINE 200
-#define WORDS 20
+#include <errno.h>
+#include <stdio.h>
+#include <stdlib.h>
+#include <string.h>
 
-static const about program = {
-    "sheet", "FILE... < REQUESTS",
-    "Each line of REQUESTS is made of these options:\n" REQUEST_HELP};
+static uint8_t store[MF_STORE_MAX], stream[4 * MF_STORE_MAX];
 
 /* One more than a sheet has, so that the library is seen to refuse it. */
 static mf_request requests[MF_SHEET_MAX + 1];
 static mf_answer answers[MF_SHEET_MAX];
 
-static mf_request read_request(char *line)
+static int fail(const char *what, const char *why)
 {
-    mf_request asked = default_request;
-    char *parts[WORDS + 1], *next;
-    size_t count = 0;
-    words from = words_of(parts);
-
-    for (next = strtok(line, " \t\r\n"); next && count < WORDS; next = strtok(NULL, " \t\r\n"))
-        parts[count++] = next;
-    if (next)
-        stop(next, "too many options");
-    parts[count] = NULL;
-    while (at_option(&from))
-        if (!take_request(&from, &asked))
-            stop(*from.next, "not an option of a request");
-    if (from.count)
-        stop(from.gathered[0], "not an option of a request");
-    return asked;
+    fprintf(stderr, "sheet: %s: %s\n", what, why);
+    return 1;
 }
 
-/* Standard input's requests, as many as there is room for. */
-static size_t read_requests(void)
+/* Reads a file into the store; answers 0 if all of it was taken. */
+static int read_fonts(const char *name)
 {
-    char line[LINE];
-    size_t count = 0;
+    FILE *file = fopen(name, "rb");
+    size_t length;
+    mf_stream_read read;
 
-    while (count < MF_SHEET_MAX + 1 && fgets(line, sizeof line, stdin)) {
-        if (!strchr(line, '\n') && !feof(stdin))
-            stop("request", "line too long");
-        requests[count++] = read_request(line);
+    if (!file)
+        return fail(name, strerror(errno));
+    length = fread(stream, 1, sizeof stream, file);
+    if (ferror(file) || getc(file) != EOF)
+        return fail(name, ferror(file) ? strerror(errno) : "too long");
+    fclose(file);
+    mf_make_fresh(store, sizeof store);
+    read = mf_read_stream(store, sizeof store, stream, length);
+    if (read.refusal || read.refused)
+        return fail(name, "not all of it was taken; marlinfold-fonts says what was not");
+    return 0;
+}
+
+/* A line's request; 0 if it is none. */
+static int read_request(const char *line, mf_request *asked)
+{
+    long of[9] = {0};
+    char more;
+    int count = sscanf(line, "%ld %ld %ld %ld %ld %ld %ld %ld %ld %c", &of[0], &of[1], &of[2],
+                       &of[3], &of[4], &of[5], &of[6], &of[7], &of[8], &more);
+
+    asked->symbol_set = (uint32_t)of[0];
+    asked->spacing = (uint32_t)of[1];
+    asked->pitch = (uint32_t)of[2];
+    asked->height = (uint32_t)of[3];
+    asked->style = (uint32_t)of[4];
+    asked->weight = (int32_t)of[5];
+    asked->typeface = (uint32_t)of[6];
+    asked->orientation = (uint32_t)of[7];
+    asked->mode = (uint32_t)of[8];
+    return count == 9;
+}
+
+static void print_answer(size_t number, const mf_answer *got)
+{
+    uint8_t kept[MF_FONT_BYTES];
+    mf_font_fields font;
+
+    if (got->refusal) {
+        printf("%u: refusal %u, %s\n", (unsigned)number, (unsigned)got->refusal,
+               mf_refusal_name(got->refusal));
+        return;
     }
-    return count;
+    mf_tell_font(store, sizeof store, kept, sizeof kept, got->font);
+    font = mf_font_fields_of(kept);
+    printf("%u: font %u, pitch %.2f, height %.2f, weight %d, %u dpi\n", (unsigned)number,
+           (unsigned)got->font, mf_pitch_of(&font) / 100.0, mf_height_of(&font) / 100.0,
+           (int)font.weight, (unsigned)font.resolution);
 }
 
-int main(int count, char **given)
+int main(int argc, char **argv)
 {
-    words from = words_of(given + (count > 0));
-    size_t asked, at;
+    char line[200];
+    size_t count = 0, at;
     uint32_t refusal;
-    int status;
 
-    while (at_option(&from))
-        take_common(&from, &program);
-    if (from.count < 1)
-        stop_usage(&program);
-    status = load_files(from.gathered, from.count);
-    asked = read_requests();
-    refusal = mf_choose_sheet(store, sizeof store, requests, asked, answers, MF_SHEET_MAX);
+    if (argc != 2)
+        return fail("usage", "sheet FILE < REQUESTS");
+    if (read_fonts(argv[1]))
+        return 1;
+    while (count < MF_SHEET_MAX + 1 && fgets(line, sizeof line, stdin))
+        if (!read_request(line, &requests[count++]))
+            return fail(line, "not the nine numbers of a request");
+    refusal = mf_choose_sheet(store, sizeof store, requests, count, answers, MF_SHEET_MAX);
     if (refusal)
-        refuse("sheet", refusal);
-    for (at = 0; at < asked; at++) {
-        printf("%u: ", (unsigned)at + 1);
-        if (answers[at].refusal)
-            printf("refusal %u, %s", (unsigned)answers[at].refusal,
-                   mf_refusal_name(answers[at].refusal));
-        else
-            print_font(stdout, answers[at].font);
-        putchar('\n');
-    }
-    finish(stdout, NULL);
-    return status;
+        return fail("sheet", mf_refusal_name(refusal));
+    for (at = 0; at < count; at++)
+        print_answer(at + 1, &answers[at]);
+    if (ferror(stdout) || fclose(stdout))
+        return fail("standard output", strerror(errno));
+    return 0;
 }

@@ -39,5 +39,9 @@ int main(void)
             putchar(row[x / 8] & 0x80 >> x % 8 ? '#' : '.');
         putchar('\n');
     }
+    if (ferror(stdout) || fclose(stdout)) {
+        perror("standard output");
+        return 1;
+    }
     return 0;
 }

@@ -14,43 +14,55 @@
  *   mf_height_of, mf_pitch_quarter_dots and mf_height_quarter_dots convert.
  *   The cursor x, y, with y down the paper, is a dot on the baseline. A picture's upper left dot is
  *   x + left offset, y - top offset: one of 28 rows that ends on the baseline has top offset 27.
- *   Then the cursor moves: by the pitch in a fixed font, by delta X in a proportional one. Where
- *   a font lacks a code, as many lack 32, the space, the caller moves it by the pitch. It moves
- *   right in a portrait font, up in a landscape one, left and down in the reverse ones; their
- *   pictures and offsets are turned already. Weight 0 is medium, 3 (MF_BOLD) bold.
+ *   Then the cursor moves: in a fixed font by 256 x pitch + pitch_extended, 256ths of a
+ *   quarter-dot, in a proportional one by delta X. Where a font lacks a code, as many lack 32, the
+ *   space, the caller moves it by the pitch. What the moves add up to is rounded to dots, not each
+ *   move. It moves right in a portrait font, up in a landscape one, left and down in the reverse
+ *   ones; their pictures and offsets are turned already. Weight 0 is medium, 3 (MF_BOLD) bold.
  *   In MF_MODE_600 a font of 300 dots to the inch may be chosen: its dots are then twice as wide.
+ *   A font of another orientation may be chosen as well. So look at both before drawing.
  *
- * A line of text from the cursor x, y on, its bytes codes of the font's symbol set. put, a function
- * of yours, places a picture and leaves out what is beyond the page:
+ * Several files
+ *   Fonts of two files may have the same numbers, and in one store the later font replaces the
+ *   earlier. Take a store for each file, or number the fonts of one anew: the program
+ *   marlinfold-rewrite --renumber adds to the numbers of a file.
+ *
+ * A line of text from the cursor x, y on, its bytes codes of the font's symbol set, as
+ * marlinfold-label sets it. put, a function of yours, places a picture and leaves out what is
+ * beyond the page:
  *
  *     int set_line(const uint8_t *file, size_t file_len, const unsigned char *text, long x, long y)
  *     {
  *         static uint8_t store[MF_STORE_MAX], kept[MF_FONT_BYTES], picture[MF_PICTURE_MAX];
+ *         mf_request asked = {MF_ROMAN_8, MF_FIXED, 1000,        1200,       0,
+ *                             MF_BOLD,    3,        MF_PORTRAIT, MF_MODE_300};
  *         mf_stream_read read;
  *         mf_chosen chosen;
  *         mf_font_fields font;
- *         uint32_t along = 0;
+ *         uint64_t pitch, along = 0;
  *
  *         mf_make_fresh(store, sizeof store);
  *         read = mf_read_stream(store, sizeof store, file, file_len);
- *         chosen = mf_choose(store, sizeof store, MF_ROMAN_8, MF_FIXED, 1000, 1200, 0, MF_BOLD, 3,
- *                            MF_PORTRAIT, MF_MODE_300);
+ *         chosen = mf_choose_request(store, sizeof store, &asked);
  *         if (read.refusal || read.refused || chosen.refusal)
  *             return 0;
  *         mf_tell_font(store, sizeof store, kept, sizeof kept, chosen.font);
  *         font = mf_font_fields_of(kept);
+ *         if (font.orientation != asked.orientation || font.resolution != asked.mode)
+ *             return 0;
+ *         pitch = 256 * (uint64_t)font.pitch + font.pitch_extended;
  *         for (; *text; text++) {
  *             uint32_t refusal = mf_tell_character(store, sizeof store, kept, sizeof kept,
  *                                                  chosen.font, *text).refusal;
  *             mf_character_fields letter = mf_character_fields_of(kept);
  *             if (refusal) {
- *                 along += font.pitch;
+ *                 along += pitch;
  *                 continue;
  *             }
  *             mf_draw_picture(store, sizeof store, picture, sizeof picture, chosen.font, *text);
  *             put(picture, letter.width, letter.height,
- *                 x + (long)mf_dots(&font, along) + letter.left, y - letter.top);
- *             along += font.spacing == MF_FIXED ? font.pitch : letter.delta_x;
+ *                 x + (long)((along + 512) / 1024) + letter.left, y - letter.top);
+ *             along += font.spacing == MF_FIXED ? pitch : 256 * (uint64_t)letter.delta_x;
  *         }
  *         return 1;
  *     }
@@ -85,10 +97,11 @@
  *
  * What a call costs
  *   Each call on a store checks all of it first: 1 to 40 microseconds for 65,536 bytes, by what
- *   they hold, and most calls take little more; a stream of very many small continuations may
- *   take milliseconds. mf_choose_from_two checks both of its stores. mf_choose_sheet and
- *   mf_read_stream check theirs once, so they are faster than calls for each request or block.
- *   Figures: bench/README.md of the sources.
+ *   they hold, up to 80 if they are narrow rows of class 2, and most calls take little more.
+ *   mf_choose_from_two checks both of its stores. mf_choose_sheet and mf_read_stream check theirs
+ *   once, so they are faster than calls for each request or block; but each continuation of a
+ *   class 2 character goes through all of that character's data, so that a megabyte of tiny ones
+ *   takes seconds. Figures: bench/README.md of the sources.
  *
  * Saving a store
  *   A store may be saved, copied and taken up again as plain bytes, by the same version on any
@@ -467,10 +480,9 @@ static inline uint32_t mf_height_quarter_dots(uint32_t height, uint32_t resoluti
     return (uint32_t)(((uint64_t)height * resolution + 900) / 1800);
 }
 
-/* Quarter-dots of a font as its dots, rounded to the nearest, halves up. */
-static inline uint32_t mf_dots(const mf_font_fields *font, uint32_t quarter_dots)
+/* Quarter-dots of any font as its dots, rounded to the nearest, halves up. */
+static inline uint32_t mf_dots(uint32_t quarter_dots)
 {
-    (void)font; /* four to a dot in any font */
     return quarter_dots / 4 + (quarter_dots % 4 >= 2);
 }
 
@@ -590,6 +602,15 @@ mf_chosen mf_choose(const uint8_t *store, size_t store_len,
                     uint32_t symbol_set, uint32_t spacing, uint32_t pitch,
                     uint32_t height, uint32_t style, int32_t weight,
                     uint32_t typeface, uint32_t orientation, uint32_t mode);
+
+/* The same for a request in one record. */
+static inline mf_chosen mf_choose_request(const uint8_t *store, size_t store_len,
+                                          const mf_request *request)
+{
+    return mf_choose(store, store_len, request->symbol_set, request->spacing, request->pitch,
+                     request->height, request->style, request->weight, request->typeface,
+                     request->orientation, request->mode);
+}
 
 /* Chooses among the fonts of two stores, soft fonts and a cartridge dump in store form. Answers
  * the font's number, which of the two holds it, and where its record begins there.

@@ -1,89 +1,245 @@
 /* marlinfold-fonts: lists the fonts of files, and tells each command that is refused. What
  * it can do stands in help, and in docs/marlinfold-fonts.1. */
-#include "fonts.h"
+#include "arguments.h"
+#include "json.h"
+#include "kept.h"
+#include "loading.h"
+#include "message.h"
+#include "output.h"
 
-static const about program = {
-    "marlinfold-fonts", "[--number N] FILE...",
-    "Reads the font streams of each FILE, - for standard input, into one store of 65536 bytes,\n"
-    "and prints a line for each font that is kept, by rising number, and at last the commands\n"
-    "done and refused and the room that is left. Each refused command, each font that replaces\n"
-    "another, each broken place and each incomplete character is told on standard error.\n\n"
-    "  --number N   number the fonts on from N in the order in which they are met, so that\n"
-    "               fonts of two files do not replace each other\n"
-    "  --help       print this\n"
-    "  --version    print the version\n"
-    "  --           what follows is no option\n\n"
-    "Exit status: 0 if everything was taken, 2 if a command was refused, a stream is broken or a\n"
-    "character incomplete, 1 if the command line is wrong, a file cannot be read or the list\n"
-    "cannot be written.\n"};
+#include <stdlib.h>
+#include <string.h>
+
+static long chosen = NOT_GIVEN, number = NOT_GIVEN, together, json;
+
+static const option options[] = {
+    {NUMBER, "--font", "N", &chosen, 0, MF_FONT_MAX,
+     "list the fonts that are number N in their files alone (all)"},
+    {FLAG, "--together", NULL, &together, 1, 0,
+     "read all files into one store, where a font replaces another of its\n"
+     "number (a fresh store for each file)"},
+    {NUMBER, "--number", "N", &number, 0, MF_FONT_MAX,
+     "number the fonts on from N in the order in which they are met, so that\n"
+     "fonts of two files have different numbers"},
+    {FLAG, "--json", NULL, &json, 1, 0,
+     "print JSON: an object in a line for each font, for what would be told,\n"
+     "and for the sums"}};
+
+static const description program = {
+    "marlinfold-fonts", "[OPTIONS] FILE...",
+    "Reads the font streams of each FILE, - for standard input, into a store of 65536 bytes, and\n"
+    "prints a line for each font that is kept, by rising number, with its file, and at last the\n"
+    "commands done and refused. Each refused command, each font that replaces another, each\n"
+    "broken place, each file without a font and each incomplete character is told on standard\n"
+    "error.\n",
+    "Exit status: 0 if everything was taken, 2 if a command was refused, a stream is broken, a\n"
+    "file has no font or a character is incomplete, 1 if the command line is wrong, a file\n"
+    "cannot be read or the list cannot be written.\n",
+    options, sizeof options / sizeof *options};
 
 static loading into;
+static unsigned long fonts, incomplete;
 
-/* Takes the words of the command line; the files are gathered. */
-static void read_order(words *from)
+/* ---- equal fonts ---- */
+
+/* A listed font, by what it looks like. */
+typedef struct {
+    uint64_t looks[2];
+    const char *file;
+    uint32_t font;
+} listed;
+static listed *list;
+static size_t listed_count, listed_room;
+
+/* Two sums of bytes, each of which changes with every byte and its place. */
+static void add_bytes(uint64_t looks[2], const uint8_t *bytes, size_t length)
 {
-    const char *value;
-
-    into.next = OWN_NUMBERS;
-    while (at_option(from)) {
-        if ((value = take_value(from, "--number")))
-            into.next = (uint32_t)number_within("--number", value, 0, MF_FONT_MAX);
-        else
-            take_common(from, &program);
+    for (; length--; bytes++) {
+        looks[0] = (looks[0] ^ *bytes) * 0x100000001B3u;
+        looks[1] = (looks[1] + *bytes + 1) * 0x9E3779B97F4A7C15u;
+        looks[1] ^= looks[1] >> 29;
     }
-    if (from->count < 1)
-        stop_usage(&program);
 }
 
-static void list_font(uint32_t number)
+/* A font's looks: its header, and of each character its code, where it is placed, how far it
+ * moves the cursor, and its dots. */
+static listed looks_of(uint32_t font)
 {
-    print_font(stdout, number);
-    printf(", from %s", origin[number].file);
-    if (origin[number].number != number)
-        printf(" (font %u there)", (unsigned)origin[number].number);
+    listed made = {{0xCBF29CE484222325u, 1}, NULL, 0};
+    uint8_t kept[MF_FONT_BYTES];
+    mf_character_fields told;
+    uint32_t code;
+
+    mf_tell_font(store, sizeof store, kept, sizeof kept, font);
+    add_bytes(made.looks, kept, sizeof kept);
+    for (code = 0; code <= MF_CODE_MAX; code++)
+        if (tell_character(font, code, &told)) {
+            char placed[80];
+            int length = snprintf(placed, sizeof placed, "%u %d %d %u %u %u", (unsigned)code,
+                                  (int)told.left, (int)told.top, (unsigned)told.width,
+                                  (unsigned)told.height, (unsigned)told.delta_x);
+            add_bytes(made.looks, (const uint8_t *)placed, (size_t)length);
+            add_bytes(made.looks, picture_of(font, code),
+                      mf_picture_bytes(told.width, told.height));
+        }
+    made.file = origin[font].file;
+    made.font = origin[font].number;
+    return made;
+}
+
+/* The font listed before that looks the same, or NULL; this one is listed from now on. */
+static const listed *same_as(uint32_t font)
+{
+    listed made = looks_of(font);
+    size_t at;
+
+    for (at = 0; at < listed_count; at++)
+        if (memcmp(list[at].looks, made.looks, sizeof made.looks) == 0)
+            return &list[at];
+    if (listed_count == listed_room) {
+        listed_room = 2 * listed_room + 64;
+        list = realloc(list, listed_room * sizeof *list);
+        if (!list)
+            stop("no memory for the list");
+    }
+    list[listed_count++] = made;
+    return NULL;
+}
+
+/* ---- the list ---- */
+
+static void list_font(uint32_t font, const listed *same)
+{
+    print_font(stdout, font);
+    printf(", from %s", shown(origin[font].file));
+    if (origin[font].number != font)
+        printf(" (font %u there)", (unsigned)origin[font].number);
+    if (same)
+        printf(", same as %s font %u", shown(same->file), (unsigned)same->font);
     putchar('\n');
 }
 
-/* Tells the font's incomplete characters, and answers how many there are. */
-static unsigned tell_incomplete(uint32_t number)
+static void list_font_json(uint32_t font, const listed *same)
 {
-    uint8_t incomplete[MF_CODE_MAX + 1];
-    uint32_t code;
-    unsigned found = 0;
+    uint32_t characters;
+    mf_font_fields told = tell_font(font, &characters);
 
-    find_incomplete(number, incomplete);
-    for (code = 0; code <= MF_CODE_MAX; code++)
-        if (incomplete[code]) {
-            fprintf(stderr, "%s: font %u", origin[number].file, (unsigned)origin[number].number);
-            if (into.next != OWN_NUMBERS)
-                fprintf(stderr, " (numbered %u)", (unsigned)number);
-            fprintf(stderr, ", code %u: incomplete, rows are missing\n", (unsigned)code);
-            found++;
-        }
-    return found;
+    json_begin("font");
+    json_string("file", origin[font].file);
+    json_number("font", (long)origin[font].number);
+    json_number("number", (long)font);
+    json_symbol_set("set", told.symbol_set);
+    json_string("spacing", told.spacing == MF_FIXED ? "fixed" : "proportional");
+    json_hundredths("pitch", mf_pitch_of(&told));
+    json_hundredths("height", mf_height_of(&told));
+    json_number("style", (long)told.style);
+    json_number("weight", told.weight);
+    json_number("face", (long)told.typeface);
+    json_string("orientation", orientation_name(told.orientation));
+    json_number("dpi", (long)told.resolution);
+    json_number("characters", (long)characters);
+    json_string("name", told.name);
+    if (same) {
+        json_string("same_as_file", same->file);
+        json_number("same_as_font", (long)same->font);
+    }
+    json_end();
 }
 
-int main(int count, char **given)
+/* What is told of a place, as an object. */
+static void print_note_json(const note *said)
 {
-    words from = words_of(given + (count > 0));
-    unsigned incomplete = 0;
-    uint32_t font;
-    size_t file;
-    int unread = 0;
+    json_begin(said->kind);
+    json_string("file", said->file);
+    if (said->place >= 0)
+        json_number("byte", (long)said->place);
+    if (said->font >= 0)
+        json_number("font", said->font);
+    if (said->numbered >= 0)
+        json_number("number", said->numbered);
+    if (said->code >= 0)
+        json_number("code", said->code);
+    json_string("text", said->what);
+    json_end();
+}
 
-    read_order(&from);
-    mf_make_fresh(store, sizeof store);
-    for (file = 0; file < from.count; file++)
-        unread |= !load_file(&into, from.gathered[file]);
+/* Tells the font's incomplete characters. */
+static void tell_incomplete(uint32_t font)
+{
+    note said = {"incomplete", NULL, -1, -1, -1, -1, 0, "incomplete, rows are missing"};
+
+    said.file = origin[font].file;
+    said.font = (long)origin[font].number;
+    said.numbered = into.next != OWN_NUMBERS ? (long)font : -1;
+    for (said.code = 0; said.code <= MF_CODE_MAX; said.code++)
+        if (is_incomplete(font, (uint32_t)said.code)) {
+            tell_note(&said);
+            incomplete++;
+        }
+}
+
+static void list_store(void)
+{
+    uint32_t font;
+
     for (font = mf_next_font(store, sizeof store, 0); font <= MF_FONT_MAX;
          font = mf_next_font(store, sizeof store, font + 1)) {
-        list_font(font);
-        incomplete += tell_incomplete(font);
+        const listed *same = same_as(font);
+        if (chosen != NOT_GIVEN && (uint32_t)chosen != origin[font].number)
+            continue;
+        if (json)
+            list_font_json(font, same);
+        else
+            list_font(font, same);
+        tell_incomplete(font);
+        fonts++;
     }
-    printf("commands done %lu, refused %lu; room left %lu of %lu bytes\n", into.done, into.refused,
-           (unsigned long)mf_room_left(store, sizeof store), (unsigned long)sizeof store);
-    finish(stdout, NULL);
-    if (unread)
-        return FAILED;
-    return into.refused || into.broken || incomplete ? INCOMPLETE : COMPLETE;
+}
+
+static void print_sums(size_t files)
+{
+    size_t left = mf_room_left(store, sizeof store);
+    int one_store = together || files == 1;
+
+    if (json) {
+        json_begin("sums");
+        json_number("files", (long)files);
+        json_number("fonts", (long)fonts);
+        json_number("done", (long)into.done);
+        json_number("refused", (long)into.refused);
+        if (one_store)
+            json_number("room_left", (long)left);
+        json_end();
+        return;
+    }
+    printf("commands done %lu, refused %lu; ", into.done, into.refused);
+    if (one_store)
+        printf("room left %lu of %lu bytes\n", (unsigned long)left, (unsigned long)sizeof store);
+    else
+        printf("%lu font%s in %lu files\n", fonts, fonts == 1 ? "" : "s", (unsigned long)files);
+}
+
+int main(int argc, char **argv)
+{
+    size_t count = take_arguments(&program, argc, argv), file;
+    int unread = 0;
+
+    if (count < 1)
+        stop_usage(&program);
+    if (json)
+        tell_note = print_note_json;
+    into.next = number == NOT_GIVEN ? OWN_NUMBERS : (uint32_t)number;
+    fresh_store();
+    for (file = 1; file <= count; file++) {
+        if (!together)
+            fresh_store();
+        unread |= !load_file(&into, argv[file]);
+        if (!together || file == count)
+            list_store();
+    }
+    print_sums(count);
+    close_output(stdout, NULL);
+    forget_kept();
+    free(list);
+    return unread ? FAILED : incomplete ? INCOMPLETE : load_status(&into);
 }

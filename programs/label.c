@@ -1,137 +1,322 @@
 /* marlinfold-label: writes one line of text as a picture, in the font that fits the
  * options best. What it can do stands in help, and in docs/marlinfold-label.1. */
+#include "arguments.h"
+#include "cartridge.h"
+#include "kept.h"
+#include "loading.h"
+#include "message.h"
+#include "output.h"
 #include "page.h"
 #include "request.h"
+#include "text.h"
+
+#include <stdlib.h>
+#include <string.h>
 
 #define MARGIN 12
 
-static const about program = {
+static long named = NOT_GIVEN, exact, ink, space = NOT_GIVEN, turn, bytes, plain, png;
+static const char *cartridge, *out;
+
+static const option options[] = {
+    REQUEST_OPTIONS,
+    {WORD, "--cartridge", "FILE", &cartridge, 0, 0,
+     "choose among the fonts of a cartridge too: FILE has the bytes of a\n"
+     "store, or is a font file; then TEXT may stand alone"},
+    {NUMBER, "--font", "N", &named, 0, MF_FONT_MAX,
+     "take font N, whatever it is: of the files, or else of the cartridge"},
+    {FLAG, "--exact", NULL, &exact, 1, 0,
+     "write nothing if no font has what the options ask for"},
+    {FLAG, "--ink", NULL, &ink, 1, 0,
+     "the picture ends with the text's dots (with the font's cell)"},
+    {NUMBER, "--space", "DOTS", &space, 0, 16384,
+     "width of a space that the font lacks (its pitch)"},
+    {FLAG, "--bytes", NULL, &bytes, 1, 0,
+     "each byte of TEXT is a code (TEXT is in the locale's encoding)"},
+    {NUMBER, "--turn", "N", &turn, 0, 3, "the label turned clockwise by N quarters, 0 to 3 (0)"},
+    {FLAG, "--plain", NULL, &plain, 1, 0, "PBM in plain digits"},
+    {FLAG, "--png", NULL, &png, 1, 0, "PNG, also by the ending of the file's name (PBM)"},
+    {WORD, "-o", "FILE", &out, 0, 0, "write to this file (-, standard output)"}};
+
+static const description program = {
     "marlinfold-label", "[OPTIONS] TEXT FILE...",
     "Reads the fonts of each FILE, - for standard input, chooses the one that fits best, and\n"
-    "writes TEXT in it to standard output, as a picture of the font's dots to the inch.\n\n"
-    REQUEST_HELP
-    "  --cartridge FILE  choose among the fonts of a cartridge too: FILE has the bytes of a\n"
-    "                    store, or is a font file; then TEXT may stand alone\n"
-    "  --turn N          the label turned clockwise by N quarters, 0 to 3 (0)\n"
-    "  --plain           PBM in plain digits\n"
-    "  -o FILE           write to this file\n"
-    "  --help            print this\n"
-    "  --version         print the version\n"
-    "  --                what follows is no option\n\n"
-    "The bytes of TEXT are the codes of the characters. In UTF-8 a letter beyond ASCII has two\n"
-    "bytes or more, which would be as many codes: make them bytes of the font's symbol set, as\n"
-    "  marlinfold-label \"$(iconv -f UTF-8 -t HP-ROMAN8 <TEXTFILE)\" FILE...\n"
+    "writes TEXT in it to standard output, as a picture of the font's dots to the inch. The\n"
+    "picture is as high as the font's cell, so that labels of one font align.\n",
+    "TEXT is turned into codes of the font's symbol set, if iconv knows that by a name.\n"
     PAGE_HELP
     "Exit status: 0 if the label is whole, 2 if it was written but a character is missing or\n"
-    "incomplete or a font file was not taken whole, 1 if it was not written.\n"};
+    "incomplete or a font file was not taken whole, 1 if it was not written.\n",
+    options, sizeof options / sizeof *options};
 
-typedef struct {
-    mf_request font;
-    uint32_t turn;
-    int plain;
-    const char *cartridge, *out;
-    const unsigned char *text;
-} order;
+/* ---- choosing ---- */
 
-/* Takes the words of the command line: TEXT, and the files that are gathered. */
-static order read_order(words *from)
+/* Adds to a list of what differs. */
+static void differ(char *list, size_t room, const char *what)
 {
-    order asked = {default_request, 0, 0, NULL, NULL, NULL};
-    const char *value;
+    size_t length = strlen(list);
+    snprintf(list + length, room - length, "%s%s", length ? ", " : "", what);
+}
 
-    while (at_option(from)) {
-        check_request(*from);
-        if (take_request(from, &asked.font))
+/* Whether a number of the font is another than was asked for; then it is added. */
+static void compare(char *list, size_t room, const char *name, long has, long asked)
+{
+    char what[80];
+
+    if (asked == NOT_GIVEN || has == asked)
+        return;
+    snprintf(what, sizeof what, "%s %ld for %ld", name, has, asked);
+    differ(list, room, what);
+}
+
+static void compare_set(char *list, size_t room, uint32_t has)
+{
+    char what[80], of[2][16];
+
+    if (requested.symbol_set == NOT_GIVEN || (long)has == requested.symbol_set)
+        return;
+    name_symbol_set(of[0], sizeof of[0], has);
+    name_symbol_set(of[1], sizeof of[1], (uint32_t)requested.symbol_set);
+    snprintf(what, sizeof what, "set %s for %s", of[0], of[1]);
+    differ(list, room, what);
+}
+
+static void compare_weight(char *list, size_t room, int32_t has)
+{
+    char what[80];
+
+    if (requested.weight == NOT_GIVEN || has == requested.weight)
+        return;
+    snprintf(what, sizeof what, "weight %d (%s) for %ld (%s)", (int)has, weight_name(has),
+             requested.weight, weight_name((int32_t)requested.weight));
+    differ(list, room, what);
+}
+
+/* A quarter of a point counts as none. */
+static void compare_height(char *list, size_t room, uint32_t has)
+{
+    char what[80];
+    long off = (long)has - requested.height;
+
+    if (requested.height == NOT_GIVEN || (off <= 25 && off >= -25))
+        return;
+    snprintf(what, sizeof what, "height %.2f for %.2f", (double)has / 100,
+             (double)requested.height / 100);
+    differ(list, room, what);
+}
+
+/* What a font has otherwise than the options ask for, in words; empty if there is nothing. The
+ * last answer alone is kept. */
+static const char *differences(uint32_t number)
+{
+    static char list[400];
+    uint32_t characters;
+    mf_font_fields font = tell_font(number, &characters);
+
+    list[0] = '\0';
+    compare_set(list, sizeof list, font.symbol_set);
+    if (requested.spacing != NOT_GIVEN && (long)font.spacing != requested.spacing)
+        differ(list, sizeof list, "fixed for proportional");
+    compare_height(list, sizeof list, mf_height_of(&font));
+    compare(list, sizeof list, "style", (long)font.style, requested.style);
+    compare_weight(list, sizeof list, font.weight);
+    compare(list, sizeof list, "face", (long)font.typeface, requested.typeface);
+    return list;
+}
+
+/* Whether two fonts are the same for every step of choosing but the last. */
+static int are_level(uint32_t a, uint32_t b)
+{
+    uint32_t characters;
+    mf_font_fields of = tell_font(a, &characters), to = tell_font(b, &characters);
+
+    return of.symbol_set == to.symbol_set && of.spacing == to.spacing && of.pitch == to.pitch &&
+           of.pitch_extended == to.pitch_extended && of.height == to.height &&
+           of.height_extended == to.height_extended && of.style == to.style &&
+           of.weight == to.weight && of.typeface == to.typeface &&
+           of.resolution == to.resolution && of.orientation == to.orientation;
+}
+
+/* Whether a font has a code. */
+static int has_code(uint32_t font, int code, mf_character_fields *told)
+{
+    return code != NO_CODE && tell_character(font, (uint32_t)code, told);
+}
+
+/* Whether a font has every letter of the text; a space needs no character. */
+static int has_all(uint32_t font, const text *words)
+{
+    mf_character_fields told;
+    size_t at;
+
+    for (at = 0; at < words->count; at++)
+        if (words->letters[at].code != ' ' && !has_code(font, words->letters[at].code, &told))
+            return 0;
+    return 1;
+}
+
+/* The first font of the store in use that is level with another and has all letters. A font of the
+ * other store is never level, since the store is a step of choosing too. */
+static uint32_t complete_one(uint32_t font, const text *words)
+{
+    uint32_t other;
+
+    if (has_all(font, words))
+        return font;
+    for (other = mf_next_font(store, sizeof store, 0); other <= MF_FONT_MAX;
+         other = mf_next_font(store, sizeof store, other + 1))
+        if (are_level(other, font) && has_all(other, words))
+            return other;
+    return font;
+}
+
+/* The first font of the store in use that has all that was asked for, one with the page's
+ * orientation before the others; above MF_FONT_MAX if there is none. */
+static uint32_t exact_in_store(const mf_request *asked)
+{
+    uint32_t font, characters, first = MF_FONT_MAX + 1;
+
+    for (font = mf_next_font(store, sizeof store, 0); font <= MF_FONT_MAX;
+         font = mf_next_font(store, sizeof store, font + 1)) {
+        mf_font_fields told = tell_font(font, &characters);
+        if (*differences(font) || told.resolution > asked->mode)
             continue;
-        if (take(from, "--plain"))
-            asked.plain = 1;
-        else if ((value = take_value(from, "--turn")))
-            asked.turn = (uint32_t)number_within("--turn", value, 0, 3);
-        else if ((value = take_value(from, "--cartridge")))
-            asked.cartridge = value;
-        else if ((value = take_value(from, "-o")))
-            asked.out = value;
-        else
-            take_common(from, &program);
+        if (told.orientation == asked->orientation)
+            return font;
+        first = first > MF_FONT_MAX ? font : first;
     }
-    if (from->count < (asked.cartridge ? 1u : 2u))
-        stop_usage(&program);
-    asked.text = (const unsigned char *)from->gathered[0];
-    return asked;
+    return first;
+}
+
+/* The first font that has all that was asked for, of the files and then of the cartridge, or
+ * another one of the store in use if there is none. */
+static uint32_t exact_one(const mf_request *asked, uint32_t otherwise)
+{
+    uint32_t held = store_in_use(), font;
+
+    use_store(MF_SOFT);
+    font = exact_in_store(asked);
+    if (font > MF_FONT_MAX) {
+        use_store(MF_CARTRIDGE);
+        font = exact_in_store(asked);
+    }
+    if (font <= MF_FONT_MAX)
+        return font;
+    use_store(held);
+    return otherwise;
 }
 
 #define NONE_TO_CHOOSE "no font has the symbol set asked for or 8U"
 
-/* The cartridge's fonts, a second store beside that of the files. */
-static uint8_t cartridge[MF_STORE_MAX];
-
-static int is_store(const contents *file)
+/* The number of the font that fits best. */
+static uint32_t best_font(const mf_request *asked)
 {
-    uint8_t kept[MF_FONT_BYTES];
-    return mf_tell_font(file->bytes, file->length, kept, sizeof kept, 0).refusal != MF_NOT_A_STORE;
-}
-
-/* Loads the cartridge's file, without a name none, and stops if it cannot be read. A dump may be
- * shorter than the buffer: zeros after a store's bytes are free room. Any other file is loaded as
- * the font files are, into the store, which those then make fresh again. Answers the exit status
- * so far. */
-static int load_cartridge(const char *name)
-{
-    static loading into;
-    contents file;
-
-    mf_make_fresh(cartridge, sizeof cartridge);
-    if (!name)
-        return COMPLETE;
-    if (!read_file(name, &file))
-        exit(FAILED);
-    name = strcmp(name, "-") == 0 ? "standard input" : name;
-    if (is_store(&file))
-        memcpy(cartridge, file.bytes, file.length);
-    else if (file.length && file.bytes[0] != ESC)
-        stop(name, "not a cartridge: neither the bytes of a store nor a font file");
-    else {
-        mf_make_fresh(store, sizeof store);
-        into.next = OWN_NUMBERS;
-        load_stream(&into, name, file.bytes, file.length);
-        memcpy(cartridge, store, sizeof store);
-    }
-    free(file.bytes);
-    return into.refused || into.broken ? INCOMPLETE : COMPLETE;
-}
-
-/* The number of the font that fits best, and a line about it for the user. From here on the store
- * is the one that holds it. */
-static uint32_t choose(const order *asked)
-{
-    const mf_request *font = &asked->font;
-    mf_chosen_record chosen =
-        mf_choose_from_two(store, sizeof store, cartridge, sizeof cartridge, font->symbol_set,
-                           font->spacing, font->pitch, font->height, font->style, font->weight,
-                           font->typeface, font->orientation, font->mode);
+    mf_chosen_record chosen = choose_from_both(asked);
 
     if (chosen.refusal == MF_NONE_TO_CHOOSE)
-        stop("choosing", font->mode == MF_MODE_300
-                             ? NONE_TO_CHOOSE "; fonts of 600 dpi need --mode 600"
-                             : NONE_TO_CHOOSE);
+        stop("choosing: %s", asked->mode == MF_MODE_300
+                                 ? NONE_TO_CHOOSE "; fonts of 600 dpi need --mode 600"
+                                 : NONE_TO_CHOOSE);
     if (chosen.refusal)
         refuse("choosing", chosen.refusal);
-    if (chosen.which == MF_CARTRIDGE)
-        memcpy(store, cartridge, sizeof store);
-    print_font(stderr, chosen.font);
-    if (asked->cartridge)
-        fputs(chosen.which == MF_CARTRIDGE ? ", from the cartridge" : ", from the files", stderr);
-    fputc('\n', stderr);
     return chosen.font;
 }
 
-/* How far a character moves the cursor along the line, in 256ths of a quarter-dot. Fixed
- * fonts move it by their pitch, proportional ones by the character's delta X; a code that
- * has no character leaves a space of the font's pitch. */
-static int64_t advance(const mf_font_fields *font, const mf_character_fields *character)
+/* The font of a number: that of the files, or else that of the cartridge. */
+static uint32_t font_of_number(uint32_t number)
 {
-    if (!character || font->spacing == MF_FIXED)
-        return 256 * (int64_t)font->pitch + font->pitch_extended;
+    if (mf_next_font(store, sizeof store, number) != number)
+        use_store(MF_CARTRIDGE);
+    return number;
+}
+
+/* The store in use in words, after others; none if there is no cartridge. */
+static const char *holder(const char *before)
+{
+    static char words[40];
+
+    snprintf(words, sizeof words, "%s the %s", before,
+             store_in_use() == MF_CARTRIDGE ? "cartridge" : "files");
+    return cartridge ? words : "";
+}
+
+/* The line that is set, and the paper that it needs around the cursor's first place. */
+typedef struct {
+    text words;
+    uint32_t number;
+    mf_font_fields font;
+    int64_t blank; /* what a missing character leaves free, in 256ths of a quarter-dot */
+    long left, top, right, bottom;
+} line;
+
+/* Takes a font for the line, tells the user which, and turns the words into its codes. The store
+ * that holds it is then in use. */
+static void choose(line *of, const mf_request *asked, const char *words)
+{
+    uint32_t font = named == NOT_GIVEN ? best_font(asked) : font_of_number((uint32_t)named);
+    uint32_t characters;
+
+    if (exact && named == NOT_GIVEN && *differences(font))
+        font = exact_one(asked, font);
+    if (exact && *differences(font))
+        stop("%sfont %u%s has %s",
+             named == NOT_GIVEN ? "no font has what was asked for; " : "", (unsigned)font,
+             holder(" of"), differences(font));
+    of->font = tell_font(font, &characters);
+    of->words = bytes ? text_of_bytes(words) : text_of_words(words, of->font.symbol_set);
+    if (named == NOT_GIVEN)
+        font = complete_one(font, &of->words);
+    of->number = font;
+    of->font = tell_font(font, &characters);
+    begin_message();
+    print_font(stderr, font);
+    fprintf(stderr, "%s\n", holder(", from"));
+    if (*differences(font))
+        tell("not as asked for: %s", differences(font));
+}
+
+/* ---- setting ---- */
+
+/* Whether a letter of the line, or a space, is not there. */
+static int needs_blank(const line *of)
+{
+    mf_character_fields told;
+    size_t at = 0;
+
+    while (at < of->words.count && has_code(of->number, of->words.letters[at].code, &told))
+        at++;
+    return at < of->words.count;
+}
+
+/* What a missing character leaves free: the pitch, unless that is no width of a space. */
+static int64_t blank_of(const line *of)
+{
+    int64_t pitch = 256 * (int64_t)of->font.pitch + of->font.pitch_extended;
+    mf_character_fields n, blank;
+
+    if (space != NOT_GIVEN)
+        return 1024 * (int64_t)space;
+    if (of->font.spacing == MF_FIXED || of->font.pitch <= 8 * of->font.cell_width ||
+        !needs_blank(of) || tell_character(of->number, ' ', &blank))
+        return pitch;
+    if (!tell_character(of->number, 'n', &n)) {
+        tell("the font's pitch, %u dots, is wide for a space; --space sets another",
+             (unsigned)of->font.pitch / 4);
+        return pitch;
+    }
+    tell("the font's pitch, %u dots, is too wide for a space: the width of n is taken, %u dots",
+         (unsigned)of->font.pitch / 4, (unsigned)n.delta_x / 4);
+    return 256 * (int64_t)n.delta_x;
+}
+
+/* How far a character moves the cursor along the line, in 256ths of a quarter-dot. Fixed
+ * fonts move it by their pitch, proportional ones by the character's delta X. */
+static int64_t advance(const line *of, const mf_character_fields *character)
+{
+    if (!character)
+        return of->blank;
+    if (of->font.spacing == MF_FIXED)
+        return 256 * (int64_t)of->font.pitch + of->font.pitch_extended;
     return 256 * (int64_t)character->delta_x;
 }
 
@@ -150,14 +335,6 @@ static void go_along(const mf_font_fields *font, int64_t cursor, long *left, lon
     }
 }
 
-/* The line that is set, and the paper that it needs around the cursor's first place. */
-typedef struct {
-    const unsigned char *text;
-    uint32_t number;
-    mf_font_fields font;
-    long left, top, right, bottom;
-} line;
-
 static void take_in(line *in, long left, long top, long right, long bottom)
 {
     in->left = left < in->left ? left : in->left;
@@ -170,13 +347,14 @@ static void take_in(line *in, long left, long top, long right, long bottom)
  * characters on it. */
 static void set_line(line *of, page *label)
 {
-    const unsigned char *at;
+    size_t at;
     int64_t cursor = 0;
     long left = 0, top = 0;
 
-    for (at = of->text; *at; at++) {
+    for (at = 0; at < of->words.count; at++) {
+        int code = of->words.letters[at].code;
         mf_character_fields told;
-        int there = tell_character(of->number, *at, &told);
+        int there = has_code(of->number, code, &told);
         if (there) {
             /* Offsets are from the cursor, to the right and up. */
             left = told.left;
@@ -184,78 +362,151 @@ static void set_line(line *of, page *label)
             go_along(&of->font, cursor, &left, &top);
         }
         if (there && label)
-            place(label, of->number, *at, &told, left - of->left + MARGIN, top - of->top + MARGIN);
+            place(label, of->number, (uint32_t)code, &told, left - of->left + MARGIN,
+                  top - of->top + MARGIN);
         else if (there)
             take_in(of, left, top, left + (long)told.width, top + (long)told.height);
-        cursor += advance(&of->font, there ? &told : NULL);
+        cursor += advance(of, there ? &told : NULL);
     }
     left = top = 0;
     go_along(&of->font, cursor, &left, &top);
     take_in(of, left, top, left, top);
 }
 
+/* Takes in the font's cell, across the line: as far above the baseline and below it as every
+ * label of this font. Tells if dots stand beyond it. */
+static void take_cell(line *of)
+{
+    long above = (long)of->font.baseline, high = (long)of->font.cell_height, below = high - above;
+    long across;
+
+    switch (of->font.orientation) {
+    case MF_PORTRAIT: take_in(of, 0, -above, 0, below); break;
+    case MF_LANDSCAPE: take_in(of, -above, 0, below, 0); break;
+    case MF_REVERSE_PORTRAIT: take_in(of, 0, 1 - below, 0, above + 1); break;
+    default: take_in(of, 1 - below, 0, above + 1, 0);
+    }
+    across = of->font.orientation % 2 ? of->right - of->left : of->bottom - of->top;
+    if (across > high)
+        tell("dots stand beyond the font's cell of %ld dots: the label takes %ld and may not align",
+             high, across);
+}
+
+/* Tells a letter that is not there, or not whole. */
+static void tell_letter(const line *of, const letter *missing, int there)
+{
+    char set[16];
+
+    begin_message();
+    if (missing->code == NO_CODE) {
+        name_symbol_set(set, sizeof set, of->font.symbol_set);
+        fprintf(stderr, "\"%s\"", missing->name);
+        if (missing->unicode)
+            fprintf(stderr, " (U+%04lX)", missing->unicode);
+        fprintf(stderr, " has no code in set %s, left blank\n", set);
+        return;
+    }
+    fprintf(stderr, "code %d", missing->code);
+    if (missing->name[0])
+        fprintf(stderr, ", \"%s\"", missing->name);
+    fprintf(stderr, ": %s\n",
+            there ? "incomplete, rows are missing" : "no such character, left blank");
+}
+
+/* Whether a letter stands earlier in the line. */
+static int was_before(const text *words, size_t at)
+{
+    size_t before;
+
+    for (before = 0; before < at; before++)
+        if (words->letters[before].code == words->letters[at].code &&
+            (words->letters[at].code != NO_CODE ||
+             strcmp(words->letters[before].name, words->letters[at].name) == 0))
+            return 1;
+    return 0;
+}
+
 /* Tells what the font lacks of the line, where a space needs no character. */
 static int tell_missing(const line *of)
 {
-    uint8_t incomplete[MF_CODE_MAX + 1], said[MF_CODE_MAX + 1] = {0};
-    const unsigned char *at;
     mf_character_fields told;
-    int status = COMPLETE, beyond = 0;
+    int status = COMPLETE;
+    size_t at;
 
-    find_incomplete(of->number, incomplete);
-    for (at = of->text; *at; at++) {
-        int there = tell_character(of->number, *at, &told);
-        if (said[*at] || (there ? !incomplete[*at] : *at == ' '))
+    for (at = 0; at < of->words.count; at++) {
+        const letter *each = &of->words.letters[at];
+        int there = has_code(of->number, each->code, &told);
+        if (there ? !is_incomplete(of->number, (uint32_t)each->code) : each->code == ' ')
             continue;
-        fprintf(stderr, "code %u: %s\n", *at,
-                there ? "incomplete, rows are missing" : "no such character, left blank");
-        said[*at] = 1;
         status = INCOMPLETE;
-        beyond |= *at > 127;
+        if (!was_before(&of->words, at))
+            tell_letter(of, each, there);
     }
-    if (beyond)
-        fputs("codes above 127: each byte of the text is a code; text in UTF-8 needs iconv "
-              "(see --help)\n", stderr);
     return status;
 }
 
+/* ---- the label ---- */
+
 /* The label turned by so many quarters, 0 leaving it as it is. */
-static page turned(page label, uint32_t turn)
+static page turned(page label, uint32_t quarters)
 {
     page made;
     uint32_t refusal;
 
-    if (turn == 0)
+    if (quarters == 0)
         return label;
-    made = turn == 2 ? new_page(label.width, label.height) : new_page(label.height, label.width);
+    if (label.width > MF_SIDE_MAX || label.height > MF_SIDE_MAX)
+        stop("--turn %u: a label of %ld by %ld dots, and at most %d by %d can be turned",
+             (unsigned)quarters, label.width, label.height, MF_SIDE_MAX, MF_SIDE_MAX);
+    made = quarters == 2 ? new_page(label.width, label.height)
+                         : new_page(label.height, label.width);
     refusal = mf_turn_picture(label.dots, label.row_bytes * (size_t)label.height, made.dots,
                               made.row_bytes * (size_t)made.height, (uint32_t)label.width,
-                              (uint32_t)label.height, turn);
+                              (uint32_t)label.height, quarters);
     if (refusal)
         refuse("turning", refusal);
     free(label.dots);
     return made;
 }
 
-int main(int count, char **given)
+/* Draws the line on a label of its size. */
+static page draw(line *of)
 {
-    words from = words_of(given + (count > 0));
-    order asked = read_order(&from);
-    int status = load_cartridge(asked.cartridge), lacking;
-    line set = {asked.text, 0, {0}, 0, 0, 0, 0};
-    uint32_t characters;
     page label;
 
-    if (load_files(from.gathered + 1, from.count - 1))
-        status = INCOMPLETE;
-    set.number = choose(&asked);
-    set.font = tell_font(set.number, &characters);
+    of->blank = blank_of(of);
+    set_line(of, NULL);
+    if (!ink)
+        take_cell(of);
+    label = new_page(of->right - of->left + 2 * MARGIN, of->bottom - of->top + 2 * MARGIN);
+    set_line(of, &label);
+    return turned(label, (uint32_t)turn);
+}
+
+int main(int argc, char **argv)
+{
+    size_t count = take_arguments(&program, argc, argv);
+    mf_request asked = request_asked();
+    line set = {{NULL, 0}, 0, {0}, 0, 0, 0, 0, 0};
+    int status, lacking;
+    enum page_form form;
+    page label;
+    FILE *to;
+
+    if (count < (cartridge ? 1u : 2u))
+        stop_usage(&program);
+    form = form_asked(plain != 0, png != 0, out);
+    check_output(out, argv + 2, count - 1);
+    check_against(out, cartridge);
+    status = load_both(cartridge, argv + 2, count - 1);
+    choose(&set, &asked, argv[1]);
     lacking = tell_missing(&set);
-    set_line(&set, NULL);
-    label = new_page(set.right - set.left + 2 * MARGIN, set.bottom - set.top + 2 * MARGIN);
-    set_line(&set, &label);
-    label = turned(label, asked.turn);
-    write_page(&label, asked.plain, asked.out);
+    label = draw(&set);
+    to = open_output(out);
+    write_page(to, &label, form, set.font.resolution);
+    close_output(to, out);
     free(label.dots);
+    free(set.words.letters);
+    forget_kept();
     return lacking ? lacking : status;
 }

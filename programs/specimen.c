@@ -1,69 +1,62 @@
 /* marlinfold-specimen: draws a sheet of every character of a font, or says whether the
  * font meets the profile of spine labels. What it can do stands in help, and in
  * docs/marlinfold-specimen.1. */
+#include "arguments.h"
+#include "kept.h"
+#include "letters.h"
+#include "loading.h"
+#include "message.h"
+#include "output.h"
 #include "page.h"
+#include "profile.h"
+
+#include <stdlib.h>
+#include <string.h>
 
 #define GAP 8
-#define NO_FONT (MF_FONT_MAX + 1)
 
-static const about program = {
+static long chosen = NOT_GIVEN, all, plain, png, profile;
+static const char *out;
+
+static const option options[] = {
+    {NUMBER, "--font", "N", &chosen, 0, MF_FONT_MAX,
+     "the font's number (the lowest that is there)"},
+    {FLAG, "--all", NULL, &all, 1, 0,
+     "every font: a file for each, with its number before the ending of the\n"
+     "name, or PBMs one after the other to standard output"},
+    {FLAG, "--plain", NULL, &plain, 1, 0, "PBM in plain digits"},
+    {FLAG, "--png", NULL, &png, 1, 0, "PNG, also by the ending of the file's name (PBM)"},
+    {FLAG, "--profile", NULL, &profile, 1, 0,
+     "draw nothing: say in words whether the font meets the profile of spine\n"
+     "labels, and if not, every rule that it breaks, with the codes"},
+    {WORD, "-o", "FILE", &out, 0, 0, "write to this file (-, standard output)"}};
+
+static const description program = {
     "marlinfold-specimen", "[OPTIONS] FILE...",
     "Reads the fonts of each FILE, - for standard input, and draws every character of one font\n"
-    "to standard output: sixteen codes to a line, by rising code, lines without characters left\n"
-    "out.\n\n"
-    "  --font N     the font's number (the lowest that is there)\n"
-    "  --plain      PBM in plain digits\n"
-    "  --profile    draw nothing: say in words whether the font meets the profile of spine\n"
-    "               labels, and if not, which rule it breaks and where\n"
-    "  -o FILE      write to this file\n"
-    "  --help       print this\n"
-    "  --version    print the version\n"
-    "  --           what follows is no option\n\n"
+    "to standard output: sixteen codes to a line, by rising code, with the first of them beside\n"
+    "it, lines without characters left out. Above them stand the font's number, set, pitch,\n"
+    "height and weight.\n",
     PAGE_HELP
     "Exit status: 0 if the sheet is whole, 2 if it was written but a character is incomplete or\n"
     "a font file was not taken whole, 1 if it was not written. With --profile: 0 if the font\n"
     "meets it, 2 if it does not or a font file was not taken whole, 1 if that was not found\n"
-    "out.\n"};
+    "out.\n",
+    options, sizeof options / sizeof *options};
 
-typedef struct {
-    uint32_t font; /* NO_FONT if none is named */
-    int plain, profile;
-    const char *out;
-} order;
-
-/* Takes the words of the command line; the files are gathered. */
-static order read_order(words *from)
-{
-    order asked = {NO_FONT, 0, 0, NULL};
-    const char *value;
-
-    while (at_option(from)) {
-        if (take(from, "--plain"))
-            asked.plain = 1;
-        else if (take(from, "--profile"))
-            asked.profile = 1;
-        else if ((value = take_value(from, "--font")))
-            asked.font = (uint32_t)number_within("--font", value, 0, MF_FONT_MAX);
-        else if ((value = take_value(from, "-o")))
-            asked.out = value;
-        else
-            take_common(from, &program);
-    }
-    if (from->count < 1)
-        stop_usage(&program);
-    return asked;
-}
-
-/* A field that takes every character around one point, and the lines that have any. */
+/* A field that takes every character around one point, the lines that have any, and what lies
+ * between the fields; all in dots of the font, so that a sheet is as large in print at any
+ * resolution. */
 typedef struct {
     long left, above, right, below, lines;
     int used[16];
+    long gap, scale; /* scale: dots to a dot of the caption's letters */
 } field;
 
 static field measure(uint32_t font)
 {
     mf_character_fields told;
-    field made = {0, 0, 0, 0, 0, {0}};
+    field made = {0, 0, 0, 0, 0, {0}, 0, 0};
     uint32_t code;
 
     for (code = 0; code <= MF_CODE_MAX; code++) {
@@ -84,130 +77,185 @@ static field measure(uint32_t font)
     return made;
 }
 
-static page draw_sheet(uint32_t font, const field *of)
+/* What stands above the characters. */
+static void say_caption(char *words, size_t room, uint32_t number, const mf_font_fields *font)
 {
-    long wide = of->right - of->left + GAP, high = of->below - of->above + GAP, line = 0;
-    page sheet = new_page(16 * wide + GAP, of->lines * high + GAP);
+    char set[16];
+
+    name_symbol_set(set, sizeof set, font->symbol_set);
+    snprintf(words, room, "font %u, set %s, pitch %.2f, height %.2f, weight %d (%s)",
+             (unsigned)number, set, mf_pitch_of(font) / 100.0, mf_height_of(font) / 100.0,
+             (int)font->weight, weight_name(font->weight));
+}
+
+/* Draws a line of sixteen codes with its first code beside it. */
+static void draw_line(page *sheet, uint32_t font, const field *of, uint32_t first, long left,
+                      long top)
+{
+    long wide = of->right - of->left + of->gap, middle = (of->below - of->above) / 2;
     mf_character_fields told;
     uint32_t code;
+    char words[8];
 
-    for (code = 0; code <= MF_CODE_MAX; code++) {
+    snprintf(words, sizeof words, "%3u", (unsigned)first);
+    write_words(sheet, words, of->gap, top + middle - LETTER_HEIGHT * of->scale / 2, of->scale);
+    for (code = first; code < first + 16; code++)
         if (tell_character(font, code, &told))
-            place(&sheet, font, code, &told,
-                  GAP + (long)(code % 16) * wide - of->left + told.left,
-                  GAP + line * high - of->above - told.top);
-        if (code % 16 == 15)
-            line += of->used[code / 16];
-    }
+            place(sheet, font, code, &told,
+                  left + (long)(code - first) * wide - of->left + told.left,
+                  top - of->above - told.top);
+}
+
+static page draw_sheet(uint32_t number, const mf_font_fields *font, const field *of)
+{
+    long letter = LETTER_HEIGHT * of->scale, high = of->below - of->above, line;
+    long left = 2 * of->gap + words_width("000", of->scale), top = 3 * of->gap + letter, width;
+    char words[120];
+    page sheet;
+
+    high = of->gap + (high < letter ? letter : high);
+    say_caption(words, sizeof words, number, font);
+    width = left + 16 * (of->right - of->left + of->gap);
+    if (width < words_width(words, of->scale) + of->gap)
+        width = words_width(words, of->scale) + of->gap;
+    sheet = new_page(width + of->gap, top + of->lines * high);
+    write_words(&sheet, words, of->gap, of->gap, of->scale);
+    for (line = 0; line < 16; line++)
+        if (of->used[line]) {
+            draw_line(&sheet, number, of, (uint32_t)(16 * line), left, top);
+            top += high;
+        }
     return sheet;
 }
 
 static int tell_missing(uint32_t font)
 {
-    uint8_t incomplete[MF_CODE_MAX + 1];
     uint32_t code;
     int status = COMPLETE;
 
-    find_incomplete(font, incomplete);
     for (code = 0; code <= MF_CODE_MAX; code++)
-        if (incomplete[code]) {
-            fprintf(stderr, "code %u: incomplete, rows are missing\n", (unsigned)code);
+        if (is_incomplete(font, code)) {
+            tell("code %u: incomplete, rows are missing", (unsigned)code);
             status = INCOMPLETE;
         }
     return status;
 }
 
-/* Writes the sheet; the exit status. */
-static int write_sheet(const order *asked)
+/* Draws a font's sheet and writes it to a file, or to standard output, which stays open; the exit
+ * status. */
+static int write_sheet(const char *name, uint32_t number, enum page_form form)
 {
-    field around = measure(asked->font);
+    field around = measure(number);
+    uint32_t characters;
+    mf_font_fields font = tell_font(number, &characters);
+    int status = tell_missing(number);
     page sheet;
-    int status;
+    FILE *to;
 
-    print_font(stderr, asked->font);
-    fputc('\n', stderr);
-    if (!around.lines)
-        stop("font", "has no characters");
-    status = tell_missing(asked->font);
-    sheet = draw_sheet(asked->font, &around);
-    write_page(&sheet, asked->plain, asked->out);
+    around.gap = (long)font.resolution * GAP / 300;
+    around.scale = (long)font.resolution / 150;
+    sheet = draw_sheet(number, &font, &around);
+    to = open_output(name);
+    write_page(to, &sheet, form, font.resolution);
+    if (to != stdout)
+        close_output(to, name);
     free(sheet.dots);
     return status;
 }
 
-/* A rule that a character breaks, with its numbers. */
-static void print_break(FILE *to, const mf_font_fields *font, const mf_character_fields *told,
-                        const mf_profile *found)
-{
-    fprintf(to, "code %u: ", (unsigned)found->code);
-    switch (found->rule) {
-    case MF_PROFILE_LEFT:
-        fprintf(to, "its left offset is %d, below 0\n", (int)told->left);
-        break;
-    case MF_PROFILE_WIDTH:
-        fprintf(to, "left offset %d plus width %u is more than the cell width %u\n",
-                (int)told->left, (unsigned)told->width, (unsigned)font->cell_width);
-        break;
-    case MF_PROFILE_HEIGHT:
-        fprintf(to, "its height %u is more than the cell height %u\n", (unsigned)told->height,
-                (unsigned)font->cell_height);
-        break;
-    default:
-        fprintf(to, "its delta X %u is not the font's pitch %u\n", (unsigned)told->delta_x,
-                (unsigned)font->pitch);
-    }
-}
-
-/* Which rule a font breaks, and where. */
-static void print_profile(FILE *to, uint32_t number, const mf_profile *found)
+/* Whether there is something to draw; tells the font. */
+static int has_characters(uint32_t number)
 {
     uint32_t characters;
-    mf_font_fields font = tell_font(number, &characters);
-    mf_character_fields told;
 
-    fprintf(to, "font %u breaks rule %u of the profile: ", (unsigned)number,
-            (unsigned)found->rule);
-    if (found->rule == MF_PROFILE_TYPE)
-        fprintf(to, "its type is %u, not 0\n", (unsigned)font.type);
-    else if (found->rule == MF_PROFILE_SPACING)
-        fputs("its spacing is proportional, not fixed\n", to);
-    else if (!tell_character(number, found->code, &told))
-        fprintf(to, "code %u is not there\n", (unsigned)found->code);
-    else if (found->rule == MF_PROFILE_CODES)
-        fprintf(to, "code %u is not complete\n", (unsigned)found->code);
-    else
-        print_break(to, &font, &told, found);
+    tell_font(number, &characters);
+    begin_message();
+    print_font(stderr, number);
+    fputc('\n', stderr);
+    return characters != 0;
+}
+
+static int write_one(uint32_t number, enum page_form form)
+{
+    if (!has_characters(number))
+        stop("font %u: has no characters", (unsigned)number);
+    return write_sheet(out, number, form);
+}
+
+/* A file's name with a number before its ending, as sheet-3.png. */
+static void numbered(char *to, size_t room, uint32_t number)
+{
+    const char *dot = strrchr(out, '.'), *slash = strrchr(out, '/');
+    size_t stem = dot && dot > out && (!slash || dot > slash + 1) ? (size_t)(dot - out)
+                                                                  : strlen(out);
+
+    if ((size_t)snprintf(to, room, "%.*s-%u%s", (int)stem, out, (unsigned)number, out + stem) >=
+        room)
+        stop("-o %s: too long a name", shown(out));
+}
+
+/* Draws every font that has characters, each to its file, or all to standard output. */
+static int write_all(enum page_form form, char **inputs, size_t count)
+{
+    int to_files = out && strcmp(out, "-") != 0, status = COMPLETE, drawn = 0;
+    char name[4096];
+    uint32_t font;
+
+    if (form == PNG && !to_files)
+        stop("--all --png: a file for each font is needed; -o gives the name");
+    for (font = mf_next_font(store, sizeof store, 0); font <= MF_FONT_MAX;
+         font = mf_next_font(store, sizeof store, font + 1)) {
+        if (!has_characters(font)) {
+            tell("font %u: has no characters, left out", (unsigned)font);
+            status = INCOMPLETE;
+            continue;
+        }
+        if (to_files) {
+            numbered(name, sizeof name, font);
+            check_output(name, inputs, count);
+        }
+        if (write_sheet(to_files ? name : NULL, font, form))
+            status = INCOMPLETE;
+        drawn = 1;
+    }
+    if (!drawn)
+        stop("no font has characters");
+    return status;
 }
 
 /* Says in words what the check of the profile found; the exit status. */
-static int write_profile(const order *asked)
+static int write_profile(uint32_t font)
 {
-    mf_profile found = mf_check_profile(store, sizeof store, asked->font);
-    FILE *to;
+    FILE *to = open_output(out);
+    int met = print_profile(to, font);
 
-    if (found.refusal)
-        refuse("profile", found.refusal);
-    to = open_output(asked->out);
-    if (found.rule == MF_PROFILE_MET)
-        fprintf(to, "font %u meets the profile\n", (unsigned)asked->font);
-    else
-        print_profile(to, asked->font, &found);
-    finish(to, asked->out);
-    return found.rule == MF_PROFILE_MET ? COMPLETE : INCOMPLETE;
+    close_output(to, out);
+    return met ? COMPLETE : INCOMPLETE;
 }
 
-int main(int count, char **given)
+int main(int argc, char **argv)
 {
-    words from = words_of(given + (count > 0));
-    order asked = read_order(&from);
-    int loaded = load_files(from.gathered, from.count), status;
-    uint32_t characters;
+    size_t count = take_arguments(&program, argc, argv);
+    enum page_form form = profile ? PBM : form_asked(plain != 0, png != 0, out);
+    int loaded, status;
+    uint32_t font, characters;
 
-    if (asked.font == NO_FONT)
-        asked.font = mf_next_font(store, sizeof store, 0);
-    if (asked.font == NO_FONT)
-        stop("font", "there is none");
-    tell_font(asked.font, &characters);
-    status = asked.profile ? write_profile(&asked) : write_sheet(&asked);
+    if (count < 1)
+        stop_usage(&program);
+    if (all && (profile || chosen != NOT_GIVEN))
+        stop("--all: not with --font or --profile");
+    check_output(out, argv + 1, count);
+    loaded = load_files(argv + 1, count);
+    font = chosen == NOT_GIVEN ? mf_next_font(store, sizeof store, 0) : (uint32_t)chosen;
+    if (font > MF_FONT_MAX)
+        stop("no font in the files");
+    tell_font(font, &characters);
+    if (profile)
+        status = write_profile(font);
+    else {
+        status = all ? write_all(form, argv + 1, count) : write_one(font, form);
+        close_output(stdout, NULL);
+    }
+    forget_kept();
     return status ? status : loaded;
 }

@@ -260,7 +260,6 @@ static void show_size(uint32_t resolution, uint32_t size, uint32_t extended)
 
 static void conversions(void)
 {
-    mf_font_fields font = sized(300, 0, 0);
     uint32_t dots, at;
 
     show_size(300, 120, 0);
@@ -280,8 +279,8 @@ static void conversions(void)
            (unsigned)mf_height_quarter_dots(1200, 600));
     printf("dots:");
     for (at = 0; at < 9; at++)
-        printf(" %u", (unsigned)mf_dots(&font, at));
-    dots = mf_dots(&font, 4294967295u);
+        printf(" %u", (unsigned)mf_dots(at));
+    dots = mf_dots(4294967295u);
     printf(" %u\n", (unsigned)dots);
 }
 
@@ -432,39 +431,44 @@ static void put(const uint8_t *picture, uint32_t width, uint32_t height, long x,
 int set_line(const uint8_t *file, size_t file_len, const unsigned char *text, long x, long y)
 {
     static uint8_t store[MF_STORE_MAX], kept[MF_FONT_BYTES], picture[MF_PICTURE_MAX];
+    mf_request asked = {MF_ROMAN_8, MF_FIXED, 1000,        1200,       0,
+                        MF_BOLD,    3,        MF_PORTRAIT, MF_MODE_300};
     mf_stream_read read;
     mf_chosen chosen;
     mf_font_fields font;
-    uint32_t along = 0;
+    uint64_t pitch, along = 0;
 
     mf_make_fresh(store, sizeof store);
     read = mf_read_stream(store, sizeof store, file, file_len);
-    chosen = mf_choose(store, sizeof store, MF_ROMAN_8, MF_FIXED, 1000, 1200, 0, MF_BOLD, 3,
-                       MF_PORTRAIT, MF_MODE_300);
+    chosen = mf_choose_request(store, sizeof store, &asked);
     if (read.refusal || read.refused || chosen.refusal)
         return 0;
     mf_tell_font(store, sizeof store, kept, sizeof kept, chosen.font);
     font = mf_font_fields_of(kept);
+    if (font.orientation != asked.orientation || font.resolution != asked.mode)
+        return 0;
+    pitch = 256 * (uint64_t)font.pitch + font.pitch_extended;
     for (; *text; text++) {
         uint32_t refusal = mf_tell_character(store, sizeof store, kept, sizeof kept,
                                              chosen.font, *text).refusal;
         mf_character_fields letter = mf_character_fields_of(kept);
         if (refusal) {
-            along += font.pitch;
+            along += pitch;
             continue;
         }
         mf_draw_picture(store, sizeof store, picture, sizeof picture, chosen.font, *text);
         put(picture, letter.width, letter.height,
-            x + (long)mf_dots(&font, along) + letter.left, y - letter.top);
-        along += font.spacing == MF_FIXED ? font.pitch : letter.delta_x;
+            x + (long)((along + 512) / 1024) + letter.left, y - letter.top);
+        along += font.spacing == MF_FIXED ? pitch : 256 * (uint64_t)letter.delta_x;
     }
     return 1;
 }
 /* so far. */
 
 /* An L of four rows that ends on the baseline, row 4 of the page, and a p of five, of which the
- * last is below it; no space. The pitch is 6 1/2 dots. */
-static void line(int spacing)
+ * last is below it; no space. The pitch is 6 1/2 dots and so many 1024ths of one. Of a landscape
+ * font no line is set, since its pictures lie otherwise. */
+static void line(int spacing, int extended, int orientation)
 {
     const uint8_t l[] = {0x80, 0x80, 0x80, 0xF0}, p[] = {0xE0, 0x90, 0xE0, 0x80, 0x80};
     uint8_t block[MF_FONT_BYTES], stream[256];
@@ -473,15 +477,19 @@ static void line(int spacing)
 
     mf_make_fresh(store, sizeof store);
     header(block);
+    block[12] = (uint8_t)orientation;
     block[13] = (uint8_t)spacing;
     high(block + 16, 26);
+    block[40] = (uint8_t)extended;
     put_font(3, block);
     length = first_block(block, 1, 4, 4, l, 4);
+    block[4] = (uint8_t)orientation;
     high(block + 6, 1);
     high(block + 8, 3);
     high(block + 14, 20);
     mf_download_character(store, sizeof store, block, length, 3, 'L');
     length = first_block(block, 1, 4, 5, p, 5);
+    block[4] = (uint8_t)orientation;
     high(block + 6, -1);
     high(block + 8, 3);
     high(block + 14, 16);
@@ -491,7 +499,8 @@ static void line(int spacing)
         page[y][PAGE_WIDTH] = '\0';
     length = mf_write_font(store, sizeof store, stream, sizeof stream, 3).length;
     set = set_line(stream, length, (const unsigned char *)"LpL Lp", 0, 4);
-    printf("spacing %d: %s; one byte less: %s\n", spacing, set ? "set" : "not set",
+    printf("spacing %d, extended byte %d, orientation %d: %s; one byte less: %s\n", spacing,
+           extended, orientation, set ? "set" : "not set",
            set_line(stream, length - 1, (const unsigned char *)"", 0, 4) ? "set" : "not set");
     for (y = 0; y < PAGE_HEIGHT; y++)
         puts(page[y]);
@@ -518,6 +527,33 @@ static void lengths(void)
     mf_remove_font(store, MF_STORE_MIN + WITH_CHARACTER, 1);
     printf("font 1 removed from the shorter one, the longer is: %s\n",
            mf_refusal_name(mf_remove_font(store, sizeof store, 2)));
+}
+
+/* A request in a record gets what a sheet of that record gets: each field in turn has a value that
+ * no other may have, and one that decides between two fonts. */
+static void requests(void)
+{
+    static const mf_request tried[] = {
+        {277, 0, 1000, 1200, 0, 3, 3, 0, 300}, {2048, 0, 1000, 1200, 0, 3, 3, 0, 300},
+        {277, 2, 1000, 1200, 0, 3, 3, 0, 300}, {277, 0, 57601, 1200, 0, 3, 3, 0, 300},
+        {277, 0, 1000, 99976, 0, 3, 3, 0, 300}, {277, 0, 1000, 60000, 0, 3, 3, 0, 300},
+        {277, 0, 1000, 1200, 1024, 3, 3, 0, 300}, {277, 0, 1000, 1200, 0, -8, 3, 0, 300},
+        {277, 0, 1000, 1200, 0, -7, 3, 0, 300}, {277, 0, 1000, 1200, 0, 3, 65535, 0, 300},
+        {277, 0, 1000, 1200, 0, 3, 65536, 0, 300}, {277, 0, 1000, 1200, 0, 3, 3, 4, 300},
+        {277, 0, 1000, 1200, 0, 3, 3, 2, 300}, {277, 0, 1000, 1200, 0, 3, 3, 0, 600},
+        {277, 0, 1000, 1200, 0, 3, 3, 0, 301}, {277, 1, 1000, 1200, 0, 3, 3, 0, 300}};
+    enum { TRIED = sizeof tried / sizeof *tried };
+    mf_answer answers[TRIED];
+    unsigned same = 0, done = 0, at;
+
+    build_two();
+    mf_choose_sheet(store, sizeof store, tried, TRIED, answers, TRIED);
+    for (at = 0; at < TRIED; at++) {
+        mf_chosen chosen = mf_choose_request(store, sizeof store, &tried[at]);
+        same += chosen.refusal == answers[at].refusal && chosen.font == answers[at].font;
+        done += chosen.refusal == MF_DONE;
+    }
+    printf("requests in a record: %u of %u as in a sheet, %u done\n", same, (unsigned)TRIED, done);
 }
 
 /* What the header says about streams: font 1 of one character is replaced, the stream cut
@@ -614,8 +650,11 @@ int main(void)
     rounded_up();
     kept_fonts();
     changed();
-    line(MF_FIXED);
-    line(MF_PROPORTIONAL);
+    requests();
+    line(MF_FIXED, 0, MF_PORTRAIT);
+    line(MF_FIXED, 128, MF_PORTRAIT);
+    line(MF_FIXED, 0, MF_LANDSCAPE);
+    line(MF_PROPORTIONAL, 128, MF_PORTRAIT);
     lengths();
     streams();
     incomplete();

@@ -2,15 +2,25 @@
  * store and read into another, whole, and then cut, damaged and spliced by chance: both
  * stores, the counts and the broken places must be the same. Prints what was met; what is
  * met nowhere is a failure, since nothing was tried then. */
-#include "fonts.h"
+#include "commands.h"
+#include "judging.h"
+#include "loading.h"
+
+#include <stdlib.h>
+#include <string.h>
 
 #define FILES 100
 #define TRIALS 4000
 
+typedef struct {
+    uint8_t *bytes;
+    size_t length;
+} contents;
+
 static uint8_t other[MF_STORE_MAX], changed[1 << 17];
 static contents files[FILES];
 static loading into;
-static unsigned long streams, refused, broken, removed;
+static unsigned long streams, refused, broken, removed, judged;
 
 static uint32_t chance(uint32_t below)
 {
@@ -23,7 +33,7 @@ static uint32_t chance(uint32_t below)
 
 static void fresh(void)
 {
-    mf_make_fresh(store, sizeof store);
+    fresh_store();
     mf_make_fresh(other, sizeof other);
 }
 
@@ -37,15 +47,61 @@ static unsigned fonts_kept(void)
     return kept;
 }
 
+/* Of a font block and of a character block: what was judged without the library is what a call
+ * on a store that is fresh but for one font answers. */
+static void hold_judgement(const command *given)
+{
+    static uint8_t tried[MF_STORE_MAX];
+    static const uint8_t header[64] = {0, 64, 0, 0, 0, 0, 0, 0, 0, 9, 0, 9};
+    judgement made;
+    uint32_t refusal;
+
+    mf_make_fresh(tried, sizeof tried);
+    if (given->found == FONT_BLOCK) {
+        judge_font(&made, given->block, given->number);
+        refusal = mf_download_font(tried, sizeof tried, given->block, given->number, 1);
+    } else {
+        mf_download_font(tried, sizeof tried, header, sizeof header, 1);
+        judge_character(&made, given->block, given->number, MF_PORTRAIT);
+        refusal = mf_download_character(tried, sizeof tried, given->block, given->number, 1, 1);
+        /* What only the call can see. */
+        if (refusal == MF_NO_CHARACTER || refusal == MF_RUN_PAST_ROW || refusal == MF_NO_ROOM ||
+            (refusal == MF_TOO_LARGE && !made.refusal))
+            refusal = MF_DONE;
+    }
+    judged += made.refusal != MF_DONE;
+    if (made.refusal == refusal)
+        return;
+    printf("stream %lu: judged %u, the library %u\n", streams, (unsigned)made.refusal,
+           (unsigned)refusal);
+    exit(1);
+}
+
+static void hold_judgements(const uint8_t *bytes, size_t length)
+{
+    command given;
+    size_t at;
+
+    for (at = 0; at < length; at += given.length) {
+        given = command_at(bytes + at, length - at);
+        if (given.found >= NO_ESC)
+            return;
+        if (given.block)
+            hold_judgement(&given);
+    }
+}
+
 /* Both stores go on from what they held before. Fonts become fewer only where a character
  * found no room. */
 static void hold(const uint8_t *bytes, size_t length)
 {
     unsigned before = fonts_kept();
+    input from = input_of("stream", bytes, length);
     mf_stream_read read;
 
+    hold_judgements(bytes, length);
     into.done = into.refused = into.broken = 0;
-    load_stream(&into, "stream", bytes, length);
+    load_stream(&into, &from);
     read = mf_read_stream(other, sizeof other, bytes, length);
     streams++;
     refused += into.refused;
@@ -116,15 +172,30 @@ static void try_changed(const contents *from, const contents *part)
     hold(changed, length);
 }
 
-int main(int count, char **names)
+/* A file, read in one piece. */
+static contents read_whole(const char *name)
 {
-    size_t number = (size_t)count - 1, file, trial;
+    contents made = {NULL, 0};
+    FILE *file = fopen(name, "rb");
+
+    if (!file)
+        return made;
+    made.bytes = malloc(1 << 20);
+    made.length = made.bytes ? fread(made.bytes, 1, 1 << 20, file) : 0;
+    fclose(file);
+    return made;
+}
+
+int main(int argc, char **names)
+{
+    size_t number = (size_t)argc - 1, file, trial;
 
     if (number < 1 || number > FILES)
         return 2;
     into.next = OWN_NUMBERS;
     for (file = 0; file < number; file++) {
-        if (!read_file(names[file + 1], &files[file]) || files[file].length == 0)
+        files[file] = read_whole(names[file + 1]);
+        if (files[file].length == 0)
             return 2;
         fresh();
         hold(files[file].bytes, files[file].length);
@@ -134,7 +205,7 @@ int main(int count, char **names)
             fresh();
         try_changed(&files[chance((uint32_t)number)], &files[chance((uint32_t)number)]);
     }
-    printf("%lu streams: %lu commands refused, %lu broken, %lu lost a font for want of room\n",
-           streams, refused, broken, removed);
-    return !(refused && broken && removed);
+    printf("%lu streams: %lu commands refused, %lu blocks judged so before, %lu broken, %lu lost a "
+           "font for want of room\n", streams, refused, judged, broken, removed);
+    return !(refused && judged && broken && removed);
 }

@@ -1,0 +1,37 @@
+/* What the store keeps: its fonts and characters as the library tells and draws them. What is
+ * told is kept here until the store is made fresh or another is taken into use, since each call
+ * checks the whole store. */
+#ifndef KEPT_H
+#define KEPT_H
+
+#include "marlinfold.h"
+
+#include <stdio.h>
+
+/* Forgets what was told. */
+void forget_kept(void);
+
+/* A kept font; stops if there is none of this number. */
+mf_font_fields tell_font(uint32_t number, uint32_t *characters);
+
+/* A kept character; answers 0 if the font has none of this code. */
+int tell_character(uint32_t font, uint32_t code, mf_character_fields *told);
+
+/* Its picture, in rows of whole bytes. */
+const uint8_t *picture_of(uint32_t font, uint32_t code);
+
+/* Whether rows are missing in it. */
+int is_incomplete(uint32_t font, uint32_t code);
+
+/* What a kept font is, without an end of line. */
+void print_font(FILE *to, uint32_t number);
+
+/* As 8U; a number where that has no letter. */
+void print_symbol_set(FILE *to, uint32_t set);
+void name_symbol_set(char *to, size_t room, uint32_t set);
+
+/* As "bold" and "landscape". */
+const char *weight_name(int32_t weight);
+const char *orientation_name(uint32_t orientation);
+
+#endif

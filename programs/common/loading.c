@@ -1,0 +1,313 @@
+#include "loading.h"
+
+#include "commands.h"
+#include "judging.h"
+#include "kept.h"
+#include "message.h"
+
+#include <stdlib.h>
+#include <string.h>
+
+uint8_t store[MF_STORE_MAX];
+font_origin origin[MF_FONT_MAX + 1];
+
+void fresh_store(void)
+{
+    mf_make_fresh(store, sizeof store);
+    memset(origin, 0, sizeof origin);
+    forget_kept();
+}
+
+static void start_file(loading *into, const char *name)
+{
+    size_t font;
+
+    into->file = name;
+    into->place = 0;
+    into->number = into->code = 0;
+    into->blocks = 0;
+    memset(&into->passed, 0, sizeof into->passed);
+    for (font = 0; font <= MF_FONT_MAX; font++)
+        into->given[font] = NO_NUMBER;
+}
+
+/* The number that the file's font is kept under; one is given where its first block
+ * stands. Above MF_FONT_MAX, which the library refuses, there is but one. */
+static uint32_t kept_number(loading *into)
+{
+    uint32_t *given = &into->given[into->number];
+
+    if (into->next == OWN_NUMBERS)
+        return into->number;
+    if (*given == NO_NUMBER)
+        *given = into->next <= MF_FONT_MAX ? into->next++ : into->next;
+    return *given;
+}
+
+/* ---- messages ---- */
+
+/* A note about a font of the file, as the file names it and as it is kept. */
+static note note_of(const loading *of, const char *kind, uint32_t font)
+{
+    note made = {NULL, NULL, -1, -1, -1, -1, 0, ""};
+
+    made.kind = kind;
+    made.file = of->file;
+    made.place = (int64_t)of->place;
+    made.font = (long)font;
+    if (of->next != OWN_NUMBERS && font <= MF_FONT_MAX && of->given[font] != NO_NUMBER)
+        made.numbered = (long)of->given[font];
+    return made;
+}
+
+static void tell_refused(const loading *of, const command *given, const judgement *why)
+{
+    note made = note_of(of, "refused",
+                        given->found == FONT_NUMBER ? given->number : of->number);
+
+    if (given->found == CODE)
+        made.code = (long)given->number;
+    if (given->found == CHARACTER_BLOCK)
+        made.code = (long)of->code;
+    snprintf(made.what, sizeof made.what, "%s", why->why);
+    tell_note(&made);
+}
+
+/* Tells the characters that were passed over since the last time. */
+static void tell_passed(loading *of)
+{
+    note made = note_of(of, "passed over", of->number);
+    unsigned count = of->passed.count;
+
+    made.place = (int64_t)of->passed.place;
+    made.font_in_words = 1;
+    snprintf(made.what, sizeof made.what, "%u character%s of font %u passed over, no such font",
+             count, count == 1 ? "" : "s", (unsigned)of->number);
+    if (count)
+        tell_note(&made);
+    memset(&of->passed, 0, sizeof of->passed);
+}
+
+static void pass_over(loading *of)
+{
+    if (!of->passed.count)
+        of->passed.place = of->place;
+    of->passed.count += !of->passed.codes[of->code];
+    of->passed.codes[of->code] = 1;
+}
+
+/* A note about a place where no command is read, or about the file as a whole. */
+static void tell_place(const loading *of, const char *kind, int64_t place, const char *what)
+{
+    note made = {NULL, NULL, -1, -1, -1, -1, 0, ""};
+
+    made.kind = kind;
+    made.file = of->file;
+    made.place = place;
+    snprintf(made.what, sizeof made.what, "%s", what);
+    tell_note(&made);
+}
+
+static void tell_broken(const loading *of, enum found found)
+{
+    static const char *const why[] = {
+        "stream broken, no command begins here",
+        ("stream broken, not one of the four commands that are read; marlinfold-rewrite makes them "
+         "of a printer's stream"),
+        "stream broken, a block of more than 32767 bytes",
+        "stream broken, the file ends in a command"};
+
+    tell_place(of, "broken", (int64_t)of->place, why[found - NO_ESC]);
+}
+
+static void tell_padding(const loading *of, size_t length)
+{
+    char what[100];
+
+    snprintf(what, sizeof what, "%lu byte%s of padding; all commands before %s were read",
+             (unsigned long)length, length == 1 ? "" : "s", length == 1 ? "it" : "them");
+    tell_place(of, "padding", (int64_t)of->place, what);
+}
+
+/* ---- commands ---- */
+
+/* What the library says of a block that nothing spoke against. */
+static void judged_by_call(judgement *made, uint32_t refusal)
+{
+    made->refusal = refusal;
+    snprintf(made->why, sizeof made->why, "%s", mf_refusal_name(refusal));
+}
+
+/* Tells that a font goes for another. */
+static void tell_replaced(const loading *of, uint32_t number)
+{
+    uint8_t kept[MF_FONT_BYTES];
+    unsigned count = mf_tell_font(store, sizeof store, kept, sizeof kept, number).count;
+    note made = note_of(of, "replaced", of->number);
+
+    snprintf(made.what, sizeof made.what, "replaces font %u of %s with %u character%s",
+             (unsigned)origin[number].number, shown(origin[number].file), count,
+             count == 1 ? "" : "s");
+    tell_note(&made);
+}
+
+static void load_font(loading *into, const command *given, judgement *made)
+{
+    uint32_t number = kept_number(into);
+
+    if (number > MF_FONT_MAX) {
+        judged_by_call(made, MF_OUT_OF_RANGE);
+        return;
+    }
+    judge_font(made, given->block, given->number);
+    if (made->refusal)
+        return;
+    if (origin[number].file)
+        tell_replaced(into, number);
+    judged_by_call(made, mf_download_font(store, sizeof store, given->block, given->number,
+                                          number));
+    if (made->refusal)
+        return;
+    origin[number].file = into->file;
+    origin[number].number = into->number;
+    origin[number].orientation = given->block[12];
+}
+
+static void load_character(loading *into, const command *given, judgement *made)
+{
+    uint32_t number = kept_number(into);
+
+    if (number > MF_FONT_MAX) {
+        judged_by_call(made, MF_OUT_OF_RANGE);
+        return;
+    }
+    judge_character(made, given->block, given->number,
+                    origin[number].file ? origin[number].orientation : NO_HEADER);
+    if (made->refusal)
+        return;
+    judged_by_call(made, mf_download_character(store, sizeof store, given->block, given->number,
+                                               number, into->code));
+    if (made->refusal == MF_NO_CHARACTER)
+        strcpy(made->why, "a continuation not for the open character");
+    if (made->refusal == MF_NO_ROOM) {
+        strcat(made->why, ", font removed");
+        origin[number].file = NULL;
+    }
+}
+
+static void load_number(uint32_t number, uint32_t high, uint32_t *into, judgement *made)
+{
+    made->refusal = number > high ? MF_OUT_OF_RANGE : MF_DONE;
+    if (!made->refusal)
+        *into = number;
+    else
+        snprintf(made->why, sizeof made->why, "a number out of range, allowed 0 to %u",
+                 (unsigned)high);
+}
+
+/* Does one of the four commands. */
+static void load_command(loading *into, const command *given, judgement *made)
+{
+    if (given->found == FONT_NUMBER || given->found == FONT_BLOCK)
+        tell_passed(into);
+    switch (given->found) {
+    case FONT_NUMBER: load_number(given->number, MF_FONT_MAX, &into->number, made); break;
+    case CODE: load_number(given->number, MF_CODE_MAX, &into->code, made); break;
+    case FONT_BLOCK: load_font(into, given, made); break;
+    default: load_character(into, given, made);
+    }
+}
+
+static void take_command(loading *into, const command *given)
+{
+    judgement made;
+
+    load_command(into, given, &made);
+    if (!made.refusal) {
+        into->done++;
+        into->blocks += given->block != NULL;
+        return;
+    }
+    into->refused++;
+    if (given->found == CHARACTER_BLOCK && made.refusal == MF_NO_FONT)
+        pass_over(into);
+    else
+        tell_refused(into, given, &made);
+}
+
+/* ---- files ---- */
+
+/* Whether what is left is no more than what some systems fill files with. It is looked at as far
+ * as INPUT_AHEAD: a longer rest is none. */
+static int is_padding(input *from)
+{
+    size_t at;
+
+    look(from, INPUT_AHEAD);
+    for (at = 0; at < from->left; at++)
+        if (from->next[at] != 0 && from->next[at] != 26)
+            return 0;
+    return from->place > 0 && !from->file;
+}
+
+static void end_broken(loading *into, input *from, enum found found)
+{
+    into->broken++;
+    if (found != NO_ESC || !is_padding(from)) {
+        tell_broken(into, found);
+        return;
+    }
+    into->padded++;
+    tell_padding(into, from->left);
+}
+
+void load_stream(loading *into, input *from)
+{
+    command given;
+
+    start_file(into, from->name);
+    while (look(from, COMMAND_MAX)) {
+        into->place = from->place;
+        given = command_at(from->next, from->left);
+        if (given.found >= NO_ESC) {
+            end_broken(into, from, given.found);
+            break;
+        }
+        take_command(into, &given);
+        pass(from, given.length);
+    }
+    tell_passed(into);
+    if (!into->blocks && !from->failed) {
+        into->fontless++;
+        tell_place(into, "no font", -1,
+                   from->place || from->left ? "no font in it" : "empty, no font in it");
+    }
+}
+
+int load_file(loading *into, const char *name)
+{
+    input from;
+
+    if (!open_input(&from, name))
+        return 0;
+    load_stream(into, &from);
+    return close_input(&from);
+}
+
+int load_status(const loading *of)
+{
+    return of->refused || of->broken > of->padded || of->fontless ? INCOMPLETE : COMPLETE;
+}
+
+int load_files(char **names, size_t count)
+{
+    static loading into;
+    size_t file;
+
+    fresh_store();
+    into.next = OWN_NUMBERS;
+    for (file = 0; file < count; file++)
+        if (!load_file(&into, names[file]))
+            exit(FAILED);
+    return load_status(&into);
+}

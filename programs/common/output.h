@@ -1,0 +1,30 @@
+/* Files that programs write. */
+#ifndef OUTPUT_H
+#define OUTPUT_H
+
+#include <stddef.h>
+#include <stdio.h>
+
+/* Stops if a file to write is one of those that are read, by whatever name. No name, and "-", are
+ * standard output, which is not looked at. */
+void check_output(const char *name, char **inputs, size_t count);
+
+/* The same for one that is read, if it has a name. */
+void check_against(const char *name, const char *input);
+
+/* Opens a file to write; standard output without a name or with "-". To be called once there is
+ * something to write, so that a program that stops before leaves an older file as it was. */
+FILE *open_output(const char *name);
+
+/* Closes it, and stops if a write failed, also one that comes only now: a program's last step. */
+void close_output(FILE *to, const char *name);
+
+/* Bytes that are gathered before they are written. */
+typedef struct {
+    unsigned char *bytes;
+    size_t length, room;
+} gathered;
+
+void gather(gathered *into, const void *bytes, size_t length);
+
+#endif

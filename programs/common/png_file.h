@@ -1,0 +1,12 @@
+/* PNG, where the program is built with libpng: with WITH_PNG defined. */
+#ifndef PNG_FILE_H
+#define PNG_FILE_H
+
+#include "page.h"
+
+int can_write_png(void);
+
+/* Writes a page of so many dots to the inch, one bit to a dot. */
+void write_png(FILE *to, const page *from, uint32_t resolution);
+
+#endif
