@@ -502,7 +502,7 @@ uint32_t mf_make_fresh(uint8_t *store, size_t store_len);
  * Kept are these 64 or 68 bytes, with descriptor size 64 or 68, byte 5 zero, and pitch (16) and
  * height (18) cut to 16800 and 10922. Their extended bytes (40 for the pitch, 41 for the height)
  * are kept as sent, save that the one of a field that was cut is made 0. A font of format 0 is
- * kept with resolutions 300 and 300 behind its 64 bytes.
+ * kept with resolutions 300 and 300 after its 64 bytes.
  * Refuses, in this order (the numbers in brackets are the fields' places in the block):
  *   MF_NOT_A_STORE   not a store
  *   MF_OUT_OF_RANGE  font is above MF_FONT_MAX
@@ -689,7 +689,7 @@ mf_told mf_tell_font(const uint8_t *store, size_t store_len,
  * mf_character_fields_of takes the bytes apart.
  * Rows that no data has come for are drawn white. A character of class 1 is incomplete if it has
  * fewer data bytes than mf_picture_bytes(width, height). Of class 2 the number does not tell:
- *   right behind a block of its own that was taken, send a continuation without data, the two
+ *   right after a block of its own that was taken, send a continuation without data, the two
  *     bytes 4 and 1. It changes nothing, and answers MF_DONE if the character is incomplete,
  *     MF_NO_CHARACTER if not. Later MF_NO_CHARACTER says no more than that the character is not
  *     the open one;
@@ -733,7 +733,7 @@ uint32_t mf_draw_picture(const uint8_t *store, size_t store_len,
 /* Turns a picture clockwise into a second buffer: any rows of dots in the form that
  * mf_draw_picture draws, a whole page as well as a character.
  *   picture  height rows of mf_row_bytes(width) bytes, from the top, without gaps; bits beyond
- *            the width and bytes behind the rows are not looked at
+ *            the width and bytes after the rows are not looked at
  *   out      gets the turned picture, with bits beyond its width 0. A half turn needs
  *            mf_picture_bytes(width, height) bytes; a quarter and three quarters make width rows
  *            of height dots, so they need mf_picture_bytes(height, width), which may be more
@@ -864,7 +864,7 @@ static inline uint32_t mf_next_font(const uint8_t *store, size_t store_len, uint
     return MF_FONT_MAX + 1;
 }
 
-/* The bytes behind a store's records, which are free; 0 if it is no store. */
+/* The bytes after a store's records, which are free; 0 if it is no store. */
 static inline size_t mf_room_left(const uint8_t *store, size_t store_len)
 {
     uint8_t kept[MF_FONT_BYTES];
