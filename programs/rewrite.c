@@ -101,6 +101,7 @@ typedef struct {
     gap left_out;
     long number, code;    /* as the stream names them */
     long said, said_code; /* what is written has named last; -1 for none */
+    long last;            /* number of a font block; -1 for none */
     int status;
 } rewriting;
 
@@ -277,6 +278,32 @@ static int is_chosen(const rewriting *of)
     return chosen == NOT_GIVEN || chosen == of->number;
 }
 
+/* Whether a code, or a font's number, is another one that has lost a digit. */
+static int lacks_digit(long code, long of)
+{
+    long digit; /* 1 for the last, 10 for the one before it */
+
+    for (digit = 1; digit <= of; digit *= 10)
+        if (code == of / digit / 10 * digit + of % digit)
+            return 1;
+    return 0;
+}
+
+/* Tells the number of a font that may be one more than the number of the font before, without a
+ * digit. A job with pages may also send a font again. */
+static void check_number(rewriting *of, const printer_command *given)
+{
+    char what[100];
+
+    if (of->number < of->last && lacks_digit(of->number, of->last + 1) &&
+        !(quiet && fonts[of->number].headed)) {
+        snprintf(what, sizeof what, "follows font %ld, and may be %ld without a digit", of->last,
+                 of->last + 1);
+        warn(of, "number", given->place, of->number, -1, what);
+    }
+    of->last = of->number;
+}
+
 /* Writes a font block in its format, or in format 0, with the fields that were given. */
 static void rewrite_font(rewriting *of, const printer_command *given)
 {
@@ -286,6 +313,7 @@ static void rewrite_font(rewriting *of, const printer_command *given)
     judgement made;
     int at;
 
+    check_number(of, given);
     if (font->headed && !quiet)
         tell("%s: byte %llu, font %ld: replaces the font that came before under this number",
              shown(of->from->name), (unsigned long long)given->place, of->number);
@@ -311,12 +339,6 @@ static void rewrite_font(rewriting *of, const printer_command *given)
     gather(&of->written, block, length);
     of->said = of->number;
     of->said_code = -1;
-}
-
-/* Whether a code is another one that has lost a digit. */
-static int lacks_digit(long code, long of)
-{
-    return code == of / 10 || code == of / 100 * 10 + of % 10 || (of > 99 && code == of % 100);
 }
 
 /* Tells what speaks against a character's code: most files have their codes rising, and in most
@@ -524,7 +546,7 @@ int main(int argc, char **argv)
     char *only_standard[] = {standard};
     size_t count = take_arguments(&program, argc, argv);
     char **names = count ? argv + 1 : only_standard;
-    rewriting made = {NULL, {NULL, 0, 0}, {0, 0, 0, ""}, 0, 0, -1, -1, COMPLETE};
+    rewriting made = {NULL, {NULL, 0, 0}, {0, 0, 0, ""}, 0, 0, -1, -1, -1, COMPLETE};
     input from;
     FILE *to;
 

@@ -2,12 +2,10 @@
 
 #include <string.h>
 
-#define LETTER_WIDTH 5
 #define LETTER_STEP 6
 
 static const char order[] = "ABCDEFGHIJKLMNOPQRSTUVWXYZ0123456789.,-():";
 
-/* Each row's five dots, the highest of them leftmost. */
 static const unsigned char rows[sizeof order - 1][LETTER_HEIGHT] = {
     {14, 17, 17, 31, 17, 17, 17}, {30, 17, 17, 30, 17, 17, 30}, {14, 17, 16, 16, 16, 17, 14},
     {30, 17, 17, 17, 17, 17, 30}, {31, 16, 16, 30, 16, 16, 31}, {31, 16, 16, 30, 16, 16, 16},
@@ -23,6 +21,13 @@ static const unsigned char rows[sizeof order - 1][LETTER_HEIGHT] = {
     {31, 1, 2, 4, 8, 8, 8},       {14, 17, 17, 14, 17, 17, 14}, {14, 17, 17, 15, 1, 2, 12},
     {0, 0, 0, 0, 0, 12, 12},      {0, 0, 0, 0, 12, 4, 8},       {0, 0, 0, 14, 0, 0, 0},
     {2, 4, 8, 8, 8, 4, 2},        {8, 4, 2, 2, 2, 4, 8},        {0, 12, 12, 0, 12, 12, 0}};
+
+const unsigned char *letter_rows(char letter)
+{
+    const char *found = letter ? strchr(order, letter) : NULL;
+
+    return found ? rows[found - order] : NULL;
+}
 
 long words_width(const char *words, long scale)
 {
@@ -43,8 +48,8 @@ void write_words(page *on, const char *words, long left, long top, long scale)
 {
     for (; *words; words++, left += LETTER_STEP * scale) {
         char capital = *words >= 'a' && *words <= 'z' ? (char)(*words - 'a' + 'A') : *words;
-        const char *found = strchr(order, capital);
-        if (found)
-            write_letter(on, rows[found - order], left, top, scale);
+        const unsigned char *letter = letter_rows(capital);
+        if (letter)
+            write_letter(on, letter, left, top, scale);
     }
 }

@@ -5,7 +5,11 @@
 
 #include "page.h"
 
+#define LETTER_WIDTH 5
 #define LETTER_HEIGHT 7
+
+/* A letter's rows of five dots, the highest of them leftmost; NULL if there is no such letter. */
+const unsigned char *letter_rows(char letter);
 
 /* How wide words are, in letters of so many dots to a dot. */
 long words_width(const char *words, long scale);

@@ -1,25 +1,16 @@
 /* handmade SCALE [printer]
  *
- * Writes a soft font stream of capital letters, made here dot by dot, for trying the
+ * Writes a soft font stream of the capitals of letters.h, dot by dot, for trying the
  * programs: font 10 fixed, font 11 the same in bold, font 12 proportional, font 13 as 10
  * but landscape, font 14 as 10 but half a quarter-dot narrower and with a name, font 20 as
  * 10 but of 600 dots to the inch. SCALE dots make one dot of the letters, twice as many at
  * 600. With "printer" the same fonts come as a printer may get them:
  * commands joined, other commands, text and bytes between. */
+#include "letters.h"
+
 #include <stdio.h>
 #include <stdlib.h>
 #include <string.h>
-
-static const unsigned char letters[26][7] = {
-    {14, 17, 17, 31, 17, 17, 17}, {30, 17, 17, 30, 17, 17, 30}, {14, 17, 16, 16, 16, 17, 14},
-    {30, 17, 17, 17, 17, 17, 30}, {31, 16, 16, 30, 16, 16, 31}, {31, 16, 16, 30, 16, 16, 16},
-    {14, 17, 16, 23, 17, 17, 15}, {17, 17, 17, 31, 17, 17, 17}, {14, 4, 4, 4, 4, 4, 14},
-    {7, 2, 2, 2, 2, 18, 12},      {17, 18, 20, 24, 20, 18, 17}, {16, 16, 16, 16, 16, 16, 31},
-    {17, 27, 21, 21, 17, 17, 17}, {17, 25, 21, 19, 17, 17, 17}, {14, 17, 17, 17, 17, 17, 14},
-    {30, 17, 17, 30, 16, 16, 16}, {14, 17, 17, 17, 21, 18, 13}, {30, 17, 17, 30, 20, 18, 17},
-    {15, 16, 16, 14, 1, 1, 30},   {31, 4, 4, 4, 4, 4, 4},       {17, 17, 17, 17, 17, 17, 14},
-    {17, 17, 17, 17, 17, 10, 4},  {17, 17, 17, 21, 21, 27, 17}, {17, 17, 10, 4, 10, 17, 17},
-    {17, 17, 10, 4, 4, 4, 4},     {31, 1, 2, 4, 8, 16, 31}};
 
 typedef struct {
     int number, weight, spacing, orientation, resolution;
@@ -33,9 +24,10 @@ static int printer;
 /* A dot of a letter as large as it is printed. */
 static int upright(const font *of, int letter, int x, int y)
 {
+    int row = letter_rows((char)('A' + letter))[y / of->scale];
     int from = x - of->bold < 0 ? 0 : x - of->bold;
     for (; from <= x; from++)
-        if (from / of->scale < 5 && letters[letter][y / of->scale] >> (4 - from / of->scale) & 1)
+        if (from / of->scale < LETTER_WIDTH && row >> (LETTER_WIDTH - 1 - from / of->scale) & 1)
             return 1;
     return 0;
 }
