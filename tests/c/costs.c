@@ -135,11 +135,13 @@ static int read_stream(void)
     return read.refusal == MF_DONE && read.refused == 0;
 }
 
-/* It is called by a pointer that the compiler does not know, so that it stays a function. */
+/* The compiler does not see by which pointer it is called, and it does something after its call: so
+ * it stays a function that begins before the call and ends after it. */
 int counted(int (*call)(void));
 int counted(int (*call)(void))
 {
-    return call();
+    volatile int done = call();
+    return done;
 }
 
 int main(int argc, char **argv)
