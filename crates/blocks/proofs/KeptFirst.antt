@@ -6,7 +6,7 @@ use mathlib.Core.Bool.{Bool, true, false, not, _&&_}
 use native.Mathlib.Omega.{arith}
 use borrow.Author.Tests.{eqb-true, leb-true, le-leb, not-true}
 use lib.Dec.{T, ltb, ltb→lt, eqb}
-use lib.ListN.{length, set, take, drop, length-set, length-append}
+use lib.ListN.{length, set, take, drop, length-set, length-take, length-append}
 use lib.Seq.{getD-set-same, getD-take, length-take-le, take-all, take-append-seam, drop-append-seam}
 use Rattle.blocks.specs.Field.{byte, negative}
 use Rattle.blocks.specs.Character.{descriptorBytes, formatAt, continuedAt, descriptorSizeAt, classAt, orientationAt, reservedAt, leftOffsetAt, topOffsetAt, widthAt, heightAt, deltaXAt, format, continued, descriptorSize, class, deltaX, characterFormat, sizeTaken, kindOf, takenClass, heldClass, firstLength, firstForm, firstFields, firstSize, firstChecks, readFirst, fixFirst, keptFirst, fixedFirst, isKeptFirst}
@@ -186,3 +186,23 @@ module _ (k : List ℕ) (o : ℕ) (e : isKeptFirst k o ≡ true) where
 
     pub is-kept-block : (kindOf (k ++ d) ≡ First) × (readFirst (k ++ d) o ≡ Taken) × (keptFirst (k ++ d) ≡ k) × (drop descriptorBytes (k ++ d) ≡ d)
     is-kept-block = (behind-kind, behind-read, behind-again, subst (λ (n : ℕ). drop n (k ++ d) ≡ d) is-kept-length (drop-append-seam k d))
+
+-- ── a block by what is kept of its descriptor
+-- the descriptor alone is of the same kind, and the same is kept of it
+pub bare-kind : (b : List ℕ) → kindOf (take descriptorBytes b) ≡ kindOf b
+unfolding kindOf
+bare-kind b = simp (getD-take descriptorBytes b formatAt 0 (omega arith), getD-take descriptorBytes b continuedAt 0 (omega arith))
+
+pub bare-kept : (b : List ℕ) → keptFirst (take descriptorBytes b) ≡ keptFirst b
+unfolding keptFirst
+bare-kept b = ap fixFirst (take-all descriptorBytes (take descriptorBytes b) (simp length-take (omega arith)))
+
+-- a first block whose kept descriptor passes the test is accepted
+pub kept-read : (b : List ℕ) (o : ℕ) → isKeptFirst (keptFirst b) o ≡ true → readFirst b o ≡ Taken
+unfolding readFirst keptFirst fixFirst
+kept-read b o e =
+    let t = kept-tests b o in
+    let p = taken (firstChecks (keptFirst b) o) (is-kept-first (keptFirst b) o e .1) in
+    let l : length (keptFirst b) ≡ descriptorBytes = is-kept-length (keptFirst b) o e in
+    let long : descriptorBytes ≤ length b = omega (arith, simp (floor-length, length-set, length-take) at l) in
+    simp (le-leb descriptorBytes (length b) long, sym (t .0) ∙ p .1 .0, sym (t .1) ∙ p .1 .1 .0, sym (t .2) ∙ p .1 .1 .1 .0)

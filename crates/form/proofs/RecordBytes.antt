@@ -13,7 +13,7 @@ use Rattle.form.specs.Layout.{characterKeptAt, characterKind, characterR
 use Rattle.form.specs.Num.{num, le, field, allZero, Bytes}
 use Rattle.blocks.specs.Header.{isKeptHeader, headerBytes}
 use Rattle.blocks.specs.Character.{class, width, height, leftOffset, topOffset, readFirst, firstChecks, isKeptFirst, descriptorBytes, firstExtent}
-use Rattle.pictures.specs.Size.{dataLimit, within}
+use Rattle.pictures.specs.Size.{bitmapClass, runsClass, dataLimit, within}
 use Rattle.pictures.specs.Picture.{held}
 use Rattle.pictures.specs.declared.picture.Held.the-variants.{Foreign}
 use Rattle.blocks.proofs.KeptHeader.{is-kept-length as header-length}
@@ -111,15 +111,23 @@ held-kept o h d e = go (isKeptFirst h o) refl
     go true q = (q, rw q)
     go false q = let z : false ≡ true = rw q at e in let y : _≡_ {A = ℕ} 0 1 = cc in absurd (omega arith)
 
--- a kept descriptor has a width
-pub kept-width : (h : List ℕ) (o : ℕ) → isKeptFirst h o ≡ true → 0 < width h
+-- a kept descriptor has a width and a height
+pub kept-sides : (h : List ℕ) (o : ℕ) → isKeptFirst h o ≡ true → (0 < width h) × (0 < height h)
 unfolding readFirst
-kept-width h o e =
+kept-sides h o e =
     let f = taken (firstChecks h o) (is-kept-first h o e .1) .1 .1 .0 in
     let x = both-of (eqb (byte h 4) o) (firstExtent h) f .1 in
     let a : Bool = signedWithin 16 16384 (leftOffset h) && signedWithin 16 16384 (topOffset h) in
     let p = both-of (a && within 1 16384 (width h)) (within 1 16384 (height h)) x in
-    within-low 1 16384 (width h) (both-of a (within 1 16384 (width h)) (p .0) .1)
+    (within-low 1 16384 (width h) (both-of a (within 1 16384 (width h)) (p .0) .1), within-low 1 16384 (height h) (p .1))
+
+-- and one of the two classes
+pub kept-class : (h : List ℕ) (o : ℕ) → isKeptFirst h o ≡ true → (bitmapClass ≤ class h) × (class h ≤ runsClass)
+unfolding readFirst
+kept-class h o e =
+    let f = taken (firstChecks h o) (is-kept-first h o e .1) .1 .0 in
+    let p = both-of (eqb (byte h 2) 14) (within 1 2 (class h)) f .1 in
+    (within-low 1 2 (class h) p, leb-true (class h) 2 (both-of (leb 1 (class h)) (leb (class h) 2) p .1))
 
 -- what a character that may stand behind the font u has
 pub record Allowed (u : Under) (n c : ℕ) (h d : List ℕ) : Type 0 where

@@ -14,7 +14,7 @@ use Rattle.form.specs.Records.{isStore, recordsIn, recordsAt, RecordPlac
 use Rattle.form.specs.declared.records.Begin.the-variants.{At}
 use Rattle.form.proofs.Numbers.{zeros-field, both-l, both-r}
 use Rattle.form.proofs.Fields.{field-drop}
-use Rattle.form.proofs.RecordBytes.{zero-head, Headed, is-font, is-character, head-inv, guard-test, guard-is, allowed-char, allowed-font, kept-width}
+use Rattle.form.proofs.RecordBytes.{zero-head, Headed, is-font, is-character, head-inv, guard-test, guard-is, allowed-char, allowed-font, kept-sides}
 use Rattle.form.proofs.Codec.{sorted-inv, split-eq, consTo-some, storeOf, begins-parts}
 use Rattle.form.proofs.Totals.{total-append}
 
@@ -160,7 +160,7 @@ module _ (s : List ℕ) (at : ℕ) (p : RecordPlace s at) where
         orientation = p .behind .orientation;
         descriptor = a .kept;
         held = a .whole;
-        wide = kept-width _ _ (a .kept);
+        wide = kept-sides _ _ (a .kept) .0;
       }
 
   pub character-met : (field 4 at s ≡ 0 → ⊥) → (field 2 (at + kindAt) s ≡ fontKind → ⊥) → Passed

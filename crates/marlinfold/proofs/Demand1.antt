@@ -8,23 +8,21 @@ use mathlib.Core.Option.{Option, none, some}
 use lib.Dec.{leb, ltb}
 use lib.ListN.{length, drop}
 use Rattle.blocks.specs.Check.{Check, verdict}
-use Rattle.blocks.specs.Header.{headerBytes, orientation, headerChecks, readHeader, keptHeader}
-use Rattle.blocks.specs.Character.{descriptorBytes, continuationBytes, width, height, characterLength, kindOf, firstChecks, readFirst, keptFirst}
-use Rattle.pictures.specs.Size.{dataLimit, rowSize, pictureSize}
+use Rattle.blocks.specs.Header.{headerBytes, headerChecks, readHeader, keptHeader}
+use Rattle.blocks.specs.Character.{descriptorBytes, width, height}
+use Rattle.pictures.specs.Size.{rowSize, pictureSize}
 use Rattle.blocks.specs.declared.Verdict.the-variants.{Refused}
-use Rattle.blocks.specs.declared.character.Kind.{Kind}
-use Rattle.blocks.specs.declared.character.Kind.the-variants.{First, Continuation, Unknown}
-use Rattle.pictures.specs.declared.picture.Judged.{Judged}
-use Rattle.pictures.specs.declared.picture.Judged.the-variants.{Complete, Incomplete, PastWidth}
 use Rattle.form.specs.Layout.{leastStore, mostStore, lastFont}
 use Rattle.form.specs.Num.{_&_}
 use Rattle.form.specs.Model.{Rec, Store, decode}
 use Rattle.form.specs.Order.{fontAt, characterAt}
 use Rattle.form.specs.Checks.{onStore, checked, taking, finding, numbered, onFont, onCharacter}
-use Rattle.store.specs.Answer.{After, refuse, done, Telling, untold}
+use Rattle.store.specs.Answer.{After, noRun, refuse, done, Telling, untold}
 use Rattle.form.specs.Records.{isStore}
-use Rattle.store.specs.Calls.{used, makingFresh, putFont, removingFont, downloadingFont, removingCharacter, keptOf, dataOf, tellingFont, tellingCharacter}
-use Rattle.store.specs.Download.{putCharacter, withoutFont, byKind, names, withinWidth, judgedOf, keptOfData, downloadingCharacter}
+use Rattle.store.specs.Calls.{used, makingFresh, putFont, removingFont, downloadingFont, removingCharacter, keptOf, tellingFont, tellingCharacter}
+use Rattle.store.specs.Download.{downloadingCharacter}
+use Rattle.store.proofs.Again.{character-answers}
+use Rattle.form.proofs.Locates.{store-is}
 use Rattle.store.specs.Drawing.{drawingRow, rowOf, drawingPicture, pictureOf}
 use Rattle.choice.specs.Choosing.{choosing, choosingFromTwo}
 use Rattle.cartridge.specs.Cartridge.{recordAnswer, answeringFromTwo}
@@ -33,15 +31,16 @@ use Rattle.choice.specs.declared.Chosen.{Chosen}
 use Rattle.choice.specs.declared.Chosen.the-variants.{Number, NotStore, OutOfRange, NoFont}
 use Rattle.sheet.specs.Sheet.{Sheet, mostRequests, unanswered, choosingSheet}
 use Rattle.sheet.specs.declared.SheetAnswer.{SheetAnswer}
-use Rattle.stream.specs.Reading.{Reading, endAnswer, readingOf, reading}
+use Rattle.stream.specs.Reading.{Progress, Reading, endAnswer, readingOf, reading}
 use Rattle.stream.specs.declared.reading.Ending.{Ending}
 use Rattle.stream.specs.declared.reading.Ending.the-variants.{AtEnd, BrokenAt}
 use Rattle.turning.specs.Turn.{turnable, turnedSize, turned, unturned, turningPicture}
 use Rattle.stream.specs.Written.{WriteOut, unwritten, written, writingFont}
 use Rattle.profile.specs.Profile.{brokenIn, unchecked, meets, checkingProfile, writingProfiled}
 use Rattle.profile.specs.declared.check.ProfileChecked.{ProfileChecked}
-use Rattle.marlinfold.specs.Calls.{Call, make-fresh, download-font, download-character, remove-font, remove-character, choose-font, tell-font, tell-character, draw-row, draw-picture, write-font, read-stream, choose-sheet, turn-picture, check-profile, write-profiled, choose-from-two, outputOf, Outcome, ofChange, ofChoice, ofTelling, ofDrawing, ofWriting, ofReading, ofTurning, ofSheet, ofCheck, ofRecord, outcome}
-use Rattle.marlinfold.specs.Demands.{listed, isIn, others, unchanged, carriedOut, Refusal, as-listed, no-room, broken, Demand1}
+use Rattle.marlinfold.specs.Calls.{Call, make-fresh, download-font, download-character, remove-font, remove-character, choose-font, tell-font, tell-character, draw-row, draw-picture, write-font, read-stream, choose-sheet, turn-picture, check-profile, write-profiled, choose-from-two, outputOf, Outcome, answered, ofChange, ofDownload, ofChoice, ofTelling, ofDrawing, ofWriting, ofReading, ofTurning, ofSheet, ofCheck, ofRecord, outcome}
+use Rattle.marlinfold.specs.Demands.{listed, isIn, others, unchanged, carriedOut, Refusal, as-listed, no-room, past-width, broken, Demand1}
+use Rattle.marlinfold.proofs.BadRuns.{carried-first}
 
 -- the claim of an outcome
 abbrev Told : Call → List ℕ → Outcome → Type 0
@@ -205,41 +204,18 @@ turns-picture t w h pic out s = go (turnable t w h (length pic)) (leb (turnedSiz
 module _ (n c : ℕ) (b s : List ℕ) where
   sent : Way (download-character n c b) s After
   unfolding outputOf others
-  sent = record { of = ofChange; refuse = refuse s; same = λ k. refl }
-
-  module _ (st : Store) (e : decode s ≡ some st) where
-    -- 8, 9 and 10
-    received : (r : Rec) → fontAt n (st .recs) ≡ some r → (h d : List ℕ)
-        → Is sent (taking (refuse s) (withinWidth (judgedOf h d)) (checked (refuse s) (leb (length (keptOfData h d)) dataLimit) 9
-        (checked (withoutFont n st) (leb (used (putCharacter n c h (keptOfData h d) st)) (st .size)) 10 (done (putCharacter n c h (keptOfData h d) st)))))
-    unfolding listed sent
-    received r q h d =
-        within (judgedOf h d) _ (by-check sent (leb (length (keptOfData h d)) dataLimit) 9 _ refl (placed (leb (used (putCharacter n c h (keptOfData h d) st)) (st .size)) (putCharacter n c h (keptOfData h d) st)))
-      where
-        placed : (t : Bool) (u : Store) → Is sent (checked (withoutFont n st) t 10 (done u))
-        placed true u = inl refl
-        placed false u = inr (no-room n c b st r e q)
-
-        within : (j : Judged) (a : After) → Is sent a → Is sent (taking (refuse s) (withinWidth j) a)
-        within (Complete m) a p = p
-        within Incomplete a p = p
-        within (PastWidth row f x) a p = refused sent 8 refl
-
-    by-kind : (k : Kind) (first more : (List ℕ → List ℕ → After) → After) (both : List ℕ → List ℕ → After) → Is sent (first both) → Is sent (more both)
-        → Is sent (byKind (refuse s) k first more both)
-    unfolding listed sent
-    by-kind First first more both p q = p
-    by-kind Continuation first more both p q = q
-    by-kind Unknown first more both p q = refused sent 4 refl
+  sent = record { of = ofDownload; refuse = refuse s; same = λ k. refl }
 
   downloads-character : Claim (download-character n c b) s
-  unfolding listed sent downloadingCharacter readFirst
-  downloads-character =
-      by-store sent (decode s) _ refl (λ st e. by-check sent (numbered n c) 2 _ refl (by-check sent (characterLength b) 3 _ refl
-      (by-find sent (fontAt n (st .recs)) 6 _ refl (λ r q. by-kind st e (kindOf b) _ _ _
-      (by-verdict sent (firstChecks b (orientation (keptOf r))) _ (refl, (refl, (refl, (refl, tt)))) (received st e r q (keptFirst b) (drop descriptorBytes b)))
-      (by-check sent (names n c (st .mark)) 7 _ refl
-      (by-find sent (characterAt n c (st .recs)) 7 _ refl (λ x p. received st e r q (keptOf x) (dataOf x ++ drop continuationBytes b))))))))
+  unfolding listed sent
+  downloads-character = go (decode s) refl
+    where
+      go : (o : Option Store) → decode s ≡ o → Claim (download-character n c b) s
+      go none e = let z : downloadingCharacter n c b s ≡ refuse s 1 = unfold downloadingCharacter onStore in rw e in rw z (refused sent 1 refl)
+      go (some st) e =
+          character-answers n c b s (store-is s st e) (Is sent)
+          (refused sent 2 refl, refused sent 3 refl, refused sent 4 refl, refused sent 5 refl, refused sent 6 refl, refused sent 7 refl, refused sent 9 refl)
+          (λ row filled run x. inr (past-width n c b row filled run x)) (λ st h d x v. inl refl) (λ st h d x v. inr (no-room n c b st _ (x .guest .is) (x .guest .there)))
 
 -- ── two stores
 chooses-from-two : (p : Bool) (t : List ℕ) (r : Request) (s soft cartridge : List ℕ) (a : Chosen) → Told (choose-from-two p t r) s (ofRecord s (recordAnswer soft cartridge a))
@@ -253,7 +229,7 @@ chooses-from-two p t r s soft cartridge NoFont = inr (as-listed (choose-from-two
 reads : (b s : List ℕ) → Claim (read-stream b) s
 unfolding listed outputOf others reading isStore endAnswer
 reads b s =
-    let w : Way (read-stream b) s Reading = record { of = ofReading; refuse = λ k. record { answer = record { refusal = k; done = 0; refused = 0; place = 0 }; bytes = s }; same = λ k. refl } in
+    let w : Way (read-stream b) s Reading = record { of = ofReading; refuse = λ k. record { answer = record { refusal = k; done = 0; refused = 0; place = 0; bad = noRun }; bytes = s }; same = λ k. refl } in
     by-store w (decode s) _ refl (λ st e. ends (carriedOut b s .ending) refl (is st e))
   where
     is : (st : Store) → decode s ≡ some st → isStore s ≡ true
@@ -261,7 +237,9 @@ reads b s =
 
     ends : (o : Ending) → carriedOut b s .ending ≡ o → isStore s ≡ true → Told (read-stream b) s (ofReading (readingOf (carriedOut b s)))
     ends AtEnd q i = rw q (inl refl)
-    ends (BrokenAt at) q i = rw q (inr (broken b at i q))
+    ends (BrokenAt at) q i =
+        let x : Progress = carriedOut b s .progress in
+        rw q (inr (subst (λ (ns : List ℕ). Refusal s (read-stream b) (answered 13 (x .counts .done ∷ x .counts .refused ∷ at ∷ ns) (x .bytes) [])) (sym (carried-first b s)) (broken b at i q)))
 
 -- ── the claim
 pub demand1 : Demand1

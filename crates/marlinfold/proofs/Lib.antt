@@ -1,5 +1,6 @@
 pub mod Outcomes
 pub mod Line
+pub mod BadRuns
 pub mod Demand1
 pub mod Demand2
 pub mod Demand3

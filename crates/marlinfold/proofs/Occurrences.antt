@@ -2,13 +2,13 @@
 use mathlib.Core.Path.{_≡_, refl}
 use Rattle.marlinfold.specs.Calls.{Call, make-fresh, download-font, download-character, remove-font, remove-character, choose-font, tell-font, tell-character, draw-row, draw-picture, write-font, read-stream, choose-sheet, turn-picture, check-profile, write-profiled, choose-from-two}
 use Rattle.marlinfold.specs.Demands.{listed}
-use Rattle.marlinfold.specs.Occurrences.{kind, sending, at, some, plainCharacters, occurrences, beforeIf, numbersOf, AllOccur, ListedOccur}
+use Rattle.marlinfold.specs.Occurrences.{kind, firstBlock, sending, at, some, plainCharacters, occurrences, beforeIf, numbersOf, AllOccur, ListedOccur, badRow, badStart, fontSent, characterSent, tells, ownCases, OwnCasesOccur}
 use Rattle.marlinfold.specs.Trials.{A, requestIn, requestWith, asks}
 use Rattle.marlinfold.proofs.Computing.{computing}
 
 each : AllOccur occurrences
-unfolding computing occurrences at sending some plainCharacters
-each = (refl, (refl, (refl, (refl, (refl, (refl, (refl, (refl, (refl, (refl, (refl, (refl, (refl, (refl, (refl, (refl, (refl, (refl, (refl, (refl, (refl, (refl, (refl, (refl, (refl, (refl, (refl, (refl, (refl, (refl, (refl, (refl, (refl, (refl, (refl, (refl, (refl, (refl, (refl, (refl, (refl, (refl, (refl, (refl, (refl, (refl, (refl, (refl, (refl, (refl, (refl, (refl, (refl, (refl, (refl, (refl, (refl, (refl, (refl, (refl, (refl, (refl, (refl, (refl, (refl, (refl, tt))))))))))))))))))))))))))))))))))))))))))))))))))))))))))))))))))
+unfolding computing occurrences at sending firstBlock some plainCharacters
+each = (refl, (refl, (refl, (refl, (refl, (refl, (refl, (refl, (refl, (refl, (refl, (refl, (refl, (refl, (refl, (refl, (refl, (refl, (refl, (refl, (refl, (refl, (refl, (refl, (refl, (refl, (refl, (refl, (refl, (refl, (refl, (refl, (refl, (refl, (refl, (refl, (refl, (refl, (refl, (refl, (refl, (refl, (refl, (refl, (refl, (refl, (refl, (refl, (refl, (refl, (refl, (refl, (refl, (refl, (refl, (refl, (refl, (refl, (refl, (refl, (refl, (refl, (refl, (refl, (refl, tt)))))))))))))))))))))))))))))))))))))))))))))))))))))))))))))))))
 
 numbers : (c : Call) → numbersOf (kind c) occurrences ≡ listed c
 unfolding occurrences beforeIf numbersOf kind at sending some plainCharacters A requestIn requestWith asks listed
@@ -32,3 +32,7 @@ numbers (choose-from-two p t r) = refl
 
 pub listed-occur : ListedOccur
 listed-occur = (each, numbers)
+
+pub own-cases-occur : OwnCasesOccur
+unfolding computing badRow badStart fontSent characterSent tells ownCases sending firstBlock
+own-cases-occur = (refl, (refl, (refl, (refl, (refl, (refl, (refl, (refl, tt))))))))

@@ -5,8 +5,13 @@ use mathlib.Core.List.{List, [], _∷_}
 use Rattle.choice.specs.Choosing.{refusalOf, fontOf}
 use Rattle.choice.specs.declared.Chosen.{Chosen}
 use Rattle.turning.specs.Turn.{Turning}
+use Rattle.store.specs.Answer.{After, downloadedOf}
+use Rattle.store.specs.declared.download.Downloaded.{Downloaded}
 use Rattle.cartridge.specs.declared.RecordAnswer.{RecordAnswer}
-use Rattle.marlinfold.specs.Calls.{answered, ofChoice, ofTurning, ofRecord}
+use Rattle.marlinfold.specs.Calls.{answered, ofDownload, ofChoice, ofTurning, ofRecord}
+
+pub downloaded-by : {r : Downloaded} {a : After} {t : List ℕ} → r ≡ downloadedOf a → t ≡ a .bytes → answered (r .refusal) (r .bad .row ∷ r .bad .filled ∷ r .bad .run ∷ []) t [] ≡ ofDownload a
+downloaded-by e f = rw (e, f)
 
 pub chosen-by : {s : List ℕ} {x a : Chosen} {k n : ℕ} → k ≡ refusalOf x → n ≡ fontOf x → x ≡ a → answered k (n ∷ []) s [] ≡ ofChoice s a
 chosen-by p q e = rw (p, q, e)

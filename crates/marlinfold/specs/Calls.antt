@@ -87,6 +87,10 @@ answered k ns s out = record { refusal = k; numbers = ns; store = s; out = out }
 abbrev pub ofChange : After → Outcome
 ofChange a = answered (a .answer) [] (a .bytes) []
 
+-- W-209: a character block: the picture row being read, the dots already filled and the run that didn't fit
+abbrev pub ofDownload : After → Outcome
+ofDownload a = answered (a .answer) (a .bad .row ∷ a .bad .filled ∷ a .bad .run ∷ []) (a .bytes) []
+
 -- a call that is lent the store s to read alone: choosing answers the font number,
 abbrev pub ofChoice : List ℕ → Chosen → Outcome
 ofChoice s a = answered (refusalOf a) (fontOf a ∷ []) s []
@@ -103,9 +107,9 @@ ofDrawing s a = answered (a .answer) [] s (a .bytes)
 abbrev pub ofWriting : List ℕ → WriteOut → Outcome
 ofWriting s a = answered (a .refusal) (a .count ∷ []) s (a .out)
 
--- a stream: commands done, commands refused, the place of a 13
+-- a stream: commands done, commands refused, the place of a 13, W-209: the three numbers of its first refusal 8
 abbrev pub ofReading : Reading → Outcome
-ofReading a = answered (a .answer .refusal) (a .answer .done ∷ a .answer .refused ∷ a .answer .place ∷ []) (a .bytes) []
+ofReading a = answered (a .answer .refusal) (a .answer .done ∷ a .answer .refused ∷ a .answer .place ∷ a .answer .bad .row ∷ a .answer .bad .filled ∷ a .answer .bad .run ∷ []) (a .bytes) []
 
 -- a sheet: its answers are the output
 abbrev pub ofSheet : List ℕ → Sheet → Outcome
@@ -127,7 +131,7 @@ ofRecord s a = answered (a .refusal) (a .font ∷ a .which ∷ a .place ∷ []) 
 abbrev pub outcome : Call → List ℕ → Outcome
 outcome make-fresh s = ofChange (makingFresh s)
 outcome (download-font n b) s = ofChange (downloadingFont n b s)
-outcome (download-character n c b) s = ofChange (downloadingCharacter n c b s)
+outcome (download-character n c b) s = ofDownload (downloadingCharacter n c b s)
 outcome (remove-font n) s = ofChange (removingFont n s)
 outcome (remove-character n c) s = ofChange (removingCharacter n c s)
 outcome (choose-font r) s = ofChoice s (choosing s r)

@@ -1,18 +1,21 @@
 -- The demands, each one claim about the outcomes of calls. Document 01 in the other hand: its table of refusals for demand 1, its "Demand 3" for
 -- the third.
-use Prim.Native.Nat.{ℕ, _+_, _*_, _<_}
+use Prim.Native.Nat.{ℕ, _+_, _*_, _<_, _≤_}
 use mathlib.Core.Path.{_≡_}
 use mathlib.Core.Logic.{_⊎_, _↔_}
 use mathlib.Core.List.{List, [], _∷_}
 use mathlib.Core.Bool.{Bool, true, false, cond, _||_}
 use mathlib.Core.Option.{some}
 use lib.Dec.{eqb}
-use lib.ListN.{length, take, getD, replicate}
+use lib.ListN.{length, take, drop, getD, replicate}
+use Rattle.blocks.specs.Header.{blockLimit}
 use Rattle.form.specs.Model.{Rec, Store, encode, decode}
 use Rattle.form.specs.Order.{fontAt}
 use Rattle.form.specs.Records.{isStore, FontStands, CountsTrue}
 use Rattle.form.specs.Fonts.{Font, fontsOf}
+use Rattle.store.specs.Answer.{noRun}
 use Rattle.store.specs.Calls.{removeFont}
+use Rattle.store.specs.BadRuns.{BadRunIn, withoutData}
 use Rattle.choice.specs.Request.{inRange}
 use Rattle.choice.specs.Lists.{In}
 use Rattle.choice.specs.Candidates.{Candidate, asFont, candidates, ofBoth}
@@ -25,7 +28,7 @@ use Rattle.stream.specs.Reading.{Progress, Ended, firstTarget, noneCounted, rea
 use Rattle.stream.specs.declared.reading.Ending.the-variants.{BrokenAt}
 use Rattle.stream.specs.RoundTrip.{onlyFont}
 use Rattle.marlinfold.specs.Calls.{Call, make-fresh, download-font, download-character, remove-font, remove-character, choose-font, tell-font, tell-character, draw-row, draw-picture, write-font, read-stream, choose-sheet, turn-picture, check-profile, write-profiled, choose-from-two, outputOf, Outcome, answered, ofChoice, outcome, answer, leaves, ran}
-use Rattle.marlinfold.specs.Book.{bookFrom, bookAfter}
+use Rattle.marlinfold.specs.Book.{spelledCalls, bookFrom, bookAfter}
 
 -- ── demand 1: a call is done, or it refuses as the table says
 
@@ -35,8 +38,8 @@ unfoldable pub listed : Call → List ℕ
 listed make-fresh = 1 ∷ []
 -- "Length 64..32767, else 3", "else 4. Then, else 5" (W-206: format 20 by the same numbers), "It is refused with 10 exactly if the records would then not fit."
 listed (download-font n b) = 1 ∷ 2 ∷ 3 ∷ 4 ∷ 5 ∷ 10 ∷ []
--- "else 3; font present, else 6; byte 0 is 4, else 4"; a first block 3, 4, 5 and 9, a continuation 7; "Then, for both: 8 .. 9"
-listed (download-character n c b) = 1 ∷ 2 ∷ 3 ∷ 6 ∷ 4 ∷ 5 ∷ 9 ∷ 7 ∷ 8 ∷ []
+-- "else 3; font present, else 6; byte 0 is 4, else 4"; a first block 3, 4, 5 and 9, a continuation 7; "Then, for both: .. 9"
+listed (download-character n c b) = 1 ∷ 2 ∷ 3 ∷ 6 ∷ 4 ∷ 5 ∷ 9 ∷ 7 ∷ []
 -- "Removing checks 1, 2, 6, then 7 for a character."
 listed (remove-font n) = 1 ∷ 2 ∷ 6 ∷ []
 listed (remove-character n c) = 1 ∷ 2 ∷ 6 ∷ 7 ∷ []
@@ -70,7 +73,7 @@ isIn k (x ∷ l) = eqb k x || isIn k l
 unfoldable pub others : Call → ℕ
 others make-fresh = 0
 others (download-font n b) = 0
-others (download-character n c b) = 0
+others (download-character n c b) = 3
 others (remove-font n) = 0
 others (remove-character n c) = 0
 others (choose-font r) = 1
@@ -79,7 +82,7 @@ others (tell-character n c out) = 1
 others (draw-row n c row out) = 0
 others (draw-picture n c out) = 0
 others (write-font n out) = 1
-others (read-stream b) = 3
+others (read-stream b) = 6
 others (choose-sheet rs out) = 0
 others (turn-picture t w h pic out) = 0
 others (check-profile n) = 2
@@ -92,10 +95,18 @@ unchanged c k s = answered k (replicate (others c) 0) s (outputOf c)
 
 -- the whole commands of a stream before any 13, carried out on the buffer s
 abbrev pub carriedOut : List ℕ → List ℕ → Ended
-carriedOut b s = readFrom b 0 firstTarget (record { counts = noneCounted; bytes = s })
+carriedOut b s = readFrom b 0 firstTarget (record { counts = noneCounted; bad = noRun; bytes = s })
 
-abbrev pub stoppedAt : ℕ → Progress → Outcome
-stoppedAt at x = answered 13 (x .counts .done ∷ x .counts .refused ∷ at ∷ []) (x .bytes) []
+-- W-209: of calls made one by one on the buffer s, the three numbers of the first that is refused with 8; "0 for all three otherwise"
+unfoldable pub firstBadRun : List Call → List ℕ → List ℕ
+firstBadRun [] s = 0 ∷ 0 ∷ 0 ∷ []
+firstBadRun (c ∷ cs) s = cond (eqb (outcome c s .refusal) 8) (outcome c s .numbers) (firstBadRun cs (leaves c s))
+
+-- 13 at a place: the counts so far, the place, and "the stream for its first such refusal, also where it ends in 13"
+abbrev pub stoppedAt : ℕ → List ℕ → List ℕ → Outcome
+stoppedAt at b s =
+    let x : Progress = carriedOut b s .progress in
+    answered 13 (x .counts .done ∷ x .counts .refused ∷ at ∷ firstBadRun (spelledCalls b) s) (x .bytes) []
 
 -- The outcomes of a call on the buffer s that are refusals. Whether and with what number a call refuses is its line of `outcome`, where the exact
 -- condition of each refusal stands; that each listed number occurs is the claim `ListedOccur`.
@@ -104,11 +115,13 @@ pub data Refusal (s : List ℕ) : Call → Outcome → Type 0 where
   -- 10, "character block: its font and all its characters removed"
   no-room :
       (n c : ℕ) (b : List ℕ) (st : Store) (r : Rec) → decode s ≡ some st → fontAt n (st .recs) ≡ some r
-      → Refusal s (download-character n c b) (answered 10 [] (encode (removeFont n st)) [])
+      → Refusal s (download-character n c b) (answered 10 (0 ∷ 0 ∷ 0 ∷ []) (encode (removeFont n st)) [])
+  -- 8, W-209: "This amends '0 for every other number' in document 01 for refusal 8 and a stream's 13 alone."
+  past-width :
+      (n c : ℕ) (b : List ℕ) (row filled run : ℕ) → BadRunIn n c b s row filled run
+      → Refusal s (download-character n c b) (answered 8 (row ∷ filled ∷ run ∷ []) s [])
   -- 13, "commands before it stay done"; it "gives its place and the counts so far"
-  broken :
-      (b : List ℕ) (at : ℕ) → isStore s ≡ true → carriedOut b s .ending ≡ BrokenAt at
-      → Refusal s (read-stream b) (stoppedAt at (carriedOut b s .progress))
+  broken : (b : List ℕ) (at : ℕ) → isStore s ≡ true → carriedOut b s .ending ≡ BrokenAt at → Refusal s (read-stream b) (stoppedAt at b s)
 
 -- demand 1: for every call with any numbers and any buffers
 abbrev pub Demand1 : Type 0
@@ -269,6 +282,34 @@ SheetBySingles =
     → let sheet : List ℕ = outcome (choose-sheet rs out) s .out in
     let choice : Outcome = outcome (choose-font (getD rs i none)) s in
     (getD sheet (2 * i) 0 ≡ getD (choice .numbers) 0 0) × (getD sheet (2 * i + 1) 0 ≡ choice .refusal)
+
+-- ── W-209: "say which row was bad"
+-- "The row reader is to answer with the picture row being read, counted from 0 with repeats, the dots already filled and the run that didn't fit; the
+-- character download and stream reading carry these three numbers to their own answers": the numbers beside an 8 are those of the row rules
+abbrev pub BadRunTold : Type 0
+BadRunTold =
+    (n c : ℕ) (b s : List ℕ)
+    → let o : Outcome = outcome (download-character n c b) s in
+    o .refusal ≡ 8 → BadRunIn n c b s (getD (o .numbers) 0 0) (getD (o .numbers) 1 0) (getD (o .numbers) 2 0)
+
+-- data with such a run is never taken, nor does it cost the font
+abbrev pub BadRunRefused : Type 0
+BadRunRefused =
+    (n c : ℕ) (b s : List ℕ) (row filled run : ℕ) → BadRunIn n c b s row filled run
+    → let k : ℕ = outcome (download-character n c b) s .refusal in
+    (k ≡ 0 → ⊥) × (k ≡ 10 → ⊥)
+
+-- and it is refused with 8 wherever the same block without its data is taken, or finds no room
+abbrev pub BadRunExactly : Type 0
+BadRunExactly =
+    (n c : ℕ) (b s : List ℕ) (row filled run : ℕ) → BadRunIn n c b s row filled run → length b ≤ blockLimit
+    → let k : ℕ = outcome (download-character n c (withoutData b)) s .refusal in
+    (k ≡ 0) ⊎ (k ≡ 10) → outcome (download-character n c b) s ≡ answered 8 (row ∷ filled ∷ run ∷ []) s []
+
+-- "the stream for its first such refusal, also where it ends in 13, and 0 for all three otherwise": its last three numbers are those of the first of
+-- its downloads, made one by one, that is refused with 8, and 0 if none is; on any buffer, and however the stream ends
+abbrev pub StreamFirstBadRun : Type 0
+StreamFirstBadRun = (b s : List ℕ) → drop 3 (outcome (read-stream b) s .numbers) ≡ firstBadRun (spelledCalls b) s
 
 -- ── W-205: "Every download, replacement, continuation and removal, also the one for lack of room, keeps both equal to a fresh count."
 -- for every call, reading a stream among them: on a store it leaves a store; and wherever it leaves one, as making fresh does of any buffer of an

@@ -1,14 +1,15 @@
 -- Demand 1: each number that is listed for a call occurs, so that none is listed in vain. One table, computed.
 use Prim.Native.Nat.{ℕ, zero, suc, _+_, _-_, _/_, _%_}
 use mathlib.Core.Path.{_≡_}
-use mathlib.Core.List.{List, [], _∷_}
+use mathlib.Core.List.{List, [], _∷_, _++_}
 use mathlib.Core.Bool.{Bool, true, false}
 use lib.Dec.{eqb}
 use lib.ListN.{replicate}
 use Rattle.form.specs.Layout.{leastStore, markRecord, fontRecord, characterRecord}
-use Rattle.marlinfold.specs.Calls.{Call, make-fresh, download-font, download-character, remove-font, remove-character, choose-font, tell-font, tell-character, draw-row, draw-picture, write-font, read-stream, choose-sheet, turn-picture, check-profile, write-profiled, choose-from-two, outcome}
+use Rattle.stream.specs.Writing.{setFont, setCode, fontBlock, characterBlock}
+use Rattle.marlinfold.specs.Calls.{Call, make-fresh, download-font, download-character, remove-font, remove-character, choose-font, tell-font, tell-character, draw-row, draw-picture, write-font, read-stream, choose-sheet, turn-picture, check-profile, write-profiled, choose-from-two, Outcome, outcome}
 use Rattle.marlinfold.specs.Demands.{listed}
-use Rattle.marlinfold.specs.Trials.{A, requestWith, asks, storeAfter}
+use Rattle.marlinfold.specs.Trials.{header, A, requestWith, asks, storeAfter}
 
 -- the calls by the order in which documents 01 and 02 name them
 unfoldable pub kind : Call → ℕ
@@ -30,10 +31,12 @@ kind (check-profile n) = 15
 kind (write-profiled n out) = 16
 kind (choose-from-two p t r) = 17
 
--- a first block of class 2 for font 5, w dots wide and h rows high
+-- a first block of class 2, w dots wide and h rows high, and one for font 5
+unfoldable pub firstBlock : ℕ → ℕ → List ℕ → List ℕ
+firstBlock w h d = 4 ∷ 0 ∷ 14 ∷ 2 ∷ 0 ∷ 0 ∷ 0 ∷ 0 ∷ 0 ∷ 0 ∷ w / 256 ∷ w % 256 ∷ h / 256 ∷ h % 256 ∷ 0 ∷ 0 ∷ d
+
 unfoldable pub sending : ℕ → ℕ → List ℕ → Call
-sending w h d =
-    download-character 5 65 (4 ∷ 0 ∷ 14 ∷ 2 ∷ 0 ∷ 0 ∷ 0 ∷ 0 ∷ 0 ∷ 0 ∷ w / 256 ∷ w % 256 ∷ h / 256 ∷ h % 256 ∷ 0 ∷ 0 ∷ d)
+sending w h d = download-character 5 65 (firstBlock w h d)
 
 -- a call after others on a buffer of so many bytes, made fresh if it could be (none can be of 0 bytes), and the number that it refuses with
 pub record Occurrence : Type 0 where
@@ -79,7 +82,6 @@ occurrences =
     ∷ at oneFont (A ∷ []) (sending 0 1 []) 5
     ∷ at oneFont (A ∷ []) (sending 1024 257 []) 9
     ∷ at oneFont (A ∷ []) (download-character 5 65 (4 ∷ 1 ∷ [])) 7
-    ∷ at oneFont (A ∷ []) (sending 10 1 (0 ∷ 4 ∷ 7 ∷ [])) 8
     ∷ at 0 [] (remove-font 5) 1
     ∷ at leastStore [] (remove-font 32768) 2
     ∷ at leastStore [] (remove-font 5) 6
@@ -149,3 +151,51 @@ numbersOf k (o ∷ l) = beforeIf (eqb (kind (o .call)) k) (o .number) (numbersOf
 -- the claim: each line of the table is so, and its numbers for a call are just those that are listed for it
 abbrev pub ListedOccur : Type 0
 ListedOccur = AllOccur occurrences × ((c : Call) → numbersOf (kind c) occurrences ≡ listed c)
+
+-- ── 8, 10 and 13, which demand 1 has cases of their own for, with all their numbers; W-209's three through streams too
+-- two characters of A 10 dots wide with a run past the width: in row 2, after a row that is drawn twice; and in row 0, at its first run
+unfoldable pub badRow : List ℕ
+badRow = firstBlock 10 4 (1 ∷ 10 ∷ 0 ∷ 4 ∷ 7 ∷ [])
+
+unfoldable pub badStart : List ℕ
+badStart = firstBlock 10 4 (3 ∷ 11 ∷ [])
+
+-- the commands of a stream that send A, and then a character of it
+unfoldable pub fontSent : List ℕ
+fontSent = setFont 5 ++ fontBlock (header 0 0 277 120 200 0 3)
+
+unfoldable pub characterSent : List ℕ → List ℕ
+characterSent b = setCode 65 ++ characterBlock b
+
+-- a call after others on a buffer of so many bytes, and what it answers: the refusal, then its other numbers
+pub record Answered : Type 0 where
+  pub size : ℕ
+  pub before : List Call
+  pub call : Call
+  pub numbers : List ℕ
+
+unfoldable pub tells : ℕ → List Call → Call → List ℕ → Answered
+tells size cs c ks = record { size = size; before = cs; call = c; numbers = ks }
+
+unfoldable pub ownCases : List Answered
+ownCases =
+    tells oneFont (A ∷ []) (download-character 5 65 badRow) (8 ∷ 2 ∷ 4 ∷ 7 ∷ [])
+    ∷ tells oneFont (A ∷ []) (download-character 5 65 badStart) (8 ∷ 0 ∷ 0 ∷ 11 ∷ [])
+    -- in a continuation rows count from the picture's top
+    ∷ tells (oneCharacter + 1) (A ∷ sending 10 4 (1 ∷ 10 ∷ 0 ∷ []) ∷ []) (download-character 5 65 (4 ∷ 1 ∷ 4 ∷ 7 ∷ [])) (8 ∷ 2 ∷ 4 ∷ 7 ∷ [])
+    ∷ tells oneFont (A ∷ []) (sending 10 1 (0 ∷ 10 ∷ [])) (10 ∷ 0 ∷ 0 ∷ 0 ∷ [])
+    -- commands done, commands refused, the place of a 13; then the numbers of the first 8, whatever comes after it
+    ∷ tells oneFont [] (read-stream fontSent) (0 ∷ 2 ∷ 0 ∷ 0 ∷ 0 ∷ 0 ∷ 0 ∷ [])
+    ∷ tells oneFont [] (read-stream (fontSent ++ (characterSent badRow ++ (characterSent badStart ++ setCode 66)))) (0 ∷ 5 ∷ 2 ∷ 0 ∷ 2 ∷ 4 ∷ 7 ∷ [])
+    ∷ tells oneFont [] (read-stream (fontSent ++ (characterSent badRow ++ (27 ∷ 69 ∷ [])))) (13 ∷ 3 ∷ 1 ∷ 108 ∷ 2 ∷ 4 ∷ 7 ∷ [])
+    ∷ tells oneFont [] (read-stream (27 ∷ [])) (13 ∷ 0 ∷ 0 ∷ 0 ∷ 0 ∷ 0 ∷ 0 ∷ [])
+    ∷ []
+
+abbrev pub AllTold : List Answered → Type 0
+AllTold [] = Unit {0}
+AllTold (o ∷ l) =
+    let x : Outcome = outcome (o .call) (storeAfter (o .size) (o .before)) in
+    (x .refusal ∷ x .numbers ≡ o .numbers) × AllTold l
+
+abbrev pub OwnCasesOccur : Type 0
+OwnCasesOccur = AllTold ownCases

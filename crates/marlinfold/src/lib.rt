@@ -14,6 +14,7 @@ use profile::check::ProfileChecked;
 use sheet::SheetAnswer;
 use store::characters;
 use store::download;
+use store::download::Downloaded;
 use store::drawing;
 use store::fonts;
 use store::telling::Told;
@@ -45,8 +46,13 @@ pub extern "C" fn mf_download_font(store: &mut [u8], block: &[u8], font: u32) ->
 }
 
 #[no_mangle]
-pub extern "C" fn mf_download_character(store: &mut [u8], block: &[u8], font: u32, code: u32) -> u32
-    ensures { λ r. ⌜ answered r [] (now (store .exit)) [] ≡ outcome (download-character font code (now (block .entry))) (now (store .entry)) ⌝ }
+pub extern "C" fn mf_download_character(
+    store: &mut [u8],
+    block: &[u8],
+    font: u32,
+    code: u32,
+) -> Downloaded
+    ensures { λ r. ⌜ answered (r .refusal) (r .bad .row ∷ r .bad .filled ∷ r .bad .run ∷ []) (now (store .exit)) [] ≡ outcome (download-character font code (now (block .entry))) (now (store .entry)) ⌝ }
 {
     download::download_character(store, block, font, code)
 }
@@ -168,7 +174,7 @@ pub extern "C" fn mf_write_font(store: &[u8], out: &mut [u8], font: u32) -> Writ
 
 #[no_mangle]
 pub extern "C" fn mf_read_stream(store: &mut [u8], stream: &[u8]) -> StreamRead
-    ensures { λ r. ⌜ answered (r .refusal) (r .done ∷ r .refused ∷ r .place ∷ []) (now (store .exit)) [] ≡ outcome (read-stream (now (stream .entry))) (now (store .entry)) ⌝ }
+    ensures { λ r. ⌜ answered (r .refusal) (r .done ∷ r .refused ∷ r .place ∷ r .bad .row ∷ r .bad .filled ∷ r .bad .run ∷ []) (now (store .exit)) [] ≡ outcome (read-stream (now (stream .entry))) (now (store .entry)) ⌝ }
 {
     reading::read_stream(store, stream)
 }

@@ -11,7 +11,7 @@ use lib.ListN.{length, take, drop, length-append, take-append-drop}
 use lib.Seq.{length-take-le}
 use Rattle.pictures.specs.Size.{bitmapClass, pictureSize, dataLimit}
 use Rattle.pictures.specs.Runs.{scanFrom, start}
-use Rattle.pictures.specs.Rows.{bitmapRow, runsRow, rowsFrom, rowsDrawn, count, rowDots, picture}
+use Rattle.pictures.specs.Rows.{bitmapRow, runsRow, rowsFrom, count, rowDots, picture}
 use Rattle.pictures.specs.Picture.{judge, judgeBitmap, judgeScan, PastRun, keptData, held, heldBy}
 use Rattle.pictures.specs.declared.runs.Reader.{Reader}
 use Rattle.pictures.specs.declared.runs.Scanned.{Scanned}
@@ -20,7 +20,8 @@ use Rattle.pictures.specs.declared.picture.Judged.{Judged}
 use Rattle.pictures.specs.declared.picture.Judged.the-variants.{Complete, Incomplete, PastWidth}
 use Rattle.pictures.specs.declared.picture.Held.the-variants.{Whole, Unfinished, Foreign}
 use Rattle.pictures.proofs.Used.{scan-used, scan-take, prefix-past, prefix-open, prefix-still-open}
-use Rattle.pictures.proofs.Completeness.{complete-height, past-rows, rows-past}
+use Rattle.pictures.proofs.Completeness.{complete-height}
+use Rattle.pictures.proofs.PastRuns.{scanned-past, past-scanned}
 use Rattle.pictures.proofs.Bitmaps.{bitmap-take}
 use Rattle.pictures.proofs.Lines.{prefix-row}
 use Rattle.pictures.proofs.Pictures.{picture-rows}
@@ -144,18 +145,22 @@ module _ (k w h : ℕ) where
   unfolding judge rowDots
   take-picture d n e = picture-rows k w (take n d) d h (λ r l. dots-as w h (eqb k 1) d n e r l)
 
-  -- ---- 8 by the rows that the data draws
-  pub judged-past : (d : List ℕ) (row f b : ℕ) → 0 < h → judge k w h d ≡ PastWidth row f b → PastRun (rowsDrawn w) w h d row f b
+  -- ---- 8 by the bytes of the data
+  pub judged-past : (d : List ℕ) (row f b : ℕ) → 0 < w → 0 < h → judge k w h d ≡ PastWidth row f b → PastRun w 0 d row f b × (row < h)
   unfolding judge
-  judged-past d row f b l e = past-of (eqb k bitmapClass) e
+  judged-past d row f b wide l e = past-of (eqb k bitmapClass) e
     where
-      past-of : (t : Bool) → judgeAs w h t d ≡ PastWidth row f b → PastRun (rowsDrawn w) w h d row f b
+      past-of : (t : Bool) → judgeAs w h t d ≡ PastWidth row f b → PastRun w 0 d row f b × (row < h)
       past-of true e = absurd (bitmap-past (pictureSize w h) row f b (leb (pictureSize w h) (length d)) e)
-      past-of false e = past-rows w h d row f b l (scan-past (scanFrom w h 0 start d) row f b e)
+      past-of false e = scanned-past w h d row f b wide l (scan-past (scanFrom w h 0 start d) row f b e)
 
-  pub past-judged : (d : List ℕ) (row f b : ℕ) → (k ≡ bitmapClass → ⊥) → PastRun (rowsDrawn w) w h d row f b → judge k w h d ≡ PastWidth row f b
+  pub past-class : (d : List ℕ) (row f b : ℕ) → judge k w h d ≡ PastWidth row f b → k ≡ bitmapClass → ⊥
   unfolding judge
-  past-judged d row f b n x = rw (ne-eqb k bitmapClass n, rows-past w h d row f b x)
+  past-class d row f b e q = bitmap-past (pictureSize w h) row f b (leb (pictureSize w h) (length d)) (rw q at e)
+
+  pub past-judged : (d : List ℕ) (row f b : ℕ) → (k ≡ bitmapClass → ⊥) → PastRun w 0 d row f b → row < h → judge k w h d ≡ PastWidth row f b
+  unfolding judge
+  past-judged d row f b n x l = rw (ne-eqb k bitmapClass n, past-scanned w h d row f b x l)
 
   -- ---- what is kept, by what it was judged
   pub kept-complete : (d : List ℕ) (n : ℕ) → judge k w h d ≡ Complete n → keptData k w h d ≡ take n d

@@ -8,6 +8,7 @@ pub mod Copies
 pub mod Pictures
 pub mod Bitmaps
 pub mod Completeness
+pub mod PastRuns
 pub mod Used
 pub mod KeptData
 pub mod Examples

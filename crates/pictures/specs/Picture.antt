@@ -1,5 +1,5 @@
 -- Document 01, picture data of either class: when it is complete, and what is kept of it.
-use Prim.Native.Nat.{ℕ, _+_, _-_, _<_, _≤_}
+use Prim.Native.Nat.{ℕ, _+_, _<_}
 use mathlib.Core.Path.{_≡_}
 use mathlib.Core.List.{List, [], _∷_, _++_}
 use mathlib.Core.Bool.{cond}
@@ -28,18 +28,22 @@ judgeScan (ScanPast row f b) = PastWidth row f b
 unfoldable pub judge : ℕ → ℕ → ℕ → List ℕ → Judged
 judge k w h d = cond (eqb k bitmapClass) (judgeBitmap w h (length d)) (judgeScan (scanFrom w h 0 start d))
 
--- A run b past the width w in data d, told by how many rows data draws: it stands behind `before`; the rows drawn are `row` in number, fewer than
--- the height h; and f dots of the row in progress are filled, for a run of just the other w - f dots in its place would end that row. The laws
--- `judged-past` and `past-judged` say that 8 is just this.
-pub record PastRun (drawn : List ℕ → ℕ) (w h : ℕ) (d : List ℕ) (row f b : ℕ) : Type 0 where
-  pub before : List ℕ
-  pub behind : List ℕ
-  pub parts : d ≡ before ++ (b ∷ behind)
-  pub rows : drawn before ≡ row
-  pub below : row < h
-  pub filled : f ≤ w
-  pub past : w < f + b
-  pub ends : row < drawn (before ++ ((w - f) ∷ []))
+-- the dots of runs together
+unfoldable pub runDots : List ℕ → ℕ
+runDots [] = 0
+runDots (b ∷ runs) = b + runDots runs
+
+-- W-209: "the picture row being read, counted from 0 with repeats, the dots already filled and the run that didn't fit", by the bytes of class 2 data
+-- from picture row `top` on, for a picture w dots wide. First come whole rows: runs that sum to the width with the last of them, each row drawn once
+-- and `repeats` times again. Then comes the row being read: runs that sum to less than the width, and one that passes it. The laws `judged-past` and
+-- `past-judged` say that 8 is just this in a row below the height.
+pub data PastRun (w : ℕ) : ℕ → List ℕ → ℕ → ℕ → ℕ → Type 0 where
+  whole-row :
+      (top repeats last : ℕ) (runs later : List ℕ) (row filled run : ℕ) → runDots runs < w → runDots runs + last ≡ w
+      → PastRun w (top + 1 + repeats) later row filled run → PastRun w top (repeats ∷ (runs ++ (last ∷ later))) row filled run
+  bad-row :
+      (row repeats run : ℕ) (runs later : List ℕ) → runDots runs < w → w < runDots runs + run
+      → PastRun w row (repeats ∷ (runs ++ (run ∷ later))) row (runDots runs) run
 
 -- document 01's number for data: "8 if class 2 data has a run past the width before all rows are drawn"
 abbrev pub judgedNumber : Judged → ℕ

@@ -14,7 +14,6 @@ use Rattle.blocks.specs.Header.{orientation}
 use Rattle.blocks.specs.Character.{class, width, height, isKeptFirst, descriptorBytes, continuationBytes}
 use Rattle.pictures.specs.Size.{dataLimit}
 use Rattle.pictures.specs.Picture.{judge, keptData, held}
-use Rattle.blocks.specs.declared.Verdict.the-variants.{Taken}
 use Rattle.pictures.specs.declared.picture.Held.{Held}
 use Rattle.pictures.specs.declared.picture.Held.the-variants.{Whole, Unfinished, Foreign}
 use Rattle.pictures.specs.declared.picture.Judged.{Judged}
@@ -25,8 +24,8 @@ use Rattle.form.specs.Num.{_&_, field}
 use Rattle.form.specs.Model.{Rec, character, Under, under, alone, sorted, heldOf, heldUnder, isKept, isUnfinished, unfinished, opened, markOk, markIn, key}
 use Rattle.form.specs.Order.{find}
 use Rattle.form.specs.Checks.{onStore, checked, finding}
-use Rattle.store.specs.Answer.{refuse}
-use Rattle.store.specs.Download.{names, withinWidth}
+use Rattle.store.specs.Answer.{After, refuse}
+use Rattle.store.specs.Download.{names, refuseRun, withinWidth}
 use Rattle.store.specs.Putting.{placing, placed, receiving, receivingMore, puttingMore}
 use Rattle.form.specs.Walk.{Growing, Continued, keptAt, dataAt}
 use Rattle.form.specs.declared.walk.Places.{Places}
@@ -134,7 +133,7 @@ module _ (n c : ℕ) (b s : List ℕ) (w : Places) (x : Host n c s w) where
     unfolding puttingMore receivingMore onStore finding
     more-call = rw (x .ready .is, ← (mark-is n (c + 1) s w (x .ready)), q, opened-there n c s w x q .there)
 
-    pub more-past : (row f r : ℕ) → joined ≡ PastWidth row f r → puttingMore n c b s ≡ refuse s 8
+    pub more-past : (row f r : ℕ) → joined ≡ PastWidth row f r → puttingMore n c b s ≡ refuseRun s row f r
     unfolding receiving
     more-past row f r e = more-call ∙ rw e
 
@@ -166,9 +165,9 @@ module _ (n c : ℕ) (b s : List ℕ) (w : Places) (x : Host n c s w) where
       kept-more false z =
           kept-complete (class (keptAt s w)) (width (keptAt s w)) (height (keptAt s w)) (dataAt s w ++ drop continuationBytes b) (length (dataAt s w) + m) z ∙ take-append-add (dataAt s w) (drop continuationBytes b) m
 
-      within : (t : Bool) → Continued s w b m t → withinWidth joined ≡ Taken
-      within true z = rw (z .0)
-      within false z = rw z
+      within : (t : Bool) → Continued s w b m t → (a : After) → withinWidth s joined a ≡ a
+      within true z a = rw (z .0)
+      within false z a = rw z
 
       more-kept : puttingMore n c b s ≡ checked (refuse s) (leb (length (dataAt s w ++ take m (drop continuationBytes b))) dataLimit) 9 (placing n c (keptAt s w) (dataAt s w ++ take m (drop continuationBytes b)) (x .ready .store))
       unfolding receiving

@@ -17,6 +17,7 @@ use Rattle.form.specs.Model.{Rec, font, character, under, alone, tallyOf, chara
 use Rattle.form.specs.Order.{below, from, find}
 use Rattle.change.specs.Change.{splicedAt, withBytes, Recounting, recounted, remarked, unmarkedFor}
 use Rattle.form.specs.Checks.{onStore}
+use Rattle.store.specs.Answer.{noRun}
 use Rattle.store.specs.Calls.{used, withCharacter}
 use Rattle.store.specs.Download.{markFor, putCharacter}
 use Rattle.store.specs.Putting.{placing, placed}
@@ -108,7 +109,7 @@ module _ (n c : ℕ) (h d s : List ℕ) (w : Places) (x : Space n c h d s w) whe
       omega (arith, e, lo, hi)
 
   -- no room: the font goes
-  pub place-full : length s < w .used - (w .to - w .from) + (characterRecord + length d) → placed n c h d s ≡ record { answer = 10; bytes = unmarkedFor n (splicedAt (w .lo) (w .hi - w .lo) (w .used) 0 s) }
+  pub place-full : length s < w .used - (w .to - w .from) + (characterRecord + length d) → placed n c h d s ≡ record { answer = 10; bad = noRun; bytes = unmarkedFor n (splicedAt (w .lo) (w .hi - w .lo) (w .used) 0 s) }
   unfolding placed placing onStore
   place-full q =
       let r = x .ready in
@@ -143,6 +144,7 @@ module _ (n c : ℕ) (h d s : List ℕ) (w : Places) (x : Space n c h d s w) whe
     pub place-done : placed n c h d s
         ≡ record {
           answer = 0;
+          bad = noRun;
           bytes = remarked (markFor n c h d) (recounted (w .lo) (w .to - w .from) (characterRecord + length d) (withBytes (splicedAt (w .from) (w .to - w .from) (w .used) (characterRecord + length d) s) (w .from) (characterBytes n c h d)));
         }
     unfolding placed placing onStore

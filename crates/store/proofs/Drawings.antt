@@ -12,10 +12,10 @@ use Rattle.pictures.specs.Size.{rowSize, pictureSize}
 use Rattle.pictures.specs.Rows.{rowBytes, picture}
 use Rattle.pictures.proofs.Pictures.{length-row, length-picture}
 use Rattle.form.specs.Layout.{characterKeptAt, characterRecord}
-use Rattle.store.specs.Answer.{refuse}
+use Rattle.store.specs.Answer.{noRun, refuse}
 use Rattle.store.specs.Drawing.{rowOf, pictureOf, drawingRow, drawingPicture}
 use Rattle.form.specs.declared.walk.Places.{Places}
-use Rattle.form.proofs.RecordBytes.{kept-width}
+use Rattle.form.proofs.RecordBytes.{kept-sides}
 use Rattle.form.proofs.Lookup.{kept-under}
 use Rattle.form.proofs.Seeks.{KeptChar, char-call}
 use Rattle.store.proofs.Spots.{char-span, char-kept, char-bytes}
@@ -25,7 +25,7 @@ module _ (n c : ℕ) (s : List ℕ) (w : Places) (x : KeptChar n c s w) where
   char-descriptor = kept-under n c (x .header) (x .kept) (x .bytes) (x .ready .store .recs) (x .ready .valid .order) (x .code) (x .font-there) (x .there)
 
   pub char-width : 0 < width (x .kept)
-  char-width = kept-width (x .kept) (orientation (x .header)) char-descriptor
+  char-width = kept-sides (x .kept) (orientation (x .header)) char-descriptor .0
 
   -- as the code cuts the descriptor and the data out of the store
   pub kept-cut : take (w .from + characterRecord - (w .from + characterKeptAt)) (drop (w .from + characterKeptAt) s) ≡ x .kept
@@ -52,7 +52,7 @@ module _ (h d out : List ℕ) where
   unfolding rowOf
   row-short row l m = rw (lt-ltb row (height h) l, lt-leb (rowSize (width h)) (length out) m)
 
-  pub row-drawn : (row : ℕ) → row < height h → rowSize (width h) ≤ length out → rowOf h d row out ≡ record { answer = 0; bytes = rowBytes (class h) (width h) d row ++ drop (rowSize (width h)) out }
+  pub row-drawn : (row : ℕ) → row < height h → rowSize (width h) ≤ length out → rowOf h d row out ≡ record { answer = 0; bad = noRun; bytes = rowBytes (class h) (width h) d row ++ drop (rowSize (width h)) out }
   unfolding rowOf
   row-drawn row l m = rw (lt-ltb row (height h) l, le-leb (rowSize (width h)) (length out) m, length-row (class h) (width h) d row)
 
@@ -60,6 +60,6 @@ module _ (h d out : List ℕ) where
   unfolding pictureOf
   picture-short m = rw (lt-leb (pictureSize (width h) (height h)) (length out) m)
 
-  pub picture-drawn : pictureSize (width h) (height h) ≤ length out → pictureOf h d out ≡ record { answer = 0; bytes = picture (class h) (width h) d (height h) ++ drop (pictureSize (width h) (height h)) out }
+  pub picture-drawn : pictureSize (width h) (height h) ≤ length out → pictureOf h d out ≡ record { answer = 0; bad = noRun; bytes = picture (class h) (width h) d (height h) ++ drop (pictureSize (width h) (height h)) out }
   unfolding pictureOf
   picture-drawn m = rw (le-leb (pictureSize (width h) (height h)) (length out) m, length-picture (class h) (width h) d (height h))

@@ -22,8 +22,8 @@ use Rattle.blocks.proofs.KeptFirst.{first-long, kept-first, kept-other}
 use Rattle.pictures.proofs.KeptData.{complete-within, kept-complete, kept-incomplete, kept-length, held-whole, held-unfinished}
 use Rattle.form.specs.Model.{heldOf, heldUnder, isKept}
 use Rattle.form.specs.Checks.{onStore, finding}
-use Rattle.store.specs.Answer.{refuse}
-use Rattle.store.specs.Download.{withinWidth}
+use Rattle.store.specs.Answer.{After, refuse}
+use Rattle.store.specs.Download.{refuseRun, withinWidth}
 use Rattle.store.specs.Putting.{placed, receiving, receivingFirst, puttingFirst}
 use Rattle.form.specs.Walk.{Fitting, fontOrientation}
 use Rattle.form.specs.declared.walk.Places.{Places}
@@ -61,12 +61,12 @@ module _ (n c : ℕ) (b s : List ℕ) (w : Places) (x : Host n c s w) where
     unfolding heldUnder
     kept-ok d q = rw (kept-first b (orientation (x .header)) f read) q
 
-    pub first-past : (row g r : ℕ) → judge (class b) (width b) (height b) (drop descriptorBytes b) ≡ PastWidth row g r → puttingFirst n c b s ≡ refuse s 8
+    pub first-past : (row g r : ℕ) → judge (class b) (width b) (height b) (drop descriptorBytes b) ≡ PastWidth row g r → puttingFirst n c b s ≡ refuseRun s row g r
     unfolding receiving
     first-past row g r q = first-taken ∙ rw (judged-kept b ∙ q)
 
     -- data that is kept so goes into the store
-    first-kept : (j : Judged) (d : List ℕ) → judge (class (keptFirst b)) (width (keptFirst b)) (height (keptFirst b)) (drop descriptorBytes b) ≡ j → withinWidth j ≡ Taken
+    first-kept : (j : Judged) (d : List ℕ) → judge (class (keptFirst b)) (width (keptFirst b)) (height (keptFirst b)) (drop descriptorBytes b) ≡ j → ((a : After) → withinWidth s j a ≡ a)
         → keptData (class (keptFirst b)) (width (keptFirst b)) (height (keptFirst b)) (drop descriptorBytes b) ≡ d → length d ≤ dataLimit → puttingFirst n c b s ≡ placed n c (keptFirst b) d s
     unfolding receiving placed onStore
     first-kept j d q i k m = first-taken ∙ rw (q, i, k, le-leb (length d) dataLimit m, x .ready .is)
@@ -93,7 +93,7 @@ module _ (n c : ℕ) (b s : List ℕ) (w : Places) (x : Host n c s w) where
       complete-fits = fitting n c s w x (keptFirst b) (take k (drop descriptorBytes b)) (kept-ok (take k (drop descriptorBytes b)) (rw complete-held))
 
       pub first-complete : puttingFirst n c b s ≡ placed n c (keptFirst b) (take k (drop descriptorBytes b)) s
-      first-complete = first-kept (Complete k) (take k (drop descriptorBytes b)) whole refl kept-is (subst-few kept-is kept-few)
+      first-complete = first-kept (Complete k) (take k (drop descriptorBytes b)) whole (λ a. refl) kept-is (subst-few kept-is kept-few)
         where
           subst-few : {a d : List ℕ} → a ≡ d → length a ≤ dataLimit → length d ≤ dataLimit
           subst-few i m = omega (arith, ap length i)
@@ -121,4 +121,4 @@ module _ (n c : ℕ) (b s : List ℕ) (w : Places) (x : Host n c s w) where
       incomplete-fits = fitting n c s w x (keptFirst b) (take (length b - descriptorBytes) (drop descriptorBytes b)) (kept-ok (take (length b - descriptorBytes) (drop descriptorBytes b)) (rw incomplete-held))
 
       pub first-incomplete : puttingFirst n c b s ≡ placed n c (keptFirst b) (take (length b - descriptorBytes) (drop descriptorBytes b)) s
-      first-incomplete = first-kept Incomplete (take (length b - descriptorBytes) (drop descriptorBytes b)) part refl data-is (omega (arith, ap length all, first-data))
+      first-incomplete = first-kept Incomplete (take (length b - descriptorBytes) (drop descriptorBytes b)) part (λ a. refl) data-is (omega (arith, ap length all, first-data))

@@ -18,10 +18,11 @@ use Rattle.form.specs.Model.{font, noCharacters, fontHead, bytesOf, run, markBy
 use Rattle.form.specs.Order.{below, replaced}
 use Rattle.change.specs.Change.{splicedAt, withBytes, unmarkedFor}
 use Rattle.form.specs.Checks.{onStore}
-use Rattle.store.specs.Answer.{After, refuse, done}
+use Rattle.store.specs.Answer.{noRun, After, refuse, done, downloadedOf}
 use Rattle.store.specs.Calls.{fresh, makingFresh, used, removeFont, putFont, downloadingFont}
 use Rattle.store.specs.Putting.{puttingFont}
 use Rattle.form.specs.declared.walk.Places.{Places}
+use Rattle.store.specs.declared.download.Downloaded.{Downloaded}
 use Rattle.change.proofs.Puts.{put-nil}
 use Rattle.store.proofs.Replaced.{no-font, new-font}
 use Rattle.store.proofs.Changed.{spare-is, total-replaced, newBytes, bytes-font}
@@ -31,6 +32,18 @@ use Rattle.form.proofs.Ready.{Ready}
 -- an answer, and the bytes
 pub answered : {a b : After} → a ≡ b → (b .answer ≡ a .answer) × (b .bytes ≡ a .bytes)
 answered e = (ap (λ (x : After). x .answer) (sym e), ap (λ (x : After). x .bytes) (sym e))
+
+-- the answer to a character block, and the bytes
+pub answered-block : {a b : After} → a ≡ b → (downloadedOf b ≡ downloadedOf a) × (b .bytes ≡ a .bytes)
+answered-block e = (ap downloadedOf (sym e), ap (λ (x : After). x .bytes) (sym e))
+
+-- what the code answers at once, with the buffer as it was
+pub answered-by : {a b : After} {r : Downloaded} → r ≡ downloadedOf b → a ≡ b → (r ≡ downloadedOf a) × (b .bytes ≡ a .bytes)
+answered-by f e = (f ∙ ap downloadedOf (sym e), ap (λ (x : After). x .bytes) (sym e))
+
+-- a number alone
+pub plainly : {a b : After} (r : Downloaded) (k : ℕ) → a ≡ b → a .bad ≡ noRun → r ≡ record { refusal = k; bad = noRun } → k ≡ b .answer → r ≡ downloadedOf a
+plainly r k e n f g = rw (n, f, g, e)
 
 -- ── removing
 pub cut-done : (n p : ℕ) (s : List ℕ) (w : Places) (r : Ready n p s w) → unmarkedFor n (splicedAt (w .lo) (w .hi - w .lo) (w .used) 0 s) ≡ encode (removeFont n (r .store))
@@ -123,7 +136,7 @@ module _ (n : ℕ) (b s : List ℕ) where
         rw (r .is, x)
 
     pub put-done : w .used - (w .hi - w .lo) + fontRecord ≤ length s
-        → puttingFont n b s ≡ record { answer = 0; bytes = unmarkedFor n (withBytes (splicedAt (w .lo) (w .hi - w .lo) (w .used) fontRecord s) (w .lo) (fontHead n noCharacters ++ keptHeader b)) }
+        → puttingFont n b s ≡ record { answer = 0; bad = noRun; bytes = unmarkedFor n (withBytes (splicedAt (w .lo) (w .hi - w .lo) (w .used) fontRecord s) (w .lo) (fontHead n noCharacters ++ keptHeader b)) }
     unfolding puttingFont onStore run bytesOf total sizeOf
     put-done q =
         let st = r .store in

@@ -12,6 +12,7 @@ pub mod Continuations
 pub mod Receives
 pub mod Drawings
 pub mod Again
+pub mod BadRuns
 pub mod Appends
 pub mod Leaves
 pub mod Holds

@@ -8,8 +8,6 @@ use Rattle.blocks.specs.Header.{orientation}
 use Rattle.blocks.specs.Character.{descriptorBytes, continuationBytes, class, width, height, characterLength, kindOf, kindNumber, readFirst, keptFirst}
 use Rattle.pictures.specs.Size.{dataLimit}
 use Rattle.pictures.specs.Picture.{judge, judgedNumber, keptData}
-use Rattle.blocks.specs.declared.Verdict.{Verdict}
-use Rattle.blocks.specs.declared.Verdict.the-variants.{Taken, Refused}
 use Rattle.blocks.specs.declared.character.Kind.{Kind}
 use Rattle.blocks.specs.declared.character.Kind.the-variants.{First, Continuation, Unknown}
 use Rattle.pictures.specs.declared.picture.Judged.{Judged}
@@ -18,7 +16,7 @@ use Rattle.form.specs.Num.{_&_}
 use Rattle.form.specs.Model.{character, Mark, Store, heldOf, isUnfinished, encode, decode, shut}
 use Rattle.form.specs.Order.{fontAt, characterAt}
 use Rattle.form.specs.Checks.{onStore, checked, taking, finding, numbered}
-use Rattle.store.specs.Answer.{After, refuse, done}
+use Rattle.store.specs.Answer.{After, noRun, refuse, done}
 use Rattle.store.specs.Calls.{used, removeFont, withCharacter, keptOf, dataOf}
 
 -- ── what is kept
@@ -33,7 +31,7 @@ putCharacter n c h d st = record { size = st .size; mark = markFor n c h d; recs
 
 -- 10, "no room": "its font and all its characters removed"
 abbrev pub withoutFont : ℕ → Store → ℕ → After
-withoutFont n st k = record { answer = k; bytes = encode (removeFont n st) }
+withoutFont n st k = record { answer = k; bad = noRun; bytes = encode (removeFont n st) }
 
 -- ── what a block is
 
@@ -47,11 +45,16 @@ byKind refuse Unknown first more both = refuse (kindNumber Unknown)
 abbrev pub names : ℕ → ℕ → Mark → Bool
 names n c m = eqb (m .on) 1 & eqb (m .fontOf) n & eqb (m .codeOf) c
 
--- "8 if class 2 data has a run past the width before all rows are drawn"
-abbrev pub withinWidth : Judged → Verdict
-withinWidth (Complete k) = Taken
-withinWidth Incomplete = Taken
-withinWidth (PastWidth row f b) = Refused (judgedNumber (PastWidth row f b))
+-- "8 if class 2 data has a run past the width before all rows are drawn"; W-209: with "the picture row being read, .. the dots already filled and the
+-- run that didn't fit"
+abbrev pub refuseRun : List ℕ → ℕ → ℕ → ℕ → After
+refuseRun s row filled run = record { answer = judgedNumber (PastWidth row filled run); bad = record { row = row; filled = filled; run = run }; bytes = s }
+
+-- data with no such run comes to a
+abbrev pub withinWidth : List ℕ → Judged → After → After
+withinWidth s (Complete k) a = a
+withinWidth s Incomplete a = a
+withinWidth s (PastWidth row filled run) a = refuseRun s row filled run
 
 -- what is judged, and what is kept, of the data d of a character with the descriptor h
 abbrev pub judgedOf : List ℕ → List ℕ → Judged
@@ -80,7 +83,7 @@ downloadingCharacter n c b s =
     (finding (refuse s) (characterAt n c (st .recs)) 7 (λ r. both (keptOf r) (dataOf r ++ drop continuationBytes b))))
     -- "Then, for both: 8 if class 2 data has a run past the width before all rows are drawn;
     (λ h d.
-    taking (refuse s) (withinWidth (judgedOf h d))
+    withinWidth s (judgedOf h d)
     -- 9 if kept data would pass 32,768 bytes;
     (checked (refuse s) (leb (length (keptOfData h d)) dataLimit) 9
     -- 10 if the records would not fit, the replaced character's room counted as free."

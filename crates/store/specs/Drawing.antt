@@ -7,12 +7,12 @@ use Rattle.blocks.specs.Character.{class, width, height}
 use Rattle.pictures.specs.Size.{rowSize, pictureSize}
 use Rattle.pictures.specs.Rows.{rowBytes, picture}
 use Rattle.form.specs.Checks.{checked, onCharacter}
-use Rattle.store.specs.Answer.{After, refuse}
+use Rattle.store.specs.Answer.{After, noRun, refuse}
 use Rattle.store.specs.Calls.{keptOf, dataOf, onto}
 
 -- an output that must hold n bytes, else 12; its later bytes stay
 abbrev pub drawnOnto : List ℕ → ℕ → List ℕ → After
-drawnOnto out n b = checked (refuse out) (leb n (length out)) 12 (record { answer = 0; bytes = onto b out })
+drawnOnto out n b = checked (refuse out) (leb n (length out)) 12 (record { answer = 0; bad = noRun; bytes = onto b out })
 
 -- a row of the character with this descriptor and data; a row not below the height is 2
 unfoldable pub rowOf : List ℕ → List ℕ → ℕ → List ℕ → After

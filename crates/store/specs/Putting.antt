@@ -32,7 +32,7 @@ placed n c h d s = onStore (refuse s) (decode s) (placing n c h d)
 -- a character with the data d, judged before it is kept: 8, 9, 10
 unfoldable pub receiving : ℕ → ℕ → List ℕ → List ℕ → List ℕ → Store → After
 receiving n c h d s st =
-    taking (refuse s) (withinWidth (judgedOf h d))
+    withinWidth s (judgedOf h d)
     (checked (refuse s) (leb (length (keptOfData h d)) dataLimit) 9 (placing n c h (keptOfData h d) st))
 
 -- a first block, for a font with the header g

@@ -3,11 +3,13 @@
 ghost use mathlib.Core.Path.{_≡_};
 ghost use Prim.Native.Nat.{_+_, _≤_};
 ghost use Rattle.form.specs.Layout.{lastCode, lastFont, mostStore};
+ghost use Rattle.store.specs.Answer.{downloadedOf};
 ghost use Rattle.store.specs.Calls.{downloadingFont};
 ghost use Rattle.store.specs.Download.{downloadingCharacter};
 ghost use Rattle.form.specs.Cursor.{Points};
 ghost use Rattle.store.specs.Known.{Opening, fontEnd, Came};
 use crate::download;
+use crate::download::Downloaded;
 use crate::fonts;
 use blocks::Verdict;
 use blocks::header;
@@ -28,7 +30,7 @@ pub enum Opened {
 
 // What a download answers, and the cursor behind it.
 pub struct Added {
-    pub answer: u32,
+    pub answer: Downloaded,
     pub cursor: Cursor,
 }
 
@@ -62,12 +64,12 @@ fn font_end(p: Places, answer: u32) -> usize
 // Downloads a font block.
 pub fn add_font(s: &mut [u8], c: Cursor, block: &[u8], font: u32) -> Added
     requires { ⌜ Points (now s) c × (font ≤ lastFont) ⌝ }
-    ensures { λ r. ⌜ (r .answer ≡ downloadingFont font (now (block .entry)) (now (s .entry)) .answer) × Points (now (s .exit)) (r .cursor) ⌝ }
+    ensures { λ r. ⌜ (r .answer ≡ downloadedOf (downloadingFont font (now (block .entry)) (now (s .entry)))) × Points (now (s .exit)) (r .cursor) ⌝ }
     ensures { λ _. ⌜ now (s .exit) ≡ downloadingFont font (now (block .entry)) (now (s .entry)) .bytes ⌝ }
 {
     match header::read_header(block) {
         Verdict::Refused(k) => Added {
-            answer: k as u32,
+            answer: download::without_run(k as u32),
             cursor: c,
         },
         Verdict::Taken => {
@@ -82,7 +84,7 @@ pub fn add_font(s: &mut [u8], c: Cursor, block: &[u8], font: u32) -> Added
                 at: p.lo,
             };
             Added {
-                answer: answer,
+                answer: download::without_run(answer),
                 cursor: behind,
             }
         }
@@ -126,14 +128,14 @@ fn past_character(s: &[u8], p: Places, font: usize, code: usize, answer: u32) ->
 // Downloads a character block.
 pub fn add_character(s: &mut [u8], c: Cursor, block: &[u8], font: u32, code: u32) -> Added
     requires { ⌜ Points (now s) c × (font ≤ lastFont) × (code ≤ lastCode) ⌝ }
-    ensures { λ r. ⌜ (r .answer ≡ downloadingCharacter font code (now (block .entry)) (now (s .entry)) .answer) × Points (now (s .exit)) (r .cursor) ⌝ }
+    ensures { λ r. ⌜ (r .answer ≡ downloadedOf (downloadingCharacter font code (now (block .entry)) (now (s .entry)))) × Points (now (s .exit)) (r .cursor) ⌝ }
     ensures { λ _. ⌜ now (s .exit) ≡ downloadingCharacter font code (now (block .entry)) (now (s .entry)) .bytes ⌝ }
 {
     let n = font as usize;
     let m = code as usize;
     let p = locate::locate(s, c, n, m + 1);
     let answer = download::put_block(s, p, font, code, block);
-    let behind = past_character(s, p, n, m, answer);
+    let behind = past_character(s, p, n, m, answer.refusal);
     Added {
         answer: answer,
         cursor: behind,

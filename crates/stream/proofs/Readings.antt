@@ -12,11 +12,13 @@ use borrow.Author.Tests.{le-leb, lt-leb, leb-true, leb-false}
 use Rattle.form.specs.Model.{Store, decode}
 use Rattle.form.specs.Checks.{onStore}
 use Rattle.store.specs.Calls.{downloadingFont}
+use Rattle.store.specs.Answer.{noRun}
+use Rattle.store.specs.declared.download.BadRun.{BadRun}
 use Rattle.store.specs.Download.{downloadingCharacter}
 use Rattle.form.specs.Cursor.{Points}
 use Rattle.form.specs.declared.locate.Cursor.{Cursor}
 use Rattle.stream.specs.Command.{commandAt, CommandEnds}
-use Rattle.stream.specs.Reading.{Download, font-block, character-block, Action, number-set, download, Spelled, spell, part, onward, spelledIn, spelledFrom, firstTarget, rangeAnswer, withNumber, withCode, Progress, noneCounted, countAnswer, making, obey, obeyAll, readFrom, Reading, endAnswer, readingOf, reading}
+use Rattle.stream.specs.Reading.{Download, font-block, character-block, Action, number-set, download, Spelled, spell, part, onward, spelledIn, spelledFrom, firstTarget, rangeAnswer, withNumber, withCode, Progress, noneCounted, countAnswer, making, obey, obeyAll, readFrom, Reading, endAnswer, readingOf, reading, firstRun}
 use Rattle.stream.specs.Downloads.{downloadsIn, spelledDownloads, madeAll, DownloadsMade, CommandsCounted}
 use Rattle.stream.specs.Underway.{readOn, Underway, stateBehind, readAfter, EndsWithin, Leads}
 use Rattle.stream.specs.declared.command.Command.{Command}
@@ -82,11 +84,11 @@ module _ (b : List ℕ) (at : ℕ) (t : Target) (x : Progress) where
   read-end q = rw (spelled-eq b at t, q)
 
 -- ── the whole
-pub read-not : (b s : List ℕ) → decode s ≡ none → reading b s ≡ record { answer = record { refusal = 1; done = 0; refused = 0; place = 0 }; bytes = s }
+pub read-not : (b s : List ℕ) → decode s ≡ none → reading b s ≡ record { answer = record { refusal = 1; done = 0; refused = 0; place = 0; bad = noRun }; bytes = s }
 unfolding reading onStore
 read-not b s e = rw e
 
-pub read-store : (b s : List ℕ) (st : Store) → decode s ≡ some st → reading b s ≡ readingOf (readFrom b 0 firstTarget (record { counts = noneCounted; bytes = s }))
+pub read-store : (b s : List ℕ) (st : Store) → decode s ≡ some st → reading b s ≡ readingOf (readFrom b 0 firstTarget (record { counts = noneCounted; bad = noRun; bytes = s }))
 unfolding reading onStore
 read-store b s st e = rw e
 
@@ -114,7 +116,7 @@ downloads-made b s = go (decode s) refl
   where
     go : (o : Option Store) → decode s ≡ o → reading b s .bytes ≡ madeAll (downloadsIn (spelledFrom b 0 firstTarget .actions)) s
     go none e = ap (λ (r : Reading). r .bytes) (read-not b s e) ∙ sym (made-not (downloadsIn (spelledFrom b 0 firstTarget .actions)) s e)
-    go (some st) e = ap (λ (r : Reading). r .bytes) (read-store b s st e) ∙ obeyed-made (spelledFrom b 0 firstTarget .actions) (record { counts = noneCounted; bytes = s })
+    go (some st) e = ap (λ (r : Reading). r .bytes) (read-store b s st e) ∙ obeyed-made (spelledFrom b 0 firstTarget .actions) (record { counts = noneCounted; bad = noRun; bytes = s })
 
 count-more : (k : ℕ) (x : CommandCounts) → countAnswer k x .done + countAnswer k x .refused ≡ x .done + x .refused + 1
 unfolding countAnswer
@@ -127,18 +129,18 @@ obeyed-counted [] x = omega arith
 obeyed-counted (number-set k ∷ rest) x = obeyed-counted rest (obey (number-set k) x) ∙ omega (arith, count-more k (x .counts))
 obeyed-counted (download d ∷ rest) x = obeyed-counted rest (obey (download d) x) ∙ omega (arith, count-more (making d (x .bytes) .answer) (x .counts))
 
-end-counts : (e : Ending) (x : CommandCounts) → endAnswer e x .done + endAnswer e x .refused ≡ x .done + x .refused
+end-counts : (e : Ending) (x : CommandCounts) (run : BadRun) → endAnswer e x run .done + endAnswer e x run .refused ≡ x .done + x .refused
 unfolding endAnswer
-end-counts AtEnd x = refl
-end-counts (BrokenAt at) x = refl
+end-counts AtEnd x run = refl
+end-counts (BrokenAt at) x run = refl
 
 pub commands-counted : CommandsCounted
 unfolding readFrom
 commands-counted b s st e =
     let w = spelledFrom b 0 firstTarget in
     ap (λ (r : Reading). r .answer .done + r .answer .refused) (read-store b s st e)
-    ∙ end-counts (w .ending) (obeyAll (w .actions) (record { counts = noneCounted; bytes = s }) .counts)
-    ∙ obeyed-counted (w .actions) (record { counts = noneCounted; bytes = s })
+    ∙ end-counts (w .ending) (obeyAll (w .actions) (record { counts = noneCounted; bad = noRun; bytes = s }) .counts) _
+    ∙ obeyed-counted (w .actions) (record { counts = noneCounted; bad = noRun; bytes = s })
     ∙ zero-add (length (w .actions))
 
 -- ── the numbers and the counts
@@ -226,57 +228,59 @@ abbrev Obeys : List ℕ → List ℕ → State → List ℕ → Obeyed → Type 
 Obeys b s x u r = (readAfter b u x r ≡ readOn b s x) × Leads (length b) u x r
 
 module _ (b s : List ℕ) (x : State) (h : Underway (length b) s x) where
-  under : (u : List ℕ) (t : Target) (k e : ℕ) (c : Cursor) → x .at < e → e ≤ length b → InRange t → Points u c → Underway (length b) u (stateBehind x e t k c)
-  under u t k e c l r i p = record { within = r; font = i .0; code = i .1; counts = omega (arith, h .counts, count-more k (x .counts)); points = p }
+  under : (u : List ℕ) (t : Target) (k e : ℕ) (run : BadRun) (c : Cursor) → x .at < e → e ≤ length b → InRange t → Points u c → Underway (length b) u (stateBehind x e t k run c)
+  under u t k e run c l r i p = record { within = r; font = i .0; code = i .1; counts = omega (arith, h .counts, count-more k (x .counts)); points = p }
 
   in-range : InRange (x .target)
   in-range = (h .font, h .code)
 
-  pub obey-number : (n e : ℕ) (y : State) → commandAt b (x .at) ≡ SetFont n e → y ≡ stateBehind x e (withNumber n (x .target)) (rangeAnswer 32767 n) (x .cursor) → Obeys b s x s (On y)
+  pub obey-number : (n e : ℕ) (y : State) → commandAt b (x .at) ≡ SetFont n e → y ≡ stateBehind x e (withNumber n (x .target)) (rangeAnswer 32767 n) (x .bad) (x .cursor) → Obeys b s x s (On y)
   unfolding readAfter Leads obey
   obey-number n e y q i =
       let w = ends-number b (x .at) n e q in
-      rw i (sym (read-number b (x .at) (x .target) (record { counts = x .counts; bytes = s }) n e q), (w .0, under s _ _ e _ (w .0) (w .1) (number-range n (x .target) in-range) (h .points)))
+      rw i (sym (read-number b (x .at) (x .target) (record { counts = x .counts; bad = x .bad; bytes = s }) n e q), (w .0, under s _ _ e _ _ (w .0) (w .1) (number-range n (x .target) in-range) (h .points)))
 
-  pub obey-code : (n e : ℕ) (y : State) → commandAt b (x .at) ≡ SetCode n e → y ≡ stateBehind x e (withCode n (x .target)) (rangeAnswer 255 n) (x .cursor) → Obeys b s x s (On y)
+  pub obey-code : (n e : ℕ) (y : State) → commandAt b (x .at) ≡ SetCode n e → y ≡ stateBehind x e (withCode n (x .target)) (rangeAnswer 255 n) (x .bad) (x .cursor) → Obeys b s x s (On y)
   unfolding readAfter Leads obey
   obey-code n e y q i =
       let w = ends-code b (x .at) n e q in
-      rw i (sym (read-code b (x .at) (x .target) (record { counts = x .counts; bytes = s }) n e q), (w .0, under s _ _ e _ (w .0) (w .1) (code-range n (x .target) in-range) (h .points)))
+      rw i (sym (read-code b (x .at) (x .target) (record { counts = x .counts; bad = x .bad; bytes = s }) n e q), (w .0, under s _ _ e _ _ (w .0) (w .1) (code-range n (x .target) in-range) (h .points)))
 
   pub obey-font : (f e : ℕ) (y : State) (u : List ℕ) → commandAt b (x .at) ≡ FontBlock f e
-      → y ≡ stateBehind x e (x .target) (downloadingFont (x .target .font) (part b f e) s .answer) (y .cursor) → u ≡ downloadingFont (x .target .font) (part b f e) s .bytes
+      → y ≡ stateBehind x e (x .target) (downloadingFont (x .target .font) (part b f e) s .answer) (firstRun (x .bad) (downloadingFont (x .target .font) (part b f e) s .bad)) (y .cursor) → u ≡ downloadingFont (x .target .font) (part b f e) s .bytes
       → Points u (y .cursor) → Obeys b s x u (On y)
   unfolding readAfter Leads obey making
   obey-font f e y u q i j p =
       let w = ends-font b (x .at) f e q in
       let l : x .at < e = omega (arith, w .0, w .1) in
-      let k = downloadingFont (x .target .font) (part b f e) s .answer in (
-        ap (readOn b u) i ∙ ap (λ (m : List ℕ). readOn b m (stateBehind x e (x .target) k (y .cursor))) j
-            ∙ sym (read-font b (x .at) (x .target) (record { counts = x .counts; bytes = s }) f e q),
-        subst (λ (z : State). (x .at < z .at) × Underway (length b) u z) (sym i) (l, under u (x .target) k e (y .cursor) l (w .2) in-range p),
+      let k = downloadingFont (x .target .font) (part b f e) s .answer in
+      let g = firstRun (x .bad) (downloadingFont (x .target .font) (part b f e) s .bad) in (
+        ap (readOn b u) i ∙ ap (λ (m : List ℕ). readOn b m (stateBehind x e (x .target) k g (y .cursor))) j
+            ∙ sym (read-font b (x .at) (x .target) (record { counts = x .counts; bad = x .bad; bytes = s }) f e q),
+        subst (λ (z : State). (x .at < z .at) × Underway (length b) u z) (sym i) (l, under u (x .target) k e g (y .cursor) l (w .2) in-range p),
       )
 
   pub obey-character : (f e : ℕ) (y : State) (u : List ℕ) → commandAt b (x .at) ≡ CharacterBlock f e
-      → y ≡ stateBehind x e (x .target) (downloadingCharacter (x .target .font) (x .target .code) (part b f e) s .answer) (y .cursor)
+      → y ≡ stateBehind x e (x .target) (downloadingCharacter (x .target .font) (x .target .code) (part b f e) s .answer) (firstRun (x .bad) (downloadingCharacter (x .target .font) (x .target .code) (part b f e) s .bad)) (y .cursor)
       → u ≡ downloadingCharacter (x .target .font) (x .target .code) (part b f e) s .bytes → Points u (y .cursor) → Obeys b s x u (On y)
   unfolding readAfter Leads obey making
   obey-character f e y u q i j p =
       let w = ends-character b (x .at) f e q in
       let l : x .at < e = omega (arith, w .0, w .1) in
-      let k = downloadingCharacter (x .target .font) (x .target .code) (part b f e) s .answer in (
-        ap (readOn b u) i ∙ ap (λ (m : List ℕ). readOn b m (stateBehind x e (x .target) k (y .cursor))) j
-            ∙ sym (read-character b (x .at) (x .target) (record { counts = x .counts; bytes = s }) f e q),
-        subst (λ (z : State). (x .at < z .at) × Underway (length b) u z) (sym i) (l, under u (x .target) k e (y .cursor) l (w .2) in-range p),
+      let k = downloadingCharacter (x .target .font) (x .target .code) (part b f e) s .answer in
+      let g = firstRun (x .bad) (downloadingCharacter (x .target .font) (x .target .code) (part b f e) s .bad) in (
+        ap (readOn b u) i ∙ ap (λ (m : List ℕ). readOn b m (stateBehind x e (x .target) k g (y .cursor))) j
+            ∙ sym (read-character b (x .at) (x .target) (record { counts = x .counts; bad = x .bad; bytes = s }) f e q),
+        subst (λ (z : State). (x .at < z .at) × Underway (length b) u z) (sym i) (l, under u (x .target) k e g (y .cursor) l (w .2) in-range p),
       )
 
   pub obey-broken : commandAt b (x .at) ≡ Broken → Obeys b s x s (Stop (BrokenAt (x .at)))
   unfolding readAfter Leads EndsWithin
-  obey-broken q = (sym (read-broken b (x .at) (x .target) (record { counts = x .counts; bytes = s }) q), ((h .counts, broken-within b (x .at) q), h .points))
+  obey-broken q = (sym (read-broken b (x .at) (x .target) (record { counts = x .counts; bad = x .bad; bytes = s }) q), ((h .counts, broken-within b (x .at) q), h .points))
 
   pub obey-end : commandAt b (x .at) ≡ End → Obeys b s x s (Stop AtEnd)
   unfolding readAfter Leads EndsWithin
-  obey-end q = (sym (read-end b (x .at) (x .target) (record { counts = x .counts; bytes = s }) q), (omega (arith, h .counts, h .within), h .points))
+  obey-end q = (sym (read-end b (x .at) (x .target) (record { counts = x .counts; bad = x .bad; bytes = s }) q), (omega (arith, h .counts, h .within), h .points))
 
 -- ── the loop
 module _ (b s u : List ℕ) (x : State) (r : Obeyed) (h : Obeys b s x u r) where
@@ -284,7 +288,7 @@ module _ (b s u : List ℕ) (x : State) (r : Obeyed) (h : Obeys b s x u r) where
   unfolding readAfter Leads
   went-on y q = subst (Obeys b s x u) q h
 
-  pub went-last : (e : Ending) → r ≡ Stop e → (record { ending = e; progress = record { counts = x .counts; bytes = u } } ≡ readOn b s x) × (EndsWithin (length b) (x .counts) e × Points u (x .cursor))
+  pub went-last : (e : Ending) → r ≡ Stop e → (record { ending = e; progress = record { counts = x .counts; bad = x .bad; bytes = u } } ≡ readOn b s x) × (EndsWithin (length b) (x .counts) e × Points u (x .cursor))
   unfolding readAfter Leads
   went-last e q = subst (Obeys b s x u) q h
 

@@ -6,11 +6,11 @@ use native.Mathlib.Omega.{arith}
 use borrow.Author.Tests.{le-leb}
 use lib.ListN.{length, length-append}
 use Rattle.form.specs.Model.{font, Store, encode}
-use Rattle.store.specs.Answer.{done}
+use Rattle.store.specs.Answer.{done, noRun}
 use Rattle.store.specs.Calls.{downloadingFont}
 use Rattle.store.specs.Download.{downloadingCharacter}
 use Rattle.stream.specs.Writing.{setFont, setCode, fontBlockHead, fontBlock, characterBlockHead, characterBlock}
-use Rattle.stream.specs.Reading.{Download, number-set, download, font-block, character-block, Progress, Ended, rangeAnswer, countAnswer, making, part, obey, readFrom}
+use Rattle.stream.specs.Reading.{Download, number-set, download, font-block, character-block, Progress, Ended, rangeAnswer, countAnswer, making, part, obey, readFrom, firstRun}
 use Rattle.stream.specs.declared.reading.Ending.the-variants.{AtEnd}
 use Rattle.stream.specs.declared.reading.Target.{Target}
 use Rattle.stream.proofs.Commands.{command-past}
@@ -32,14 +32,14 @@ target n c = record { font = n; code = c }
 
 -- a reading that has done k commands and refused none, and left s
 abbrev pub allDone : ℕ → List ℕ → Progress
-allDone k s = record { counts = record { done = k; refused = 0 }; bytes = s }
+allDone k s = record { counts = record { done = k; refused = 0 }; bad = noRun; bytes = s }
 
 obey-low : (n last k : ℕ) (s : List ℕ) → n ≤ last → obey (number-set (rangeAnswer last n)) (allDone k s) ≡ allDone (k + 1) s
 unfolding obey countAnswer
 obey-low n last k s l = rw (le-leb n last l)
 
 obey-done : (d : Download) (k : ℕ) (s : List ℕ) (st : Store) → making d s ≡ done st → obey (download d) (allDone k s) ≡ allDone (k + 1) (encode st)
-unfolding obey countAnswer
+unfolding obey countAnswer firstRun
 obey-done d k s st a = rw a
 
 module _ (pre rest : List ℕ) (n c k : ℕ) (s : List ℕ) where

@@ -4,11 +4,12 @@ use Prim.Native.Nat.{ℕ, zero, suc, _+_, _-_}
 use mathlib.Core.List.{List, [], _∷_}
 use mathlib.Core.Bool.{cond}
 use lib.ListN.{length, take, drop}
-use lib.Dec.{leb}
+use lib.Dec.{eqb, leb}
 use Rattle.form.specs.Layout.{lastFont, lastCode}
 use Rattle.form.specs.Model.{decode}
 use Rattle.form.specs.Checks.{onStore}
-use Rattle.store.specs.Answer.{After}
+use Rattle.store.specs.Answer.{After, noRun}
+use Rattle.store.specs.declared.download.BadRun.{BadRun}
 use Rattle.store.specs.Calls.{downloadingFont}
 use Rattle.store.specs.Download.{downloadingCharacter}
 use Rattle.stream.specs.Command.{commandAt}
@@ -75,10 +76,15 @@ unfoldable pub spelledFrom : List ℕ → ℕ → Target → Spelled
 spelledFrom b at t = spelledIn (suc (length b - at)) b at t
 
 -- ── carrying it out
--- the counts so far, and the store
+-- the counts so far, W-209: the run of the first refusal 8 so far, and the store
 pub record Progress : Type 0 where
   pub counts : CommandCounts
+  pub bad : BadRun
   pub bytes : List ℕ
+
+-- W-209: "the stream for its first such refusal .. and 0 for all three otherwise". A run that does not fit has a dot, so that run 0 is none so far.
+unfoldable pub firstRun : BadRun → BadRun → BadRun
+firstRun x new = cond (eqb (x .run) 0) new x
 
 abbrev pub noneCounted : CommandCounts
 noneCounted = record { done = 0; refused = 0 }
@@ -94,8 +100,9 @@ making (character-block n c b) s = downloadingCharacter n c b s
 
 -- "Refused blocks are passed over and counted."
 unfoldable pub obey : Action → Progress → Progress
-obey (number-set k) x = record { counts = countAnswer k (x .counts); bytes = x .bytes }
-obey (download d) x = record { counts = countAnswer (making d (x .bytes) .answer) (x .counts); bytes = making d (x .bytes) .bytes }
+obey (number-set k) x = record { counts = countAnswer k (x .counts); bad = x .bad; bytes = x .bytes }
+obey (download d) x =
+    record { counts = countAnswer (making d (x .bytes) .answer) (x .counts); bad = firstRun (x .bad) (making d (x .bytes) .bad); bytes = making d (x .bytes) .bytes }
 
 unfoldable pub obeyAll : List Action → Progress → Progress
 obeyAll [] x = x
@@ -114,15 +121,15 @@ pub record Reading : Type 0 where
   pub answer : StreamRead
   pub bytes : List ℕ
 
-unfoldable pub endAnswer : Ending → CommandCounts → StreamRead
-endAnswer AtEnd x = record { refusal = 0; done = x .done; refused = x .refused; place = 0 }
-endAnswer (BrokenAt at) x = record { refusal = 13; done = x .done; refused = x .refused; place = at }
+unfoldable pub endAnswer : Ending → CommandCounts → BadRun → StreamRead
+endAnswer AtEnd x run = record { refusal = 0; done = x .done; refused = x .refused; place = 0; bad = run }
+endAnswer (BrokenAt at) x run = record { refusal = 13; done = x .done; refused = x .refused; place = at; bad = run }
 
 abbrev pub readingOf : Ended → Reading
-readingOf e = record { answer = endAnswer (e .ending) (e .progress .counts); bytes = e .progress .bytes }
+readingOf e = record { answer = endAnswer (e .ending) (e .progress .counts) (e .progress .bad); bytes = e .progress .bytes }
 
 -- "Reading checks 1 first." "A refusal answers 0 for every other number"
 unfoldable pub reading : List ℕ → List ℕ → Reading
 reading b s =
-    onStore (λ k. record { answer = record { refusal = k; done = 0; refused = 0; place = 0 }; bytes = s }) (decode s)
-    (λ st. readingOf (readFrom b 0 firstTarget (record { counts = noneCounted; bytes = s })))
+    onStore (λ k. record { answer = record { refusal = k; done = 0; refused = 0; place = 0; bad = noRun }; bytes = s }) (decode s)
+    (λ st. readingOf (readFrom b 0 firstTarget (record { counts = noneCounted; bad = noRun; bytes = s })))

@@ -11,6 +11,7 @@ use Rattle.form.specs.Order.{fontAt}
 use Rattle.form.specs.Records.{recordsOf}
 use Rattle.store.specs.Calls.{fresh}
 use Rattle.store.specs.Download.{markFor}
+use Rattle.store.specs.Answer.{noRun}
 use Rattle.stream.specs.Written.{firstData, written}
 use Rattle.stream.specs.Reading.{Reading, reading}
 
@@ -35,7 +36,7 @@ onlyFont n st = record { size = st .size; mark = markAfter shut (recordsOf n (st
 
 -- every command is done, and that store is what is left
 abbrev pub restored : ℕ → Store → Reading
-restored n st = record { answer = record { refusal = 0; done = commandsIn (recordsOf n (st .recs)); refused = 0; place = 0 }; bytes = encode (onlyFont n st) }
+restored n st = record { answer = record { refusal = 0; done = commandsIn (recordsOf n (st .recs)); refused = 0; place = 0; bad = noRun }; bytes = encode (onlyFont n st) }
 
 -- for every store and every font in it
 abbrev pub FontComesBack : Type 0

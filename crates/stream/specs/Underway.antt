@@ -4,6 +4,7 @@ use mathlib.Core.List.{List}
 use Rattle.form.specs.Layout.{lastFont, lastCode}
 use Rattle.form.specs.Cursor.{Points}
 use Rattle.form.specs.declared.locate.Cursor.{Cursor}
+use Rattle.store.specs.declared.download.BadRun.{BadRun}
 use Rattle.stream.specs.Reading.{countAnswer, Ended, readFrom}
 use Rattle.stream.specs.declared.reading.CommandCounts.{CommandCounts}
 use Rattle.stream.specs.declared.reading.Ending.{Ending}
@@ -16,7 +17,7 @@ use Rattle.stream.specs.declared.reading.Target.{Target}
 
 -- what reading gives from a state on, where the store is s
 abbrev pub readOn : List ℕ → List ℕ → State → Ended
-readOn b s x = readFrom b (x .at) (x .target) (record { counts = x .counts; bytes = s })
+readOn b s x = readFrom b (x .at) (x .target) (record { counts = x .counts; bad = x .bad; bytes = s })
 
 -- the state of a reading of n bytes into the store s; no command is empty, so that no more were counted than bytes passed
 pub record Underway (n : ℕ) (s : List ℕ) (x : State) : Type 0 where
@@ -26,18 +27,18 @@ pub record Underway (n : ℕ) (s : List ℕ) (x : State) : Type 0 where
   pub counts : x .counts .done + x .counts .refused ≤ x .at
   pub points : Points s (x .cursor)
 
--- the state behind a command that was answered k
-abbrev pub stateBehind : State → ℕ → Target → ℕ → Cursor → State
-stateBehind x next t k c = record { at = next; target = t; counts = countAnswer k (x .counts); cursor = c }
+-- the state behind a command that was answered k, with the first bad run so far
+abbrev pub stateBehind : State → ℕ → Target → ℕ → BadRun → Cursor → State
+stateBehind x next t k run c = record { at = next; target = t; counts = countAnswer k (x .counts); bad = run; cursor = c }
 
 -- what reading gives after one command of the state x, which left s
 unfoldable pub readAfter : List ℕ → List ℕ → State → Obeyed → Ended
 readAfter b s x (On y) = readOn b s y
-readAfter b s x (Stop e) = record { ending = e; progress = record { counts = x .counts; bytes = s } }
+readAfter b s x (Stop e) = record { ending = e; progress = record { counts = x .counts; bad = x .bad; bytes = s } }
 
 -- what a reading that has ended gives, where the store is s
 abbrev pub endedOf : Stopped → List ℕ → Ended
-endedOf r s = record { ending = r .ending; progress = record { counts = r .counts; bytes = s } }
+endedOf r s = record { ending = r .ending; progress = record { counts = r .counts; bad = r .bad; bytes = s } }
 
 -- a 13 stands within the n bytes, at or behind as many bytes as commands were counted
 unfoldable pub EndsWithin : ℕ → CommandCounts → Ending → Type 0

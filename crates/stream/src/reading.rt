@@ -7,13 +7,14 @@ ghost use Rattle.form.specs.Layout.{lastFont, lastCode};
 ghost use Rattle.store.specs.Calls.{downloadingFont};
 ghost use Rattle.store.specs.Download.{downloadingCharacter};
 ghost use Rattle.form.specs.Cursor.{Points};
-ghost use Rattle.stream.specs.Reading.{rangeAnswer, withNumber, withCode, countAnswer, endAnswer, reading};
+ghost use Rattle.stream.specs.Reading.{rangeAnswer, withNumber, withCode, countAnswer, firstRun, endAnswer, reading};
 ghost use Rattle.stream.specs.Underway.{readOn, stateBehind, Underway, readAfter, endedOf, EndsWithin, Leads};
 use crate::command;
 use crate::command::Command;
 use form::layout::LAST_CODE_ASKED;
 use form::layout::LAST_FONT_ASKED;
 use form::locate::Cursor;
+use store::download::BadRun;
 use store::known;
 use store::known::Opened;
 
@@ -42,6 +43,7 @@ pub struct StreamRead {
     pub done: u64,
     pub refused: u64,
     pub place: u64,
+    pub bad: BadRun,
 }
 
 // A reading under way: its place in the stream, and the cursor in the store.
@@ -49,6 +51,7 @@ pub struct State {
     pub at: usize,
     pub target: Target,
     pub counts: CommandCounts,
+    pub bad: BadRun,
     pub cursor: Cursor,
 }
 
@@ -56,6 +59,7 @@ pub struct State {
 pub struct Stopped {
     pub ending: Ending,
     pub counts: CommandCounts,
+    pub bad: BadRun,
     pub cursor: Cursor,
 }
 
@@ -80,6 +84,13 @@ fn count(x: CommandCounts, answer: u32) -> CommandCounts
         done: x.done,
         refused: x.refused + 1,
     }
+}
+
+// The bad run of the first refusal 8, where there was one.
+fn first_run(x: BadRun, new: BadRun) -> BadRun
+    ensures { λ r. ⌜ r ≡ firstRun x new ⌝ }
+{
+    if x.run == 0 { new } else { x }
 }
 
 // The answer to a font number or a code, by the last one allowed.
@@ -119,14 +130,16 @@ fn with_code(t: Target, n: u32) -> Target
 // The state behind a number or a code, which makes a new target.
 fn set_target(x: State, target: Target, answer: u32, next: usize) -> State
     requires { ⌜ x .counts .done + x .counts .refused < 18446744073709551615 ⌝ }
-    ensures { λ r. ⌜ r ≡ stateBehind x next target answer (x .cursor) ⌝ }
+    ensures { λ r. ⌜ r ≡ stateBehind x next target answer (x .bad) (x .cursor) ⌝ }
 {
     let counts = count(x.counts, answer);
+    let bad = x.bad;
     let cursor = x.cursor;
     State {
         at: next,
         target: target,
         counts: counts,
+        bad: bad,
         cursor: cursor,
     }
 }
@@ -134,17 +147,20 @@ fn set_target(x: State, target: Target, answer: u32, next: usize) -> State
 // The state behind a font block.
 fn take_font(s: &mut [u8], x: State, block: &[u8], next: usize) -> State
     requires { ⌜ Points (now s) (x .cursor) × (x .target .font ≤ lastFont) × (x .counts .done + x .counts .refused < 18446744073709551615) ⌝ }
-    ensures { λ r. ⌜ (r ≡ stateBehind x next (x .target) (downloadingFont (x .target .font) (now (block .entry)) (now (s .entry)) .answer) (r .cursor)) × Points (now (s .exit)) (r .cursor) ⌝ }
+    ensures { λ r. ⌜ (r ≡ stateBehind x next (x .target) (downloadingFont (x .target .font) (now (block .entry)) (now (s .entry)) .answer) (firstRun (x .bad) (downloadingFont (x .target .font) (now (block .entry)) (now (s .entry)) .bad)) (r .cursor)) × Points (now (s .exit)) (r .cursor) ⌝ }
     ensures { λ _. ⌜ now (s .exit) ≡ downloadingFont (x .target .font) (now (block .entry)) (now (s .entry)) .bytes ⌝ }
 {
     let target = x.target;
     let a = known::add_font(s, x.cursor, block, target.font);
-    let counts = count(x.counts, a.answer);
+    let answer = a.answer;
+    let counts = count(x.counts, answer.refusal);
+    let bad = first_run(x.bad, answer.bad);
     let cursor = a.cursor;
     State {
         at: next,
         target: target,
         counts: counts,
+        bad: bad,
         cursor: cursor,
     }
 }
@@ -152,17 +168,20 @@ fn take_font(s: &mut [u8], x: State, block: &[u8], next: usize) -> State
 // The state behind a character block.
 fn take_character(s: &mut [u8], x: State, block: &[u8], next: usize) -> State
     requires { ⌜ Points (now s) (x .cursor) × (x .target .font ≤ lastFont) × (x .target .code ≤ lastCode) × (x .counts .done + x .counts .refused < 18446744073709551615) ⌝ }
-    ensures { λ r. ⌜ (r ≡ stateBehind x next (x .target) (downloadingCharacter (x .target .font) (x .target .code) (now (block .entry)) (now (s .entry)) .answer) (r .cursor)) × Points (now (s .exit)) (r .cursor) ⌝ }
+    ensures { λ r. ⌜ (r ≡ stateBehind x next (x .target) (downloadingCharacter (x .target .font) (x .target .code) (now (block .entry)) (now (s .entry)) .answer) (firstRun (x .bad) (downloadingCharacter (x .target .font) (x .target .code) (now (block .entry)) (now (s .entry)) .bad)) (r .cursor)) × Points (now (s .exit)) (r .cursor) ⌝ }
     ensures { λ _. ⌜ now (s .exit) ≡ downloadingCharacter (x .target .font) (x .target .code) (now (block .entry)) (now (s .entry)) .bytes ⌝ }
 {
     let target = x.target;
     let a = known::add_character(s, x.cursor, block, target.font, target.code);
-    let counts = count(x.counts, a.answer);
+    let answer = a.answer;
+    let counts = count(x.counts, answer.refusal);
+    let bad = first_run(x.bad, answer.bad);
     let cursor = a.cursor;
     State {
         at: next,
         target: target,
         counts: counts,
+        bad: bad,
         cursor: cursor,
     }
 }
@@ -207,10 +226,12 @@ pub fn read_from(s: &mut [u8], stream: &[u8], from: State) -> Stopped
             }
             Obeyed::Stop(ending) => {
                 let counts = x.counts;
+                let bad = x.bad;
                 let cursor = x.cursor;
                 return Stopped {
                     ending: ending,
                     counts: counts,
+                    bad: bad,
                     cursor: cursor,
                 };
             }
@@ -218,8 +239,8 @@ pub fn read_from(s: &mut [u8], stream: &[u8], from: State) -> Stopped
     }
 }
 
-fn end_answer(ending: Ending, x: CommandCounts) -> StreamRead
-    ensures { λ r. ⌜ r ≡ endAnswer ending x ⌝ }
+fn end_answer(ending: Ending, x: CommandCounts, bad: BadRun) -> StreamRead
+    ensures { λ r. ⌜ r ≡ endAnswer ending x bad ⌝ }
 {
     match ending {
         Ending::AtEnd => StreamRead {
@@ -227,12 +248,14 @@ fn end_answer(ending: Ending, x: CommandCounts) -> StreamRead
             done: x.done,
             refused: x.refused,
             place: 0,
+            bad: bad,
         },
         Ending::BrokenAt(at) => StreamRead {
             refusal: 13,
             done: x.done,
             refused: x.refused,
             place: at as u64,
+            bad: bad,
         },
     }
 }
@@ -242,12 +265,18 @@ pub fn read_stream(s: &mut [u8], stream: &[u8]) -> StreamRead
     ensures { λ r. ⌜ r ≡ reading (now (stream .entry)) (now (s .entry)) .answer ⌝ }
     ensures { λ _. ⌜ now (s .exit) ≡ reading (now (stream .entry)) (now (s .entry)) .bytes ⌝ }
 {
+    let no_run = BadRun {
+        row: 0,
+        filled: 0,
+        run: 0,
+    };
     let Opened::At(cursor) = known::open_store(s) else {
         return StreamRead {
             refusal: 1,
             done: 0,
             refused: 0,
             place: 0,
+            bad: no_run,
         };
     };
     let target = Target { font: 0, code: 0 };
@@ -259,9 +288,11 @@ pub fn read_stream(s: &mut [u8], stream: &[u8]) -> StreamRead
         at: 0,
         target: target,
         counts: none,
+        bad: no_run,
         cursor: cursor,
     };
     let last = read_from(s, stream, first);
     let ending = last.ending;
-    end_answer(ending, last.counts)
+    let bad = last.bad;
+    end_answer(ending, last.counts, bad)
 }

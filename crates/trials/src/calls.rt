@@ -9,9 +9,11 @@ pub fn font(what: &[u8], s: &mut [u8], block: &[u8], number: u32) {
     print::answer(what, marlinfold::mf_download_font(s, block, number));
 }
 
-// Of font 5.
+// Of font 5. The three numbers of a refusal 8 are printed.
 pub fn character(what: &[u8], s: &mut [u8], block: &[u8], code: u32) {
-    print::answer(what, marlinfold::mf_download_character(s, block, 5, code));
+    let downloaded = marlinfold::mf_download_character(s, block, 5, code);
+    let bad = downloaded.bad;
+    print::downloaded(what, downloaded.refusal, bad.row, bad.filled, bad.run);
 }
 
 pub fn remove_font(what: &[u8], s: &mut [u8], number: u32) {
@@ -59,8 +61,11 @@ pub fn draw_picture(what: &[u8], s: &[u8], out: &mut [u8]) {
     print::answer(what, marlinfold::mf_draw_picture(s, out, 5, 65));
 }
 
-// The counts and the place are printed.
+// The counts, the place and the three numbers of the first refusal 8 are printed.
 pub fn read_stream(what: &[u8], s: &mut [u8], stream: &[u8]) {
     let read = marlinfold::mf_read_stream(s, stream);
+    let bad = read.bad;
     print::read(what, read.refusal, read.done, read.refused, read.place);
+    print::bad_run(bad.row, bad.filled, bad.run);
+    print::text(b"\n");
 }

@@ -27,7 +27,28 @@ pub fn two(what: &[u8], refusal: u32, n: u32) {
     text(b"\n");
 }
 
-// The answer of a stream that was read.
+// A run past the width: the picture row being read, the dots filled and the run; nothing if there was none.
+pub fn bad_run(row: u32, filled: u32, run: u32) {
+    if run != 0 {
+        text(b", row ");
+        number(row as u64);
+        text(b", filled ");
+        number(filled as u64);
+        text(b", run ");
+        number(run as u64);
+    }
+}
+
+// The answer to a character block.
+pub fn downloaded(what: &[u8], refusal: u32, row: u32, filled: u32, run: u32) {
+    text(what);
+    text(b": ");
+    number(refusal as u64);
+    bad_run(row, filled, run);
+    text(b"\n");
+}
+
+// The answer of a stream that was read, up to its place.
 pub fn read(what: &[u8], refusal: u32, done: u64, refused: u64, place: u64) {
     text(what);
     text(b": ");
@@ -38,7 +59,6 @@ pub fn read(what: &[u8], refusal: u32, done: u64, refused: u64, place: u64) {
     number(refused);
     text(b", place ");
     number(place);
-    text(b"\n");
 }
 
 // A byte in two's complement.

@@ -10,7 +10,7 @@ use Rattle.form.specs.Model.{characterBytes, shut}
 use Rattle.change.specs.Change.{splicedAt, withBytes, Recounting, recounted, remarked}
 use Rattle.store.specs.Download.{markFor}
 use Rattle.store.proofs.Downloads.{Space, space, place-full, place-ready, place-done}
-use Rattle.store.proofs.FontCalls.{answered}
+use Rattle.store.proofs.FontCalls.{answered-block}
 use borrow.Author.Needs.{needs}
 use native.Mathlib.Omega.{arith}
 use Rattle.store.proofs.download.place_first.Statement.{statement}
@@ -36,10 +36,11 @@ cut-font-requires : tie.Need-cut-font-requires
 cut-font-requires c κs = let r = at-start (c .before .before .before .before) .ready in (r .least, r .span, r .end, r .room)
 
 returns : tie.Need-returns
-returns c = let x = at-start (c .before .before .before .before .before .before .before) in
-    let l = data-length (c .before .before .before .before .before .before .before) in
-    let e = answered (place-full _ _ _ _ _ _ x (omega (arith, c .before .before .before .before .if1 .taken, l))) in
-    (e .0, c .before .before .cut-font .ensures ∙ e .1)
+returns c =
+    let x = at-start (c .before .before .before .before .before .before .before .before) in
+    let l = data-length (c .before .before .before .before .before .before .before .before) in
+    let e = answered-block (place-full _ _ _ _ _ _ x (omega (arith, c .before .before .before .before .before .if1 .taken, l))) in
+    (c .without-run .ensures ∙ e .0, c .before .before .before .cut-font .ensures ∙ e .1)
 
 splice-requires : tie.Need-splice-requires
 splice-requires c κs = let r = at-start (c .before .before .before .before) .ready in (omega (arith, r .one, r .last), r .room, omega (arith, r .one, r .last, r .room, c .before .if1 .left))
@@ -71,20 +72,20 @@ mark-character-requires c κs = let x = at-start (c .before .before .before .bef
 returns-2 : tie.Need-returns-2
 unfolding markFor
 returns-2 c =
-    let k = c .before .before .before .before .before .before .before .before .before .before .before .before .before .before .before .before .before .before .before in
+    let k = c .before .before .before .before .before .before .before .before .before .before .before .before .before .before .before .before .before .before .before .before in
     let k20 = k .before in
     let a = k20 .args in
     let l = data-length k in
     let d = take (a .n) (drop descriptorBytes (now (a .block))) in
-    let e = answered (place-done _ _ _ _ _ _ (at-start k) (omega (arith, c .before .before .before .before .before .before .before .before .before .before .before .before .before .before .before .before .if1 .left, l))) in
+    let e = answered-block (place-done _ _ _ _ _ _ (at-start k) (omega (arith, c .before .before .before .before .before .before .before .before .before .before .before .before .before .before .before .before .before .if1 .left, l))) in
     let old = a .p .to - a .p .from in
-    let put : c .before .before .before .before .before .before .before .before .before .before .write-character .last .0 ≡ withBytes (splicedAt (a .p .from) old (a .p .used) (characterRecord + length d) (now (a .s))) (a .p .from) (characterBytes (a .font) (a .code) (keptFirst (now (a .block))) d) =
-    c .before .before .before .before .before .before .before .before .before .before .write-character .ensures ∙ ap (λ (y : List ℕ). withBytes y (a .p .from) (characterBytes (a .font) (a .code) (keptFirst (now (a .block))) d)) (c .before .before .before .before .before .before .before .before .before .before .before .before .before .before .splice .ensures ∙ ap (λ (y : ℕ). splicedAt (a .p .from) old (a .p .used) (characterRecord + y) (now (a .s))) (sym l)) in (
-      e .0,
-      c .before .before .mark-character .ensures
-          ∙ ap (λ (y : Bool). remarked (cond y (record { on = 1; fontOf = a .font; codeOf = a .code }) shut) (c .before .before .before .before .before .before .recount .last .0)) (k20 .pre .1)
+    let put : c .before .before .before .before .before .before .before .before .before .before .before .write-character .last .0 ≡ withBytes (splicedAt (a .p .from) old (a .p .used) (characterRecord + length d) (now (a .s))) (a .p .from) (characterBytes (a .font) (a .code) (keptFirst (now (a .block))) d) =
+    c .before .before .before .before .before .before .before .before .before .before .before .write-character .ensures ∙ ap (λ (y : List ℕ). withBytes y (a .p .from) (characterBytes (a .font) (a .code) (keptFirst (now (a .block))) d)) (c .before .before .before .before .before .before .before .before .before .before .before .before .before .before .before .splice .ensures ∙ ap (λ (y : ℕ). splicedAt (a .p .from) old (a .p .used) (characterRecord + y) (now (a .s))) (sym l)) in (
+      c .without-run2 .ensures ∙ e .0,
+      c .before .before .before .mark-character .ensures
+          ∙ ap (λ (y : Bool). remarked (cond y (record { on = 1; fontOf = a .font; codeOf = a .code }) shut) (c .before .before .before .before .before .before .before .recount .last .0)) (k20 .pre .1)
           ∙ ap (remarked (markFor (a .font) (a .code) (keptFirst (now (a .block))) d))
-          (c .before .before .before .before .before .before .recount .ensures ∙ ap (λ (y : ℕ). recounted (a .p .lo) old (characterRecord + y) (c .before .before .before .before .before .before .before .before .before .before .write-character .last .0)) (sym l) ∙ ap (recounted (a .p .lo) old (characterRecord + length d)) put)
+          (c .before .before .before .before .before .before .before .recount .ensures ∙ ap (λ (y : ℕ). recounted (a .p .lo) old (characterRecord + y) (c .before .before .before .before .before .before .before .before .before .before .before .write-character .last .0)) (sym l) ∙ ap (recounted (a .p .lo) old (characterRecord + length d)) put)
           ∙ e .1,
     )
 
@@ -97,6 +98,7 @@ place-first-spec =
     (λ c. search needs)
     add-if1-2
     cut-font-requires
+    (λ c κs. search needs)
     (λ c. search needs)
     returns
     (λ c. search needs)
@@ -105,5 +107,6 @@ place-first-spec =
     add-recount
     recount-requires
     mark-character-requires
+    (λ c κs. search needs)
     (λ c. search needs)
     returns-2)

@@ -13,7 +13,7 @@ use Rattle.change.specs.Change.{splicedAt, withBytes, Recounting, recounted, re
 use Rattle.form.specs.Walk.{keptAt, dataAt}
 use Rattle.store.specs.Download.{markFor}
 use Rattle.store.proofs.Downloads.{Space, growing, grow-span, grow-small, grow-put, place-full, place-ready, place-done}
-use Rattle.store.proofs.FontCalls.{answered}
+use Rattle.store.proofs.FontCalls.{answered-block}
 use borrow.Author.Needs.{needs}
 use native.Mathlib.Omega.{arith}
 use Rattle.store.proofs.download.place_more.Statement.{statement}
@@ -54,10 +54,11 @@ cut-font-requires : tie.Need-cut-font-requires
 cut-font-requires c κs = let r = at-start (c .before .before .before .before) .ready in (r .least, r .span, r .end, r .room)
 
 returns : tie.Need-returns
-returns c = let x = at-start (c .before .before .before .before .before .before .before) in
-    let z = sizes (c .before .before .before .before .before .before .before) in
-    let e = answered (place-full _ _ _ _ _ _ x (omega (arith, c .before .before .before .before .if1 .taken, z .old, z .more, x .ready .last))) in
-    (e .0, c .before .before .cut-font .ensures ∙ e .1)
+returns c =
+    let x = at-start (c .before .before .before .before .before .before .before .before) in
+    let z = sizes (c .before .before .before .before .before .before .before .before) in
+    let e = answered-block (place-full _ _ _ _ _ _ x (omega (arith, c .before .before .before .before .before .if1 .taken, z .old, z .more, x .ready .last))) in
+    (c .without-run .ensures ∙ e .0, c .before .before .before .cut-font .ensures ∙ e .1)
 
 add-splice : tie.Need-add-splice
 add-splice c = let z = sizes (c .before .before .before .before) in omega (arith, z .old, z .small)
@@ -100,25 +101,25 @@ mark-character-requires c κs = let x = at-start (c .before .before .before .bef
 returns-2 : tie.Need-returns-2
 unfolding markFor
 returns-2 c =
-    let a = c .before .before .before .before .before .before .before .before .before .before .before .before .before .before .before .before .before .before .before .before .args in
-    let k = c .before .before .before .before .before .before .before .before .before .before .before .before .before .before .before .before .before .before .before in
+    let a = c .before .before .before .before .before .before .before .before .before .before .before .before .before .before .before .before .before .before .before .before .before .args in
+    let k = c .before .before .before .before .before .before .before .before .before .before .before .before .before .before .before .before .before .before .before .before in
     let x = at-start k in
     let z = sizes k in
     let l = data-length k in
     let s = now (a .s) in
     let t = take (a .n) (drop continuationBytes (now (a .block))) in
     let old = a .p .to - a .p .from in
-    let f : a .p .used + length t ≤ length s = omega (arith, c .before .before .before .before .before .before .before .before .before .before .before .before .before .before .before .before .if1 .left, l) in
+    let f : a .p .used + length t ≤ length s = omega (arith, c .before .before .before .before .before .before .before .before .before .before .before .before .before .before .before .before .before .if1 .left, l) in
     let m : characterRecord + length (dataAt s (a .p) ++ t) ≡ old + a .n = omega (arith, z .old, z .more) in
-    let put : c .before .before .before .before .before .before .before .before .before .before .extend-character .last .0 ≡ withBytes (splicedAt (a .p .from) old (a .p .used) (characterRecord + length (dataAt s (a .p) ++ t)) s) (a .p .from) (characterBytes (a .font) (a .code) (keptAt s (a .p)) (dataAt s (a .p) ++ t)) =
-    c .before .before .before .before .before .before .before .before .before .before .extend-character .ensures ∙ ap (λ (y : List ℕ). withBytes (withBytes y (a .p .from) (le 2 (old + a .n))) (a .p .from + old) t) (c .before .before .before .before .before .before .before .before .before .before .before .before .before .before .splice .ensures)
-    ∙ ap (λ (y : ℕ). withBytes (withBytes (splicedAt (a .p .from) old (a .p .used) (old + y) s) (a .p .from) (le 2 (old + y))) (a .p .from + old) t) (sym l) ∙ grow-put _ _ _ _ _ (bytes-at k) (c .before .before .before .before .before .before .before .before .before .before .before .before .before .before .before .before .before .before .before .before .pre .0 .1) f in
-    let e = answered (place-done _ _ _ _ _ _ x (omega (arith, c .before .before .before .before .before .before .before .before .before .before .before .before .before .before .before .before .if1 .left, z .old, z .more, x .ready .last))) in (
-      e .0,
-      c .before .before .mark-character .ensures
-          ∙ ap (λ (y : Bool). remarked (cond y (record { on = 1; fontOf = a .font; codeOf = a .code }) shut) (c .before .before .before .before .before .before .recount .last .0)) (c .before .before .before .before .before .before .before .before .before .before .before .before .before .before .before .before .before .before .before .before .pre .1)
+    let put : c .before .before .before .before .before .before .before .before .before .before .before .extend-character .last .0 ≡ withBytes (splicedAt (a .p .from) old (a .p .used) (characterRecord + length (dataAt s (a .p) ++ t)) s) (a .p .from) (characterBytes (a .font) (a .code) (keptAt s (a .p)) (dataAt s (a .p) ++ t)) =
+    c .before .before .before .before .before .before .before .before .before .before .before .extend-character .ensures ∙ ap (λ (y : List ℕ). withBytes (withBytes y (a .p .from) (le 2 (old + a .n))) (a .p .from + old) t) (c .before .before .before .before .before .before .before .before .before .before .before .before .before .before .before .splice .ensures)
+    ∙ ap (λ (y : ℕ). withBytes (withBytes (splicedAt (a .p .from) old (a .p .used) (old + y) s) (a .p .from) (le 2 (old + y))) (a .p .from + old) t) (sym l) ∙ grow-put _ _ _ _ _ (bytes-at k) (c .before .before .before .before .before .before .before .before .before .before .before .before .before .before .before .before .before .before .before .before .before .pre .0 .1) f in
+    let e = answered-block (place-done _ _ _ _ _ _ x (omega (arith, c .before .before .before .before .before .before .before .before .before .before .before .before .before .before .before .before .before .if1 .left, z .old, z .more, x .ready .last))) in (
+      c .without-run2 .ensures ∙ e .0,
+      c .before .before .before .mark-character .ensures
+          ∙ ap (λ (y : Bool). remarked (cond y (record { on = 1; fontOf = a .font; codeOf = a .code }) shut) (c .before .before .before .before .before .before .before .recount .last .0)) (c .before .before .before .before .before .before .before .before .before .before .before .before .before .before .before .before .before .before .before .before .before .pre .1)
           ∙ ap (remarked (markFor (a .font) (a .code) (keptAt s (a .p)) (dataAt s (a .p) ++ t)))
-          (c .before .before .before .before .before .before .recount .ensures ∙ ap (λ (y : ℕ). recounted (a .p .lo) old y (c .before .before .before .before .before .before .before .before .before .before .extend-character .last .0)) (sym m) ∙ ap (recounted (a .p .lo) old (characterRecord + length (dataAt s (a .p) ++ t))) put)
+          (c .before .before .before .before .before .before .before .recount .ensures ∙ ap (λ (y : ℕ). recounted (a .p .lo) old y (c .before .before .before .before .before .before .before .before .before .before .before .extend-character .last .0)) (sym m) ∙ ap (recounted (a .p .lo) old (characterRecord + length (dataAt s (a .p) ++ t))) put)
           ∙ e .1,
     )
 
@@ -129,6 +130,7 @@ place-more-spec =
     sub-old
     add-if1
     cut-font-requires
+    (λ c κs. search needs)
     (λ c. search needs)
     returns
     add-splice
@@ -137,5 +139,6 @@ place-more-spec =
     add-recount
     recount-requires
     mark-character-requires
+    (λ c κs. search needs)
     (λ c. search needs)
     returns-2)

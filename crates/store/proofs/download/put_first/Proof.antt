@@ -1,6 +1,6 @@
 use mathlib.Core.Path.{sym, _∙_}
 use denote.Ref.{now}
-use Rattle.store.proofs.FontCalls.{answered}
+use Rattle.store.proofs.FontCalls.{answered-by}
 use Rattle.store.proofs.Host.{Host, host, host-span}
 use Rattle.store.proofs.FirstBlocks.{first-refused}
 use borrow.Author.Needs.{needs}
@@ -25,8 +25,8 @@ receive-first-requires c κs =
 
 returns : tie.Need-returns
 returns c =
-    let k3 = c .before .before .before in
-    let x = at-start (c .before .before .before .before .before .before .before) in answered (first-refused _ _ _ _ _ x _ (sym (k3 .read-first .ensures) ∙ c .before .k .given .1))
+    let k3 = c .before .before .before .before in
+    let x = at-start (c .before .before .before .before .before .before .before .before) in answered-by (c .without-run .ensures) (first-refused _ _ _ _ _ x _ (sym (k3 .read-first .ensures) ∙ c .before .before .k .given .1))
 
 returns-2 : tie.Need-returns-2
 returns-2 c = c .before .before .receive-first .ensures
@@ -40,6 +40,7 @@ put-first-spec =
     (λ c κs. search needs)
     (λ c. search needs)
     (λ c. search needs)
+    (λ c κs. search needs)
     (λ c. search needs)
     receive-first-requires
     returns

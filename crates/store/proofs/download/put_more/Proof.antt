@@ -8,7 +8,7 @@ use Rattle.pictures.proofs.Tests.{failed, passed}
 use Rattle.blocks.specs.Character.{continuationBytes}
 use Rattle.form.specs.Model.{markIn}
 use Rattle.store.specs.Download.{names}
-use Rattle.store.proofs.FontCalls.{answered}
+use Rattle.store.proofs.FontCalls.{answered-by}
 use Rattle.store.proofs.Host.{Host, host}
 use Rattle.store.proofs.FirstBlocks.{block-short}
 use Rattle.store.proofs.Continuations.{Opened, opened-there, joined-at, more-not, more-past, more-within}
@@ -31,7 +31,8 @@ is-open-requires : tie.Need-is-open-requires
 is-open-requires c κs = let r = at-start (c .before .before) .ready in omega (arith, r .least, r .span, r .end, r .room)
 
 returns : tie.Need-returns
-returns c = answered (more-not _ _ _ _ _ (at-start (c .before .before .before .before)) (failed (c .before .is-open .ensures) (c .if1 .taken)))
+returns c =
+    answered-by (c .without-run .ensures) (more-not _ _ _ _ _ (at-start (c .before .before .before .before .before)) (failed (c .before .before .is-open .ensures) (c .before .if1 .taken)))
 
 add-h : tie.Need-add-h
 add-h c = let r = at-start (c .before .before .before .before .before) .ready in omega (arith, r .one, r .last, r .room)
@@ -77,12 +78,13 @@ sub-receive-more-3 c =
 receive-more-requires-2 : tie.Need-receive-more-requires-2
 receive-more-requires-2 c κs = let b = now (c .before .before .before .before .before .before .before .before .before .before .before .before .before .before .args .block) in
     let l = block-short _ (c .before .before .before .before .before .before .before .before .before .before .before .before .before .before .pre .1) .0 in
-    ((omega (arith, l), c .before .before .before .before .before .before .before .before .before .before .before .before .before .before .pre .0, named (c .before .before .before .before .before .before .before .before .before)), (sym (joined-at _ _ b _ (c .before .before .before .before .before .before .before .before .before .before .before .before .before .before .args .p) (at-start (c .before .before .before .before .before .before .before .before .before .before .before .before .before))) ∙ sym (c .before .before .before .judge-more .ensures) ∙ c .before .enum-told2 .given .1, refl))
+    ((omega (arith, l), c .before .before .before .before .before .before .before .before .before .before .before .before .before .before .pre .0, named (c .before .before .before .before .before .before .before .before .before)), (sym (joined-at _ _ b _ (c .before .before .before .before .before .before .before .before .before .before .before .before .before .before .args .p) (at-start (c .before .before .before .before .before .before .before .before .before .before .before .before .before))) ∙ sym (c .before .before .before .judge-more .ensures) ∙ c .before .enum-told .given .1, refl))
 
 returns-2 : tie.Need-returns-2
 returns-2 c =
-    let k13 = c .before .before .before .before .before .before .before .before .before .before .before .before .before in
-    answered (more-past _ _ (now (k13 .args .block)) _ (k13 .args .p) (at-start (c .before .before .before .before .before .before .before .before .before .before .before .before)) (named (c .before .before .before .before .before .before .before .before)) _ _ _ (sym (joined-at _ _ (now (k13 .args .block)) _ (k13 .args .p) (at-start (c .before .before .before .before .before .before .before .before .before .before .before .before))) ∙ sym (c .before .before .judge-more .ensures) ∙ c .enum-told .given .1))
+    let k15 = c .before .before .before .before .before .before .before .before .before .before .before .before .before .before .before in
+    let x = at-start (c .before .before .before .before .before .before .before .before .before .before .before .before .before .before) in
+    answered-by (c .past-width .ensures) (more-past _ _ (now (k15 .args .block)) _ (k15 .args .p) x (named (c .before .before .before .before .before .before .before .before .before .before)) _ _ _ (sym (joined-at _ _ (now (k15 .args .block)) _ (k15 .args .p) x) ∙ sym (c .before .before .before .before .judge-more .ensures) ∙ c .before .before .row .given .1))
 
 returns-3 : tie.Need-returns-3
 returns-3 c = c .before .before .receive-more .ensures
@@ -95,6 +97,7 @@ put-more-spec =
     tie.close
     (tie.spec
     is-open-requires
+    (λ c κs. search needs)
     (λ c. search needs)
     returns
     add-h
@@ -107,6 +110,7 @@ put-more-spec =
     part-judge-more-end-2
     judge-more-requires
     (λ c. search needs)
+    (λ c κs. search needs)
     (λ c. search needs)
     sub-receive-more
     sub-receive-more-2

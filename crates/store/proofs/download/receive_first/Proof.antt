@@ -2,7 +2,7 @@ use mathlib.Core.Path.{sym, ap, _∙_}
 use denote.Ref.{now}
 use Rattle.blocks.proofs.KeptFirst.{first-long}
 use Rattle.form.specs.Model.{isUnfinished}
-use Rattle.store.proofs.FontCalls.{answered}
+use Rattle.store.proofs.FontCalls.{answered-block, answered-by}
 use Rattle.store.proofs.Host.{Host, host}
 use Rattle.store.proofs.FirstBlocks.{first-past, complete-small, complete-held, complete-fits, first-complete, incomplete-small, incomplete-held, incomplete-fits, first-incomplete}
 use borrow.Author.Needs.{needs}
@@ -34,14 +34,15 @@ place-first-requires-2 c κs =
     let k3 = c .before .before .before in
     let k6 = k3 .before .before .before in
     let x = at-start (c .before .before .before .before .before) in
-    let q = sym (k3 .judge-block .ensures) ∙ c .before .enum-told2 .given .1 in
+    let q = sym (k3 .judge-block .ensures) ∙ c .before .enum-told .given .1 in
     let k = incomplete-small _ _ _ _ _ x (k6 .pre .0 .1) (k6 .pre .0 .2) (k6 .pre .1) q in
     ((k .0, k .1, incomplete-fits _ _ _ _ _ x (k6 .pre .0 .1) (k6 .pre .0 .2) (k6 .pre .1) q), sym (ap isUnfinished (incomplete-held _ _ _ _ _ x (k6 .pre .0 .1) (k6 .pre .0 .2) (k6 .pre .1) q)))
 
 returns : tie.Need-returns
 returns c =
-    let k5 = c .before .before .before .before .before in
-    let x = at-start (c .before .before .before .before) in answered (first-past _ _ _ _ _ x (k5 .pre .0 .1) (k5 .pre .0 .2) (k5 .pre .1) _ _ _ (sym (c .before .before .judge-block .ensures) ∙ c .enum-told .given .1))
+    let k7 = c .before .before .before .before .before .before .before in
+    let x = at-start (c .before .before .before .before .before .before) in
+    answered-by (c .past-width .ensures) (first-past _ _ _ _ _ x (k7 .pre .0 .1) (k7 .pre .0 .2) (k7 .pre .1) _ _ _ (sym (c .before .before .before .before .judge-block .ensures) ∙ c .before .before .row .given .1))
 
 returns-2 : tie.Need-returns-2
 returns-2 c =
@@ -49,7 +50,7 @@ returns-2 c =
     let k7 = k5 .before .before in
     let k10 = k7 .before .before .before in
     let x = at-start (c .before .before .before .before .before .before .before .before .before) in
-    let e = answered (first-complete _ _ _ _ _ x (k10 .pre .0 .1) (k10 .pre .0 .2) (k10 .pre .1) _ (sym (k7 .judge-block .ensures) ∙ k5 .n .given .1)) in
+    let e = answered-block (first-complete _ _ _ _ _ x (k10 .pre .0 .1) (k10 .pre .0 .2) (k10 .pre .1) _ (sym (k7 .judge-block .ensures) ∙ k5 .n .given .1)) in
     (c .before .before .place-first .ensures .0 ∙ e .0, c .before .before .place-first .ensures .1 ∙ e .1)
 
 returns-3 : tie.Need-returns-3
@@ -58,7 +59,7 @@ returns-3 c =
     let k6 = k4 .before .before in
     let k9 = k6 .before .before .before in
     let x = at-start (c .before .before .before .before .before .before .before .before) in
-    let e = answered (first-incomplete _ _ _ _ _ x (k9 .pre .0 .1) (k9 .pre .0 .2) (k9 .pre .1) (sym (k6 .judge-block .ensures) ∙ k4 .enum-told2 .given .1)) in
+    let e = answered-block (first-incomplete _ _ _ _ _ x (k9 .pre .0 .1) (k9 .pre .0 .2) (k9 .pre .1) (sym (k6 .judge-block .ensures) ∙ k4 .enum-told .given .1)) in
     (c .before .before .place-first2 .ensures .0 ∙ e .0, c .before .before .place-first2 .ensures .1 ∙ e .1)
 
 pub receive-first-spec : {M : Type 1} → statement M
@@ -67,6 +68,7 @@ receive-first-spec =
     (tie.spec
     judge-block-requires
     (λ c. search needs)
+    (λ c κs. search needs)
     (λ c. search needs)
     place-first-requires
     (λ c. search needs)

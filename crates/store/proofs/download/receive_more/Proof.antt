@@ -6,7 +6,7 @@ use Rattle.blocks.specs.Character.{continuationBytes}
 use Rattle.pictures.specs.Size.{dataLimit}
 use Rattle.form.specs.Layout.{characterRecord}
 use Rattle.form.specs.Walk.{dataAt}
-use Rattle.store.proofs.FontCalls.{answered}
+use Rattle.store.proofs.FontCalls.{answered-block, answered-by}
 use Rattle.store.proofs.Host.{Host, host}
 use Rattle.store.proofs.Continuations.{Opened, opened-there, more-large, more-marked, more-grows, more-placed}
 use borrow.Author.Needs.{needs}
@@ -37,11 +37,12 @@ add-if1-2 : tie.Need-add-if1-2
 add-if1-2 c = let x = at-start (c .before .before .before) in omega (arith, x .ready .last, x .ready .room, c .before .before .before .before .pre .0 .0)
 
 returns : tie.Need-returns
-returns c = let x = at-start (c .before .before .before .before) in
-    let q = sum (c .before .before .before .before) in
-    let a = c .before .before .before .before .before .args in
-    let l : dataLimit < length (dataAt (now (a .s)) (a .p)) + length (take (a .n) (drop continuationBytes (now (a .block)))) = omega (arith, q, c .if1 .taken) in
-    answered (more-large _ _ (now (a .block)) _ (a .p) x (c .before .before .before .before .before .pre .0 .2) (a .n) (a .marked) (c .before .before .before .before .before .pre .1) l)
+returns c =
+    let x = at-start (c .before .before .before .before .before) in
+    let q = sum (c .before .before .before .before .before) in
+    let a = c .before .before .before .before .before .before .args in
+    let l : dataLimit < length (dataAt (now (a .s)) (a .p)) + length (take (a .n) (drop continuationBytes (now (a .block)))) = omega (arith, q, c .before .if1 .taken) in
+    answered-by (c .without-run .ensures) (more-large _ _ (now (a .block)) _ (a .p) x (c .before .before .before .before .before .before .pre .0 .2) (a .n) (a .marked) (c .before .before .before .before .before .before .pre .1) l)
 
 place-more-requires : tie.Need-place-more-requires
 place-more-requires c κs = let x = at-start (c .before .before .before .before .before) in
@@ -55,7 +56,7 @@ returns-2 c = let x = at-start (c .before .before .before .before .before .befor
     let q = sum (c .before .before .before .before .before .before .before .before) in
     let a = c .before .before .before .before .before .before .before .before .before .args in
     let l : length (dataAt (now (a .s)) (a .p)) + length (take (a .n) (drop continuationBytes (now (a .block)))) ≤ dataLimit = omega (arith, q, c .before .before .before .before .if1 .left) in
-    let e = answered (more-placed _ _ (now (a .block)) _ (a .p) x (c .before .before .before .before .before .before .before .before .before .pre .0 .2) (a .n) (a .marked) (c .before .before .before .before .before .before .before .before .before .pre .1) l) in
+    let e = answered-block (more-placed _ _ (now (a .block)) _ (a .p) x (c .before .before .before .before .before .before .before .before .before .pre .0 .2) (a .n) (a .marked) (c .before .before .before .before .before .before .before .before .before .pre .1) l) in
     (c .before .before .place-more .ensures .0 ∙ e .0, c .before .before .place-more .ensures .1 ∙ e .1)
 
 pub receive-more-spec : {M : Type 1} → statement M
@@ -65,6 +66,7 @@ receive-more-spec =
     add-if1
     sub-if1
     add-if1-2
+    (λ c κs. search needs)
     returns
     place-more-requires
     (λ c. search needs)

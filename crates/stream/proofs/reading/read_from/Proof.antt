@@ -33,13 +33,13 @@ loop-again c =
     (h .1 .1, h .0 ∙ l .loop .inv .1, k .obey .kept .0 ∙ l .loop .inv .2)
 
 same-length : tie.Need-same-length Inv-loop μ-loop
-same-length c = let k = c .before .before .before .before .before .before .before in k .obey .kept .0 ∙ k .before .before .loop .inv .2
+same-length c = let k = c .before .before .before .before .before .before .before .before in k .obey .kept .0 ∙ k .before .before .loop .inv .2
 
 returns : tie.Need-returns Inv-loop μ-loop
 returns c =
-    let k = c .before .before .before .before .before .before .before in
+    let k = c .before .before .before .before .before .before .before .before in
     let l = k .before .before in
-    let h = went-last (now (l .before .before .before .args .stream)) _ _ (l .loop .x) _ (k .obey .ensures) _ (c .before .before .before .ending .given .1) in
+    let h = went-last (now (l .before .before .before .args .stream)) _ _ (l .loop .x) _ (k .obey .ensures) _ (c .before .before .before .before .ending .given .1) in
     (h .0 ∙ l .loop .inv .1, h .1)
 
 pub read-from-spec : {M : Type 1} → statement M

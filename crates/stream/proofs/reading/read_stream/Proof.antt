@@ -23,7 +23,7 @@ read-from-requires c κs =
 
 returns-2 : tie.Need-returns-2
 returns-2 c =
-    let k = c .before .before .before in
+    let k = c .before .before .before .before in
     let o = k .before .before .before in
     let is = opened-at _ _ _ (o .cursor .given .1) (o .before .before .open-store .ensures) .is in
     let h = answered (ap (λ (e : Ended). readingOf e) (k .read-from .ensures .0) ∙ sym (read-store (now (o .before .before .before .before .before .before .args .stream)) _ _ is)) in
