@@ -2,7 +2,7 @@
 //! continuation. They see blocks and kept bytes only, never the store.
 
 use crate::runs::{Reading, Shape};
-use crate::Refusal;
+use crate::{Refusal, Refused};
 
 /// A font's kept bytes: 01, The font block, "Kept: the first 64 bytes"; 02, W-206:
 /// "The font record grows at its end by those four bytes for every font", the
@@ -311,23 +311,23 @@ pub fn is_first_block(block: &[u8]) -> bool {
 
 /// 01, The character block, "a first block", after the checks of both kinds:
 /// 3, 4, 5, 9 for the picture, then 8.
-pub fn read_first(block: &[u8], font_orientation: u8) -> Result<FirstBlock<'_>, Refusal> {
+pub fn read_first(block: &[u8], font_orientation: u8) -> Result<FirstBlock<'_>, Refused> {
     // "length at least 16, else 3"
     let Some((first, data)) = block.split_first_chunk::<DESCRIPTOR>() else {
-        return Err(Refusal::BlockLength);
+        return Err(Refusal::BlockLength.into());
     };
     let descriptor = Descriptor(first);
     if !descriptor.is_taken() {
-        return Err(Refusal::NotTaken);
+        return Err(Refusal::NotTaken.into());
     }
     if !descriptor.fields_allowed(font_orientation) {
-        return Err(Refusal::FieldValue);
+        return Err(Refusal::FieldValue.into());
     }
     // "A picture has height rows of width/8 rounded up bytes; above 32,768
     // bytes in all is 9."
     let shape = descriptor.shape();
     if shape.picture_bytes() > DATA_MAX {
-        return Err(Refusal::TooLarge);
+        return Err(Refusal::TooLarge.into());
     }
     // "8 if class 2 data has a run past the width before all rows are drawn";
     // "Data beyond a complete picture is dropped." One block's data cannot
@@ -354,12 +354,12 @@ pub fn read_continuation(
     block: &[u8],
     open: Reading,
     kept_bytes: usize,
-) -> Result<(&[u8], Reading), Refusal> {
+) -> Result<(&[u8], Reading), Refused> {
     let data = block.get(CONTINUATION..).unwrap_or(&[]);
     let mut reading = open;
     let taken = reading.take(data)?;
     if kept_bytes + taken > DATA_MAX {
-        return Err(Refusal::TooLarge);
+        return Err(Refusal::TooLarge.into());
     }
     Ok((&data[..taken], reading))
 }

@@ -20,6 +20,7 @@ mod store;
 mod stream;
 mod turn;
 
+use runs::BadRun;
 use store::{Store, View};
 
 /// 01, the table of "The calls, and what they answer".
@@ -53,6 +54,36 @@ pub enum Refusal {
     StreamBroken = 13,
     /// 02, W-207: "outside the profile"
     OutsideProfile = 14,
+}
+
+/// Why a character block is refused: 02, W-209, with the numbers of the run for 8.
+#[derive(Clone, Copy)]
+enum Refused {
+    BadRun(BadRun),
+    For(Refusal),
+}
+
+impl From<BadRun> for Refused {
+    fn from(bad: BadRun) -> Refused {
+        Refused::BadRun(bad)
+    }
+}
+
+impl From<Refusal> for Refused {
+    fn from(refusal: Refusal) -> Refused {
+        Refused::For(refusal)
+    }
+}
+
+/// What downloading a character answers: 02, W-209, for 8 "the picture row being read,
+/// counted from 0 with repeats, the dots already filled and the run that didn't fit",
+/// "and 0 for all three otherwise".
+#[derive(Clone, Copy, Debug, Default, PartialEq, Eq)]
+pub struct Downloaded {
+    pub refusal: u32,
+    pub row: u32,
+    pub filled: u32,
+    pub run: u32,
 }
 
 /// What choosing answers: the font number.
@@ -96,13 +127,17 @@ pub struct Profile {
 }
 
 /// What reading a stream answers: "commands done, commands refused"; for 13
-/// also its place, which is 0 otherwise.
+/// also its place, which is 0 otherwise; and (02, W-209) a character download's three
+/// numbers "for its first such refusal", the first of its commands refused with 8.
 #[derive(Clone, Copy, Debug, Default, PartialEq, Eq)]
 pub struct StreamRead {
     pub refusal: u32,
     pub done: u64,
     pub refused: u64,
     pub place: u64,
+    pub row: u32,
+    pub filled: u32,
+    pub run: u32,
 }
 
 /// What choosing is asked (01, "Choosing"). The pitch is in hundredths of a
@@ -156,8 +191,23 @@ pub fn download_font(store: &mut [u8], block: &[u8], font: u32) -> u32 {
     number(Store::of(store).and_then(|mut store| store.download_font(block, font)))
 }
 
-pub fn download_character(store: &mut [u8], block: &[u8], font: u32, code: u32) -> u32 {
-    number(Store::of(store).and_then(|mut store| store.download_character(block, font, code)))
+pub fn download_character(store: &mut [u8], block: &[u8], font: u32, code: u32) -> Downloaded {
+    let result = Store::of(store)
+        .map_err(Refused::from)
+        .and_then(|mut store| store.download_character(block, font, code));
+    match result {
+        Ok(()) => Downloaded::default(),
+        Err(Refused::BadRun(BadRun { row, filled, run })) => Downloaded {
+            refusal: Refusal::RunPastRow as u32,
+            row,
+            filled,
+            run,
+        },
+        Err(Refused::For(refusal)) => Downloaded {
+            refusal: refusal as u32,
+            ..Downloaded::default()
+        },
+    }
 }
 
 pub fn remove_font(store: &mut [u8], font: u32) -> u32 {

@@ -1,8 +1,6 @@
 //! Picture data: how far it brings a picture, and the rows and pictures drawn
 //! from it.
 
-use crate::Refusal;
-
 /// Class, width and height of a character.
 #[derive(Clone, Copy)]
 pub struct Shape {
@@ -41,12 +39,25 @@ pub enum Reading {
     Runs(RunReading),
 }
 
+/// 02, W-209: "The row reader is to answer with the picture row being read, counted
+/// from 0 with repeats, the dots already filled and the run that didn't fit".
+#[derive(Clone, Copy)]
+pub struct BadRun {
+    /// The first of the picture's rows that it would have drawn.
+    pub row: u32,
+    /// By the runs of that row before this one.
+    pub filled: u32,
+    pub run: u32,
+}
+
 /// Where the reading of class 2 data is.
 #[derive(Clone, Copy)]
 pub struct RunReading {
     width: u32,
-    /// Rows not yet drawn; none is left in a complete picture.
-    rows_left: u32,
+    height: u32,
+    /// Rows drawn so far, with repeats, so that the row to be read next has this
+    /// number; as many as the height in a complete picture.
+    drawn: u32,
     /// The row begun, if one is: its repeat count, and how many dots of its
     /// width no run has filled yet (at least 1). With none begun, the next
     /// byte is a repeat count.
@@ -58,7 +69,8 @@ impl Reading {
         if shape.compressed {
             Reading::Runs(RunReading {
                 width: shape.width as u32,
-                rows_left: shape.height as u32,
+                height: shape.height as u32,
+                drawn: 0,
                 row: None,
             })
         } else {
@@ -71,14 +83,14 @@ impl Reading {
     pub fn is_complete(&self) -> bool {
         match self {
             Reading::Plain { missing } => *missing == 0,
-            Reading::Runs(runs) => runs.rows_left == 0,
+            Reading::Runs(runs) => runs.drawn == runs.height,
         }
     }
 
     /// Takes the next part of the data and answers how many of its bytes
-    /// belong to the picture; the others are "beyond a complete picture".
-    /// Refuses with 8.
-    pub fn take(&mut self, data: &[u8]) -> Result<usize, Refusal> {
+    /// belong to the picture; the others are "beyond a complete picture". Or
+    /// else the run that is refused with 8.
+    pub fn take(&mut self, data: &[u8]) -> Result<usize, BadRun> {
         match self {
             Reading::Plain { missing } => {
                 let taken = data.len().min(*missing);
@@ -95,9 +107,9 @@ impl RunReading {
     /// white first, each one byte, until they sum to the width; the row is
     /// drawn once and then as often again as the count says." Here only the
     /// sums count, not the colours.
-    fn take(&mut self, data: &[u8]) -> Result<usize, Refusal> {
+    fn take(&mut self, data: &[u8]) -> Result<usize, BadRun> {
         let mut at = 0;
-        while self.rows_left > 0 {
+        while self.drawn < self.height {
             let (repeat, mut unfilled) = match self.row.take() {
                 Some(row) => row,
                 None => {
@@ -124,11 +136,15 @@ impl RunReading {
                 } else {
                     // "8 if class 2 data has a run past the width before all
                     // rows are drawn"
-                    return Err(Refusal::RunPastRow);
+                    return Err(BadRun {
+                        row: self.drawn,
+                        filled: self.width - unfilled,
+                        run,
+                    });
                 }
             }
             // "Repeats below the last row are dropped."
-            self.rows_left = self.rows_left.saturating_sub(1 + repeat);
+            self.drawn = self.height.min(self.drawn + 1 + repeat);
         }
         Ok(at)
     }

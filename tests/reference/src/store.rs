@@ -5,7 +5,7 @@
 
 use crate::block::{self, Descriptor, Header, DESCRIPTOR, HEADER};
 use crate::runs::{self, Reading, Shape};
-use crate::Refusal;
+use crate::{Refusal, Refused};
 
 // 01, The store: "A run of records, low byte first: length of the whole record
 // (4 bytes), kind (2), body."
@@ -643,17 +643,17 @@ impl<'a> Store<'a> {
         block: &[u8],
         font: u32,
         code: u32,
-    ) -> Result<(), Refusal> {
+    ) -> Result<(), Refused> {
         check_range(font, code)?;
         // "Length 2..32767, else 3; font present, else 6; byte 0 is 4, else 4."
         if !block::character_block_length_allowed(block) {
-            return Err(Refusal::BlockLength);
+            return Err(Refusal::BlockLength.into());
         }
         let Ok(font_at) = self.find_font(font) else {
-            return Err(Refusal::NoFont);
+            return Err(Refusal::NoFont.into());
         };
         if !block::is_character_block(block) {
-            return Err(Refusal::NotTaken);
+            return Err(Refusal::NotTaken.into());
         }
         if block::is_first_block(block) {
             self.download_first(block, font, font_at, code)
@@ -668,7 +668,7 @@ impl<'a> Store<'a> {
         font: u32,
         font_at: usize,
         code: u32,
-    ) -> Result<(), Refusal> {
+    ) -> Result<(), Refused> {
         let orientation = header_at(self.records(), font_at).orientation();
         let first = block::read_first(block, orientation)?;
         // "It replaces a character of that code."
@@ -712,14 +712,14 @@ impl<'a> Store<'a> {
         font: u32,
         font_at: usize,
         code: u32,
-    ) -> Result<(), Refusal> {
+    ) -> Result<(), Refused> {
         // "its font number and code must be those of the open character, else 7"
         let open = match self.open {
             Some(open) if open.font == font && open.code == code => open,
-            _ => return Err(Refusal::NoCharacter),
+            _ => return Err(Refusal::NoCharacter.into()),
         };
         let Ok(at) = self.find_character(code) else {
-            return Err(Refusal::NoCharacter);
+            return Err(Refusal::NoCharacter.into());
         };
         let old = length_at(self.records(), at);
         // "Its data joins what is kept."
@@ -743,9 +743,9 @@ impl<'a> Store<'a> {
     }
 
     /// 10 on a character block: "its font and all its characters removed".
-    fn no_room(&mut self, font: u32, font_at: usize) -> Result<(), Refusal> {
+    fn no_room(&mut self, font: u32, font_at: usize) -> Result<(), Refused> {
         self.take_out_font(font, font_at);
-        Err(Refusal::NoRoom)
+        Err(Refusal::NoRoom.into())
     }
 
     fn take_out_font(&mut self, font: u32, at: usize) {

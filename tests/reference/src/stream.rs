@@ -1,8 +1,9 @@
 //! The stream: reading one into a store, and writing a font as one.
 
 use crate::block::{Header, BLOCK_MAX, CONTINUATION, DESCRIPTOR};
+use crate::runs::BadRun;
 use crate::store::{first_of, Character, Store, View, CODE_MAX, FONT_MAX};
-use crate::{Refusal, StreamRead};
+use crate::{Refusal, Refused, StreamRead};
 
 const ESC: u8 = 0x1B;
 
@@ -66,13 +67,14 @@ pub fn read_stream(mut store: Store, stream: &[u8]) -> StreamRead {
     let mut font = 0;
     let mut code = 0;
     let mut read = StreamRead::default();
+    let mut first_bad = None;
     let mut rest = stream;
     while !rest.is_empty() {
         let Some((command, behind)) = next_command(rest) else {
             // "13, which gives its place and the counts so far"
             read.refusal = Refusal::StreamBroken as u32;
             read.place = (stream.len() - rest.len()) as u64;
-            return read;
+            break;
         };
         rest = behind;
         let done = match command {
@@ -91,7 +93,13 @@ pub fn read_stream(mut store: Store, stream: &[u8]) -> StreamRead {
                 in_range
             }
             Command::FontBlock(block) => store.download_font(block, font).is_ok(),
-            Command::CharacterBlock(block) => store.download_character(block, font, code).is_ok(),
+            Command::CharacterBlock(block) => {
+                let result = store.download_character(block, font, code);
+                if let Err(Refused::BadRun(bad)) = result {
+                    first_bad.get_or_insert(bad);
+                }
+                result.is_ok()
+            }
         };
         // "Refused blocks are passed over and counted."
         if done {
@@ -99,6 +107,16 @@ pub fn read_stream(mut store: Store, stream: &[u8]) -> StreamRead {
         } else {
             read.refused += 1;
         }
+    }
+    // 02, W-209: "the stream for its first such refusal, also where it ends in 13, and 0
+    // for all three otherwise"
+    if let Some(BadRun { row, filled, run }) = first_bad {
+        read = StreamRead {
+            row,
+            filled,
+            run,
+            ..read
+        };
     }
     read
 }

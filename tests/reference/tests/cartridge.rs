@@ -395,7 +395,7 @@ fn the_record_at_its_place() {
             for (code, block) in [(65, &letter), (66, &run)] {
                 let mut block = block.clone();
                 block[4] = font.orientation;
-                assert_eq!(download_character(&mut store, &block, number, code), 0);
+                assert_eq!(put_character(&mut store, &block, number, code), 0);
             }
         }
         store

@@ -29,23 +29,23 @@ fn every_refusal() {
     let mut wrong = A.header();
     wrong[3] = 3;
     meet(download_font(&mut store, &wrong, 5), 5);
-    meet(download_character(&mut store, &dot, 5, 65), 6);
+    meet(put_character(&mut store, &dot, 5, 65), 6);
     meet(remove_font(&mut store, 5), 6);
     meet(choose(&store, &BASE).refusal, 11);
     assert_eq!(store, empty);
 
     meet(download_font(&mut store, &A.header(), 5), 0);
     let kept = store.clone();
-    meet(download_character(&mut store, &dot, 5, 256), 2);
-    meet(download_character(&mut store, &[4], 5, 65), 3);
-    meet(download_character(&mut store, &[5, 0], 5, 65), 4);
-    meet(download_character(&mut store, &[4, 0], 5, 65), 3);
-    meet(download_character(&mut store, &[4, 1], 5, 65), 7);
+    meet(put_character(&mut store, &dot, 5, 256), 2);
+    meet(put_character(&mut store, &[4], 5, 65), 3);
+    meet(put_character(&mut store, &[5, 0], 5, 65), 4);
+    meet(put_character(&mut store, &[4, 0], 5, 65), 3);
+    meet(put_character(&mut store, &[4, 1], 5, 65), 7);
     meet(remove_character(&mut store, 5, 65), 7);
     let run_past = first(2, 10, 1, &[0, 4, 7]);
-    meet(download_character(&mut store, &run_past, 5, 65), 8);
+    meet(put_character(&mut store, &run_past, 5, 65), 8);
     let large = first(1, 1024, 257, &[]);
-    meet(download_character(&mut store, &large, 5, 65), 9);
+    meet(put_character(&mut store, &large, 5, 65), 9);
     meet(tell_font(&store, &mut [0; 67], 5).refusal, 12);
     meet(write_font(&store, &mut [0; 74], 5).refusal, 12);
     meet(write_profiled(&store, &mut [0; 74], 5).refusal, 14);
@@ -58,7 +58,7 @@ fn every_refusal() {
     assert_eq!(store, kept);
     // A character that does not fit takes its font with it.
     let row = first(1, 8, 40, &[7; 40]);
-    meet(download_character(&mut store, &row, 5, 65), 10);
+    meet(put_character(&mut store, &row, 5, 65), 10);
     assert_eq!(store, with_fonts(200, &[(2, B)]));
 
     let stream = [font_number(2), font_number(40000), b"?".to_vec()].concat();
@@ -79,17 +79,17 @@ fn the_order_of_checks() {
     header[3] = 9;
     assert_eq!(download_font(&mut store, &header, 6), 4);
 
-    assert_eq!(download_character(&mut store, &[9], 32768, 0), 2);
-    assert_eq!(download_character(&mut store, &[9], 6, 0), 3);
-    assert_eq!(download_character(&mut store, &[9, 0], 6, 0), 6);
-    assert_eq!(download_character(&mut store, &[9, 0], 5, 0), 4);
-    assert_eq!(download_character(&mut store, &[4, 0, 9, 9], 5, 0), 3);
+    assert_eq!(put_character(&mut store, &[9], 32768, 0), 2);
+    assert_eq!(put_character(&mut store, &[9], 6, 0), 3);
+    assert_eq!(put_character(&mut store, &[9, 0], 6, 0), 6);
+    assert_eq!(put_character(&mut store, &[9, 0], 5, 0), 4);
+    assert_eq!(put_character(&mut store, &[4, 0, 9, 9], 5, 0), 3);
     let mut block = first(9, 16385, 16384, &[0, 255, 255]);
-    assert_eq!(download_character(&mut store, &block, 5, 0), 4);
+    assert_eq!(put_character(&mut store, &block, 5, 0), 4);
     block[3] = 2;
-    assert_eq!(download_character(&mut store, &block, 5, 0), 5);
+    assert_eq!(put_character(&mut store, &block, 5, 0), 5);
     let block = first(2, 257, 16384, &[0, 255, 255]);
-    assert_eq!(download_character(&mut store, &block, 5, 0), 9);
+    assert_eq!(put_character(&mut store, &block, 5, 0), 9);
     assert_eq!(store, before);
 
     // Of a request every number, 2 before 11.
@@ -152,10 +152,7 @@ fn the_order_of_checks() {
     assert_eq!(choose(&store, &ends), chosen(5));
 
     // Drawing: 2 for the row only after 7, and before 12.
-    assert_eq!(
-        download_character(&mut store, &first(1, 9, 2, &[]), 5, 0),
-        0
-    );
+    assert_eq!(put_character(&mut store, &first(1, 9, 2, &[]), 5, 0), 0);
     assert_eq!(draw_row(&store, &mut [], 5, 256, 0), 2);
     assert_eq!(draw_row(&store, &mut [], 6, 0, 9), 6);
     assert_eq!(draw_row(&store, &mut [], 5, 1, 9), 7);
@@ -171,49 +168,34 @@ fn the_open_mark() {
     let mut store = with_fonts(1000, &[(5, A), (300, B)]);
     let half = first(1, 8, 2, &[1]);
     let whole = first(1, 8, 2, &[1, 2]);
-    assert_eq!(download_character(&mut store, &half, 300, 65), 0);
+    assert_eq!(put_character(&mut store, &half, 300, 65), 0);
     assert_eq!(open_mark(&store), [1, 0, 44, 1, 65, 0]);
     // Refused blocks, other fonts and an empty continuation leave it.
-    assert_eq!(
-        download_character(&mut store, &continuation(&[2]), 5, 65),
-        7
-    );
-    assert_eq!(
-        download_character(&mut store, &continuation(&[2]), 300, 66),
-        7
-    );
-    assert_eq!(
-        download_character(&mut store, &first(3, 8, 2, &[]), 300, 65),
-        4
-    );
+    assert_eq!(put_character(&mut store, &continuation(&[2]), 5, 65), 7);
+    assert_eq!(put_character(&mut store, &continuation(&[2]), 300, 66), 7);
+    assert_eq!(put_character(&mut store, &first(3, 8, 2, &[]), 300, 65), 4);
     let before = store.clone();
-    assert_eq!(
-        download_character(&mut store, &continuation(&[]), 300, 65),
-        0
-    );
+    assert_eq!(put_character(&mut store, &continuation(&[]), 300, 65), 0);
     assert_eq!(store, before);
     assert_eq!(download_font(&mut store, &A.header(), 5), 0);
     assert_eq!(store, before);
     assert_eq!(remove_font(&mut store, 5), 0);
     assert_eq!(open_mark(&store), [1, 0, 44, 1, 65, 0]);
     // A complete first block elsewhere leaves none open.
-    assert_eq!(download_character(&mut store, &whole, 300, 1), 0);
+    assert_eq!(put_character(&mut store, &whole, 300, 1), 0);
     assert_eq!(open_mark(&store), CLOSED);
-    assert_eq!(
-        download_character(&mut store, &continuation(&[2]), 300, 65),
-        7
-    );
+    assert_eq!(put_character(&mut store, &continuation(&[2]), 300, 65), 7);
     // Opened again; closed by its removal, its font's removal, and its font's
     // replacement.
-    assert_eq!(download_character(&mut store, &half, 300, 65), 0);
+    assert_eq!(put_character(&mut store, &half, 300, 65), 0);
     assert_eq!(remove_character(&mut store, 300, 1), 0);
     assert_eq!(open_mark(&store), [1, 0, 44, 1, 65, 0]);
     assert_eq!(remove_character(&mut store, 300, 65), 0);
     assert_eq!(open_mark(&store), CLOSED);
-    assert_eq!(download_character(&mut store, &half, 300, 65), 0);
+    assert_eq!(put_character(&mut store, &half, 300, 65), 0);
     assert_eq!(download_font(&mut store, &B.header(), 300), 0);
     assert_eq!(store, with_fonts(1000, &[(300, B)]));
-    assert_eq!(download_character(&mut store, &half, 300, 65), 0);
+    assert_eq!(put_character(&mut store, &half, 300, 65), 0);
     assert_eq!(remove_font(&mut store, 300), 0);
     assert_eq!(store, fresh(1000));
 }
@@ -224,23 +206,20 @@ fn no_room_for_a_continuation() {
     let length = ONE_FONT + FONT_RECORD + CHARACTER_RECORD + 1;
     let mut store = with_fonts(length, &[(5, A), (6, B)]);
     let half = first(1, 8, 4, &[1]);
-    assert_eq!(download_character(&mut store, &half, 5, 65), 0);
+    assert_eq!(put_character(&mut store, &half, 5, 65), 0);
     let filled = store.clone();
     // 8 and 9 come before 10, and data that is dropped needs no room.
-    assert_eq!(
-        download_character(&mut store, &continuation(&[2]), 5, 65),
-        10
-    );
+    assert_eq!(put_character(&mut store, &continuation(&[2]), 5, 65), 10);
     assert_eq!(open_mark(&store), CLOSED);
     assert_eq!(store, with_fonts(length, &[(6, B)]));
     // The replaced character's room is free.
     store = filled;
     let whole = first(1, 8, 1, &[9, 9, 9]);
-    assert_eq!(download_character(&mut store, &whole, 5, 65), 0);
+    assert_eq!(put_character(&mut store, &whole, 5, 65), 0);
     assert_eq!(open_mark(&store), CLOSED);
     // Another font's open character stays open.
-    assert_eq!(download_character(&mut store, &half, 5, 65), 0);
-    assert_eq!(download_character(&mut store, &whole, 6, 65), 10);
+    assert_eq!(put_character(&mut store, &half, 5, 65), 0);
+    assert_eq!(put_character(&mut store, &whole, 6, 65), 10);
     assert_eq!(open_mark(&store), [1, 0, 5, 0, 65, 0]);
 }
 
@@ -254,40 +233,31 @@ fn kept_data_up_to_32768_bytes() {
     let mut store = with_fonts(65536, &[(5, A)]);
     let block = first(2, 300, 2, &endless(32751));
     assert_eq!(block.len(), 32767);
-    assert_eq!(download_character(&mut store, &block, 5, 65), 0);
+    assert_eq!(put_character(&mut store, &block, 5, 65), 0);
     let before = store.clone();
     assert_eq!(
-        download_character(&mut store, &continuation(&endless(18)), 5, 65),
+        put_character(&mut store, &continuation(&endless(18)), 5, 65),
         9
     );
     // 8 comes before 9, wherever the run stands.
     let past = [endless(18), vec![255, 0, 46]].concat();
-    assert_eq!(
-        download_character(&mut store, &continuation(&past), 5, 65),
-        8
-    );
+    assert_eq!(put_character(&mut store, &continuation(&past), 5, 65), 8);
     assert_eq!(store, before);
     assert_eq!(
-        download_character(&mut store, &continuation(&endless(17)), 5, 65),
+        put_character(&mut store, &continuation(&endless(17)), 5, 65),
         0
     );
     assert_eq!(open_mark(&store), [1, 0, 5, 0, 65, 0]);
     assert_eq!(tell_character(&store, &mut [0; 16], 5, 65).count, 32768);
-    assert_eq!(
-        download_character(&mut store, &continuation(&[0]), 5, 65),
-        9
-    );
-    assert_eq!(download_character(&mut store, &continuation(&[]), 5, 65), 0);
+    assert_eq!(put_character(&mut store, &continuation(&[0]), 5, 65), 9);
+    assert_eq!(put_character(&mut store, &continuation(&[]), 5, 65), 0);
     assert!(is_store(&store));
     round_trip(&store, 5);
 
     // What completes within the limit is taken, whatever is dropped after it.
     let mut store = before;
     let end = [vec![255, 0, 45, 0, 0, 255, 0, 45], vec![9; 1000]].concat();
-    assert_eq!(
-        download_character(&mut store, &continuation(&end), 5, 65),
-        0
-    );
+    assert_eq!(put_character(&mut store, &continuation(&end), 5, 65), 0);
     assert_eq!(open_mark(&store), CLOSED);
     assert_eq!(tell_character(&store, &mut [0; 16], 5, 65).count, 32759);
     round_trip(&store, 5);
@@ -338,14 +308,14 @@ fn round_trips() {
     let mut store = with_fonts(65536, &[(0, A), (32767, C), (77, B)]);
     for (code, data) in [(0, &[1][..]), (255, &[]), (9, &[1, 2, 3, 4])] {
         let block = first(1, 12, 2, data);
-        assert_eq!(download_character(&mut store, &block, 77, code), 0);
+        assert_eq!(put_character(&mut store, &block, 77, code), 0);
     }
     let block = first(2, 10, 3, &[1, 2, 3, 5, 0, 0, 10]);
-    assert_eq!(download_character(&mut store, &block, 0, 100), 0);
+    assert_eq!(put_character(&mut store, &block, 0, 100), 0);
     let block = first(1, 1024, 256, &[0x5A; 32751]);
-    assert_eq!(download_character(&mut store, &block, 0, 10), 0);
+    assert_eq!(put_character(&mut store, &block, 0, 10), 0);
     assert_eq!(
-        download_character(&mut store, &continuation(&[0xA5; 17]), 0, 10),
+        put_character(&mut store, &continuation(&[0xA5; 17]), 0, 10),
         0
     );
     for font in [0, 77, 32767] {
@@ -404,6 +374,7 @@ fn streams_broken_and_whole() {
             done: *done,
             refused: *refused,
             place: place.map_or(0, |place| place + good.len() as u64),
+            ..StreamRead::default()
         };
         let text = String::from_utf8_lossy(rest);
         assert_eq!(read_stream(&mut store, &stream), expected, "{text:?}");
@@ -428,7 +399,7 @@ fn streams_broken_and_whole() {
 fn what_is_a_store() {
     let mut store = with_fonts(400, &[(5, A), (9, C)]);
     assert_eq!(
-        download_character(&mut store, &first(2, 10, 3, &[1, 2, 3, 5, 0]), 5, 65),
+        put_character(&mut store, &first(2, 10, 3, &[1, 2, 3, 5, 0]), 5, 65),
         0
     );
     assert!(is_store(&store));
@@ -515,7 +486,7 @@ fn what_is_a_store() {
     // Kept data that goes on after completion, and class 1 data too long.
     let mut store = with_fonts(200, &[(5, A)]);
     assert_eq!(
-        download_character(&mut store, &first(1, 8, 2, &[1, 2]), 5, 65),
+        put_character(&mut store, &first(1, 8, 2, &[1, 2]), 5, 65),
         0
     );
     let mut long = store.clone();
@@ -601,7 +572,7 @@ fn each_field_of_a_descriptor_on_both_sides() {
                     let mut store = with_fonts(200, &[(5, A)]);
                     let mut block = first(class, 1, 1, &[]);
                     set(&mut block, *at, value);
-                    let answer = download_character(&mut store, &block, 5, 65);
+                    let answer = put_character(&mut store, &block, 5, 65);
                     assert_eq!(answer, refusal, "{at}: {value}");
                     assert!(is_store(&store));
                 }
@@ -613,7 +584,7 @@ fn each_field_of_a_descriptor_on_both_sides() {
         let mut store = with_fonts(200, &[(5, font)]);
         let mut block = first(1, 1, 1, &[]);
         block[4] = orientation;
-        assert_eq!(download_character(&mut store, &block, 5, 65), refusal);
+        assert_eq!(put_character(&mut store, &block, 5, 65), refusal);
     }
     // Size, class and format.
     for (at, byte, refusal) in [
@@ -627,14 +598,14 @@ fn each_field_of_a_descriptor_on_both_sides() {
         let mut store = with_fonts(200, &[(5, A)]);
         let mut block = first(1, 1, 1, &[]);
         block[at] = byte;
-        assert_eq!(download_character(&mut store, &block, 5, 65), refusal);
+        assert_eq!(put_character(&mut store, &block, 5, 65), refusal);
     }
     // A block of 32,767 bytes is taken, one of 32,768 is not.
     let mut store = with_fonts(200, &[(5, A)]);
     let mut block = first(1, 1, 1, &[128; 32752]);
-    assert_eq!(download_character(&mut store, &block, 5, 65), 3);
+    assert_eq!(put_character(&mut store, &block, 5, 65), 3);
     block.pop();
-    assert_eq!(download_character(&mut store, &block, 5, 65), 0);
+    assert_eq!(put_character(&mut store, &block, 5, 65), 0);
 }
 
 /// 02, W-205: "Every download, replacement, continuation and removal, also the one
@@ -659,13 +630,13 @@ fn the_count_beside_the_font() {
         (5, 65, first(2, 8, 1, &[0, 9]), (2, 5)),
     ];
     for (font, code, block, expected) in steps {
-        download_character(&mut store, block, *font, *code);
+        put_character(&mut store, block, *font, *code);
         assert_eq!(counts(&store), (*expected, (0, 0)), "{block:?}");
         let told = tell_font(&store, &mut [0; KEPT], 5);
         assert_eq!(told.count, expected.0);
     }
     let dot = first(1, 1, 1, &[128]);
-    assert_eq!(download_character(&mut store, &dot, 9, 0), 0);
+    assert_eq!(put_character(&mut store, &dot, 9, 0), 0);
     assert_eq!(counts(&store), ((2, 5), (1, 1)));
     assert_eq!(remove_character(&mut store, 5, 66), 0);
     assert_eq!(counts(&store), ((1, 3), (1, 1)));
@@ -673,7 +644,7 @@ fn the_count_beside_the_font() {
     assert_eq!(counts(&store), ((1, 3), (1, 1)));
     // Lack of room strikes font 9 alone; a new font of a number has nothing yet.
     let row = first(1, 8, 40, &[7; 40]);
-    assert_eq!(download_character(&mut store, &row, 9, 1), 10);
+    assert_eq!(put_character(&mut store, &row, 9, 1), 10);
     assert_eq!(held(&store, 5), (1, 3));
     assert_eq!(tell_font(&store, &mut [0; KEPT], 9).refusal, 6);
     let stream = [
@@ -694,7 +665,7 @@ fn the_count_beside_the_font() {
     // 256 characters, which one byte wouldn't count.
     let mut store = with_fonts(65536, &[(5, A)]);
     for code in 0..256 {
-        assert_eq!(download_character(&mut store, &row, 5, code), 0);
+        assert_eq!(put_character(&mut store, &row, 5, code), 0);
     }
     assert_eq!(held(&store, 5), (256, 256 * 40));
     assert_eq!(tell_font(&store, &mut [0; KEPT], 5).count, 256);
@@ -707,7 +678,7 @@ fn an_untrue_count_is_no_store() {
     for (font, data) in [(5, &[1, 2][..]), (9, &[1])] {
         for code in [1, 2] {
             let block = first(1, 8, 3, data);
-            assert_eq!(download_character(&mut store, &block, font, code), 0);
+            assert_eq!(put_character(&mut store, &block, font, code), 0);
         }
     }
     let nine = ONE_FONT + 2 * (CHARACTER_RECORD + 2);
@@ -752,7 +723,7 @@ fn refuses_all(store: &mut [u8]) {
     let mut out = [0xAA; 100];
     let refusals = [
         download_font(store, &A.header(), 5),
-        download_character(store, &dot, 5, 65),
+        put_character(store, &dot, 5, 65),
         remove_font(store, 5),
         remove_character(store, 5, 1),
         choose(store, &BASE).refusal,
@@ -776,7 +747,7 @@ fn forms_that_no_call_leaves() {
     // Class 2 data of 32,769 bytes.
     let mut store = with_fonts(65536, &[(5, A)]);
     let block = first(2, 300, 2, &endless(32751));
-    assert_eq!(download_character(&mut store, &block, 5, 65), 0);
+    assert_eq!(put_character(&mut store, &block, 5, 65), 0);
     let length = |store: &mut [u8], data: u32| {
         store[ONE_FONT..ONE_FONT + 4].copy_from_slice(&(26 + data).to_le_bytes());
         let sum = MARK_RECORD + FONT_SUM;
@@ -788,15 +759,15 @@ fn forms_that_no_call_leaves() {
     // A picture of 32,896 bytes, no data.
     let mut store = with_fonts(200, &[(5, A)]);
     let block = first(1, 1024, 256, &[]);
-    assert_eq!(download_character(&mut store, &block, 5, 65), 0);
+    assert_eq!(put_character(&mut store, &block, 5, 65), 0);
     assert!(is_store(&store));
     set(&mut store, ONE_FONT + 10 + 12, 257);
     assert!(!is_store(&store));
     // The same code twice, the same font twice, and fonts that fall.
     let mut store = with_fonts(400, &[(5, A)]);
     let block = first(1, 8, 1, &[7]);
-    assert_eq!(download_character(&mut store, &block, 5, 65), 0);
-    assert_eq!(download_character(&mut store, &block, 5, 66), 0);
+    assert_eq!(put_character(&mut store, &block, 5, 65), 0);
+    assert_eq!(put_character(&mut store, &block, 5, 66), 0);
     for (code, is) in [(64, false), (65, false), (66, true), (255, true)] {
         store[ONE_FONT + 27 + 8] = code;
         assert_eq!(is_store(&store), is, "{code}");
@@ -813,9 +784,9 @@ fn a_long_character_as_it_is_written() {
     let mut store = with_fonts(65536, &[(12345, A)]);
     let data: Vec<u8> = (0..32768_u32).map(|i| (i * i / 7) as u8).collect();
     let block = first(1, 1024, 256, &data[..32751]);
-    assert_eq!(download_character(&mut store, &block, 12345, 0), 0);
+    assert_eq!(put_character(&mut store, &block, 12345, 0), 0);
     let rest = continuation(&data[32751..]);
-    assert_eq!(download_character(&mut store, &rest, 12345, 0), 0);
+    assert_eq!(put_character(&mut store, &rest, 12345, 0), 0);
     let expected = [
         font_number(12345),
         font_block(&A.header()),

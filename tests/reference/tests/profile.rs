@@ -79,7 +79,7 @@ fn store_of(header: &[u8], letters: &Letters) -> Vec<u8> {
     let mut store = with_fonts(16384, &[(5, A), (9, D)]);
     assert_eq!(download_font(&mut store, header, 7), 0);
     for (&code, letter) in letters {
-        let refusal = download_character(&mut store, &letter.block(), 7, code);
+        let refusal = put_character(&mut store, &letter.block(), 7, code);
         assert_eq!(refusal, 0, "{code}");
     }
     store

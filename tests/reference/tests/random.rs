@@ -77,7 +77,7 @@ fn runs(chance: &mut Chance, width: u16, height: u16) -> Vec<u8> {
             left -= run;
         }
     }
-    if chance.once_in(10) && !data.is_empty() {
+    if chance.once_in(4) && !data.is_empty() {
         let at = chance.below(data.len());
         data[at] = chance.byte();
     }
@@ -235,11 +235,11 @@ fn call(chance: &mut Chance, store: &mut [u8], model: &mut Model, met: &mut [u32
         }
         5..=10 => {
             let block = character(chance);
-            let refusal = download_character(store, &block, font, code);
-            let answer = model.download_character(&block, font, code);
-            assert_eq!(refusal, model::number(answer));
-            font_struck = refusal == 10;
-            refusal
+            let answer = download_character(store, &block, font, code);
+            let expected = model.download_character(&block, font, code);
+            assert_eq!(answer, model::downloaded(expected));
+            font_struck = answer.refusal == 10;
+            answer.refusal
         }
         11..=13 => {
             let block = going_on(chance, model);
@@ -247,11 +247,11 @@ fn call(chance: &mut Chance, store: &mut [u8], model: &mut Model, met: &mut [u32
                 Some(open) if !chance.once_in(8) => open,
                 _ => (font, code),
             };
-            let refusal = download_character(store, &block, font, code);
-            let answer = model.download_character(&block, font, code);
-            assert_eq!(refusal, model::number(answer));
-            font_struck = refusal == 10;
-            refusal
+            let answer = download_character(store, &block, font, code);
+            let expected = model.download_character(&block, font, code);
+            assert_eq!(answer, model::downloaded(expected));
+            font_struck = answer.refusal == 10;
+            answer.refusal
         }
         14 if chance.once_in(3) => {
             let refusal = remove_font(store, font);
@@ -437,6 +437,7 @@ fn chance_choices_from_two_stores_agree_with_the_model() {
 #[test]
 fn a_stream_is_its_commands_made_one_by_one() {
     let mut no_room = 0;
+    let mut several = 0;
     for seed in 0..300 {
         let mut chance = Chance::new(2000 + seed);
         let length = 200 + chance.below(700);
@@ -446,6 +447,7 @@ fn a_stream_is_its_commands_made_one_by_one() {
         let mut stream = Vec::new();
         let (mut font, mut letter) = (0, 0);
         let mut expected = StreamRead::default();
+        let mut bad = 0;
         for _ in 0..200 {
             let refusal = match chance.below(9) {
                 0 => {
@@ -476,9 +478,18 @@ fn a_stream_is_its_commands_made_one_by_one() {
                     block.truncate(32767);
                     stream.extend(character_block(&block));
                     let _ = model.download_character(&block, font, letter);
-                    let refusal = download_character(&mut alone, &block, font, letter);
-                    no_room += u32::from(refusal == 10);
-                    refusal
+                    let answer = download_character(&mut alone, &block, font, letter);
+                    no_room += u32::from(answer.refusal == 10);
+                    if answer.refusal == 8 {
+                        // W-209: "the stream for its first such refusal"
+                        if bad == 0 {
+                            expected.row = answer.row;
+                            expected.filled = answer.filled;
+                            expected.run = answer.run;
+                        }
+                        bad += 1;
+                    }
+                    answer.refusal
                 }
             };
             if refusal == 0 {
@@ -490,8 +501,10 @@ fn a_stream_is_its_commands_made_one_by_one() {
         assert_eq!(read_stream(&mut together, &stream), expected);
         assert_eq!(together, alone);
         assert_eq!(together, model.bytes());
+        several += u32::from(bad > 1);
     }
     assert!(no_room > 250, "{no_room}");
+    assert!(several > 50, "{several}");
 }
 
 #[test]
@@ -539,7 +552,7 @@ fn refuses_all(bytes: &mut [u8], chance: &mut Chance) {
     let (font, code) = (some_font(chance), some_code(chance));
     let refusals = [
         download_font(bytes, &header(chance), font),
-        download_character(bytes, &character(chance), font, code),
+        put_character(bytes, &character(chance), font, code),
         remove_font(bytes, font),
         remove_character(bytes, font, code),
         choose(bytes, &request(chance)).refusal,

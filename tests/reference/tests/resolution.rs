@@ -163,7 +163,7 @@ fn written_as_received() {
     for font in [A, A.dpi(300), A.dpi(600)] {
         let mut store = with_fonts(300, &[(5, font), (9, B)]);
         let letter = first(1, 8, 2, &[1, 2]);
-        assert_eq!(download_character(&mut store, &letter, 5, 65), 0);
+        assert_eq!(put_character(&mut store, &letter, 5, 65), 0);
         let expected = [
             font_number(5),
             font_block(&font.block()),

@@ -295,7 +295,7 @@ fn draw(store: &[u8], font: u32, code: u32, row_bytes: usize, height: usize) -> 
 fn p10_rows() {
     let mut store = with_fonts(1024, &[(5, A)]);
     let block = first(2, 10, 3, &[1, 2, 3, 5, 0, 0, 10]);
-    assert_eq!(download_character(&mut store, &block, 5, 65), 0);
+    assert_eq!(put_character(&mut store, &block, 5, 65), 0);
     assert_eq!(open_mark(&store), CLOSED);
     assert_eq!(draw(&store, 5, 65, 2, 3), [[56, 0], [56, 0], [255, 192]]);
 }
@@ -304,7 +304,7 @@ fn p10_rows() {
 fn p11_a_zero_count_ends_nothing() {
     let mut store = with_fonts(1024, &[(5, A)]);
     let block = first(2, 300, 1, &[0, 255, 0, 45]);
-    assert_eq!(download_character(&mut store, &block, 5, 65), 0);
+    assert_eq!(put_character(&mut store, &block, 5, 65), 0);
     assert_eq!(open_mark(&store), CLOSED);
     assert_eq!(draw(&store, 5, 65, 38, 1), [[0; 38]]);
 }
@@ -314,11 +314,11 @@ fn p12_a_run_past_the_width() {
     let mut store = with_fonts(1024, &[(5, A)]);
     let before = store.clone();
     let block = first(2, 10, 1, &[0, 4, 7]);
-    assert_eq!(download_character(&mut store, &block, 5, 65), 8);
+    assert_eq!(put_character(&mut store, &block, 5, 65), 8);
     assert_eq!(store, before);
     // 255 is not always followed by more of its colour.
     let block = first(2, 255, 1, &[0, 255]);
-    assert_eq!(download_character(&mut store, &block, 5, 65), 0);
+    assert_eq!(put_character(&mut store, &block, 5, 65), 0);
     assert_eq!(open_mark(&store), CLOSED);
 }
 
@@ -342,10 +342,10 @@ fn width_1024_by_height_256_and_257() {
         let mut store = with_fonts(1024, &[(5, A)]);
         let before = store.clone();
         let block = first(class, 1024, 257, &[]);
-        assert_eq!(download_character(&mut store, &block, 5, 65), 9);
+        assert_eq!(put_character(&mut store, &block, 5, 65), 9);
         assert_eq!(store, before);
         let block = first(class, 1024, 256, &[]);
-        assert_eq!(download_character(&mut store, &block, 5, 65), 0);
+        assert_eq!(put_character(&mut store, &block, 5, 65), 0);
         assert_eq!(open_mark(&store), [1, 0, 5, 0, 65, 0]);
     }
 }
@@ -378,7 +378,7 @@ fn the_compressed_example_of_source_document_001() {
     assert_eq!(data.len(), 25);
     let mut store = with_fonts(1024, &[(5, A)]);
     let block = first(2, 20, 20, &data);
-    assert_eq!(download_character(&mut store, &block, 5, 73), 0);
+    assert_eq!(put_character(&mut store, &block, 5, 73), 0);
     assert_eq!(open_mark(&store), CLOSED);
     let mut told = [0; 16];
     assert_eq!(tell_character(&store, &mut told, 5, 73).count, 25);
@@ -396,11 +396,11 @@ fn the_compressed_example_of_source_document_001() {
 fn padding_bits_are_drawn_0_and_missing_bytes_white() {
     let mut store = with_fonts(1024, &[(5, A)]);
     let block = first(1, 10, 4, &[255, 255, 1, 255, 128]);
-    assert_eq!(download_character(&mut store, &block, 5, 65), 0);
+    assert_eq!(put_character(&mut store, &block, 5, 65), 0);
     let rows = [[255, 192], [1, 192], [128, 0], [0, 0]];
     assert_eq!(draw(&store, 5, 65, 2, 4), rows);
     let block = first(1, 8, 2, &[255, 254]);
-    assert_eq!(download_character(&mut store, &block, 5, 65), 0);
+    assert_eq!(put_character(&mut store, &block, 5, 65), 0);
     assert_eq!(draw(&store, 5, 65, 1, 2), [[255], [254]]);
 }
 
@@ -408,12 +408,12 @@ fn padding_bits_are_drawn_0_and_missing_bytes_white() {
 fn a_row_unfinished_at_the_end_of_data_is_not_drawn() {
     let mut store = with_fonts(1024, &[(5, A)]);
     let block = first(2, 10, 3, &[0, 0, 10, 7, 0, 9]);
-    assert_eq!(download_character(&mut store, &block, 5, 65), 0);
+    assert_eq!(put_character(&mut store, &block, 5, 65), 0);
     assert_eq!(open_mark(&store), [1, 0, 5, 0, 65, 0]);
     assert_eq!(draw(&store, 5, 65, 2, 3), [[255, 192], [0, 0], [0, 0]]);
     // A zero, then one dot more, and the picture is complete.
     assert_eq!(
-        download_character(&mut store, &continuation(&[0, 1, 99]), 5, 65),
+        put_character(&mut store, &continuation(&[0, 1, 99]), 5, 65),
         0
     );
     assert_eq!(open_mark(&store), CLOSED);
@@ -457,7 +457,7 @@ fn a_character_is_kept_as_the_rules_leave_it() {
     let mut block = first(1, 9, 1, &[1, 2, 3]);
     block[5] = 7;
     block[14] = 0x80;
-    assert_eq!(download_character(&mut store, &block, 1, 255), 0);
+    assert_eq!(put_character(&mut store, &block, 1, 255), 0);
     let mut kept = [0xAA; 18];
     assert_eq!(
         tell_character(&store, &mut kept, 1, 255),
@@ -552,7 +552,7 @@ fn the_portrait_example_of_source_document_004() {
     let block = first(1, 27, 32, &data);
     assert_eq!(block.len(), 144);
     let mut store = with_fonts(1024, &[(1, A)]);
-    assert_eq!(download_character(&mut store, &block, 1, 121), 0);
+    assert_eq!(put_character(&mut store, &block, 1, 121), 0);
     assert_eq!(open_mark(&store), CLOSED);
     let mut expected: Vec<[u8; 4]> = Vec::new();
     for row in data.chunks(4) {

@@ -151,6 +151,16 @@ pub fn with_fonts(length: usize, fonts: &[(u32, Font)]) -> Vec<u8> {
     store
 }
 
+/// Downloads a character block and answers its refusal. W-209's three numbers are 0 save
+/// for 8, of which `rows.rs` has the tests.
+pub fn put_character(store: &mut [u8], block: &[u8], font: u32, code: u32) -> u32 {
+    let answer = download_character(store, block, font, code);
+    if answer.refusal != 8 {
+        assert_eq!((answer.row, answer.filled, answer.run), (0, 0, 0));
+    }
+    answer.refusal
+}
+
 /// What a font's record holds: how many characters, and the sum of their data.
 pub fn held(store: &[u8], font: u32) -> (u32, u32) {
     let mut at = MARK_RECORD;

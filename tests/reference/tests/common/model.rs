@@ -3,7 +3,7 @@
 //! bytes made anew after each call. Nothing here is shared with the library.
 
 use marlinfold_reference::{
-    Answer, Chosen, ChosenRecord, Profile, Request, StreamRead, Told, Written,
+    Answer, Chosen, ChosenRecord, Downloaded, Profile, Request, StreamRead, Told, Written,
 };
 use std::collections::BTreeMap;
 
@@ -96,9 +96,29 @@ fn keep_header(block: &[u8]) -> Result<Vec<u8>, u32> {
     Ok(kept)
 }
 
+/// A refusal, and W-209's three numbers for 8.
+#[derive(Clone, Copy, PartialEq, Debug)]
+pub struct Refused {
+    pub number: u32,
+    pub row: usize,
+    pub filled: usize,
+    pub run: usize,
+}
+
+impl From<u32> for Refused {
+    fn from(number: u32) -> Refused {
+        Refused {
+            number,
+            row: 0,
+            filled: 0,
+            run: 0,
+        }
+    }
+}
+
 /// The rows drawn, how many bytes drew them, and whether the picture is
-/// complete; or nothing if a run passes the width.
-fn rows(kept: &[u8], data: &[u8]) -> Option<(Vec<Vec<bool>>, usize, bool)> {
+/// complete; or where a run passes the width.
+fn rows(kept: &[u8], data: &[u8]) -> Result<(Vec<Vec<bool>>, usize, bool), Refused> {
     let (width, height) = (be(kept, 10) as usize, be(kept, 12) as usize);
     let mut rows: Vec<Vec<bool>> = Vec::new();
     if kept[3] == 1 {
@@ -111,7 +131,7 @@ fn rows(kept: &[u8], data: &[u8]) -> Option<(Vec<Vec<bool>>, usize, bool)> {
             };
             rows.push((0..width).map(dot).collect());
         }
-        return Some((rows, data.len().min(needed), data.len() >= needed));
+        return Ok((rows, data.len().min(needed), data.len() >= needed));
     }
     let mut at = 0;
     while rows.len() < height {
@@ -126,7 +146,13 @@ fn rows(kept: &[u8], data: &[u8]) -> Option<(Vec<Vec<bool>>, usize, bool)> {
             next += 1;
         }
         if row.len() > width {
-            return None;
+            let run = usize::from(data[next - 1]);
+            return Err(Refused {
+                number: 8,
+                row: rows.len(),
+                filled: row.len() - run,
+                run,
+            });
         }
         if row.len() < width {
             break;
@@ -141,7 +167,7 @@ fn rows(kept: &[u8], data: &[u8]) -> Option<(Vec<Vec<bool>>, usize, bool)> {
     // Without completion all the data belongs to the picture, a begun row's too.
     let used = if complete { at } else { data.len() };
     rows.resize(height, vec![false; width]);
-    Some((rows, used, complete))
+    Ok((rows, used, complete))
 }
 
 fn pack(row: &[bool]) -> Vec<u8> {
@@ -155,21 +181,21 @@ fn pack(row: &[bool]) -> Vec<u8> {
 
 /// What first blocks of this beginning and all this data are kept as; the last
 /// is whether the character is complete.
-fn keep_first(block: &[u8], orientation: u8) -> Result<(Character, bool), u32> {
+fn keep_first(block: &[u8], orientation: u8) -> Result<(Character, bool), Refused> {
     if block.len() < 16 {
-        return Err(3);
+        return Err(3.into());
     }
     if block[2] != 14 || (block[3] != 1 && block[3] != 2) {
-        return Err(4);
+        return Err(4.into());
     }
     let (left, top) = (signed(be(block, 6), 16), signed(be(block, 8), 16));
     let (width, height) = (be(block, 10), be(block, 12));
     let sizes_ok = (1..=16384).contains(&width) && (1..=16384).contains(&height);
     if block[4] != orientation || left.abs() > 16384 || top.abs() > 16384 || !sizes_ok {
-        return Err(5);
+        return Err(5.into());
     }
     if (width + 7) / 8 * height > 32768 {
-        return Err(9);
+        return Err(9.into());
     }
     let mut kept = block[..16].to_vec();
     kept[5] = 0;
@@ -180,13 +206,11 @@ fn keep_first(block: &[u8], orientation: u8) -> Result<(Character, bool), u32> {
     keep_joined(kept, block[16..].to_vec())
 }
 
-fn keep_joined(kept: Vec<u8>, mut data: Vec<u8>) -> Result<(Character, bool), u32> {
-    let Some((_, used, complete)) = rows(&kept, &data) else {
-        return Err(8);
-    };
+fn keep_joined(kept: Vec<u8>, mut data: Vec<u8>) -> Result<(Character, bool), Refused> {
+    let (_, used, complete) = rows(&kept, &data)?;
     data.truncate(used);
     if data.len() > 32768 {
-        return Err(9);
+        return Err(9.into());
     }
     Ok((Character { kept, data }, complete))
 }
@@ -326,21 +350,26 @@ impl Model {
         Ok(())
     }
 
-    pub fn download_character(&mut self, block: &[u8], font: u32, code: u32) -> Result<(), u32> {
+    pub fn download_character(
+        &mut self,
+        block: &[u8],
+        font: u32,
+        code: u32,
+    ) -> Result<(), Refused> {
         in_range(font, code)?;
         if block.len() < 2 || block.len() > 32767 {
-            return Err(3);
+            return Err(3.into());
         }
         let kept_font = self.fonts.get(&font).ok_or(6_u32)?;
         if block[0] != 4 {
-            return Err(4);
+            return Err(4.into());
         }
         let mut after = self.clone();
         let (character, complete) = if block[1] == 0 {
             keep_first(block, kept_font.header[12])?
         } else {
             if self.open != Some((font, code)) {
-                return Err(7);
+                return Err(7.into());
             }
             let old = &kept_font.characters[&code];
             let joined = [old.data.clone(), block[2..].to_vec()].concat();
@@ -352,7 +381,7 @@ impl Model {
         if !after.fits() {
             self.fonts.remove(&font);
             self.close_if_gone();
-            return Err(10);
+            return Err(10.into());
         }
         *self = after;
         Ok(())
@@ -510,36 +539,59 @@ impl Model {
 
     pub fn read_stream(&mut self, stream: &[u8]) -> StreamRead {
         let (mut font, mut code) = (0, 0);
-        let mut read = StreamRead::default();
+        let mut answers = Vec::new();
         let mut at = 0;
         while at < stream.len() {
             let Some((letters, number, end, mut next)) = split(stream, at) else {
-                return broken(read, at);
+                return read(&answers, Some(at));
             };
-            let result = match (letters.as_str(), end) {
-                ("\x1b*c", 'D') => in_range(number, 0).map(|()| font = number),
-                ("\x1b*c", 'E') => in_range(0, number).map(|()| code = number),
+            let answer = match (letters.as_str(), end) {
+                ("\x1b*c", 'D') => in_range(number, 0)
+                    .map(|()| font = number)
+                    .map_err(Refused::from),
+                ("\x1b*c", 'E') => in_range(0, number)
+                    .map(|()| code = number)
+                    .map_err(Refused::from),
                 ("\x1b)s" | "\x1b(s", 'W') => {
                     let start = next;
                     next += number as usize;
                     if number > 32767 || next > stream.len() {
-                        return broken(read, at);
+                        return read(&answers, Some(at));
                     }
                     if letters == "\x1b)s" {
                         self.download_font(&stream[start..next], font)
+                            .map_err(Refused::from)
                     } else {
                         self.download_character(&stream[start..next], font, code)
                     }
                 }
-                _ => return broken(read, at),
+                _ => return read(&answers, Some(at)),
             };
-            match result {
-                Ok(()) => read.done += 1,
-                Err(_) => read.refused += 1,
-            }
+            answers.push(answer);
             at = next;
         }
-        read
+        read(&answers, None)
+    }
+}
+
+/// What a stream answers of which the commands got these answers, and that is broken
+/// at this place, if it is.
+fn read(answers: &[Result<(), Refused>], broken: Option<usize>) -> StreamRead {
+    let done = answers.iter().filter(|answer| answer.is_ok()).count();
+    let bad = answers
+        .iter()
+        .find(|answer| matches!(answer, Err(Refused { number: 8, .. })));
+    let Downloaded {
+        row, filled, run, ..
+    } = downloaded(*bad.unwrap_or(&Ok(())));
+    StreamRead {
+        refusal: if broken.is_some() { 13 } else { 0 },
+        done: done as u64,
+        refused: (answers.len() - done) as u64,
+        place: broken.unwrap_or(0) as u64,
+        row,
+        filled,
+        run,
     }
 }
 
@@ -657,14 +709,6 @@ fn choose_among(stores: &[&Model], request: &Request) -> Result<(usize, u32), u3
     Ok((lowest.store, lowest.number))
 }
 
-fn broken(read: StreamRead, at: usize) -> StreamRead {
-    StreamRead {
-        refusal: 13,
-        place: at as u64,
-        ..read
-    }
-}
-
 /// Three bytes, one to five digits, and one byte more, if that is what stands
 /// there; the last is the place behind them.
 fn split(stream: &[u8], at: usize) -> Option<(String, u32, char, usize)> {
@@ -706,6 +750,16 @@ fn write(out: &mut [u8], bytes: &[u8]) -> Result<(), u32> {
 
 pub fn number(result: Result<(), u32>) -> u32 {
     result.err().unwrap_or(0)
+}
+
+pub fn downloaded(result: Result<(), Refused>) -> Downloaded {
+    let refused = result.err().unwrap_or(Refused::from(0));
+    Downloaded {
+        refusal: refused.number,
+        row: refused.row as u32,
+        filled: refused.filled as u32,
+        run: refused.run as u32,
+    }
 }
 
 pub fn told(result: Result<u32, u32>) -> Told {
