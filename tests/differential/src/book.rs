@@ -275,7 +275,7 @@ pub fn right_choice<'a>(
     fonts: &[Font<'a>],
 ) -> Result<Option<Font<'a>>, String> {
     if !fonts.iter().any(|font| font.takes_part(request)) {
-        if answer.refusal != 11 || answer.numbers != [0; 3] {
+        if *answer != Answer::of(11, []) {
             return Err("but none takes part".into());
         }
         return Ok(None);

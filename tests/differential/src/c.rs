@@ -3,6 +3,14 @@
 pub use marlinfold_reference::{Answer, Request};
 
 #[repr(C)]
+pub struct Downloaded {
+    pub refusal: u32,
+    pub row: u32,
+    pub filled: u32,
+    pub run: u32,
+}
+
+#[repr(C)]
 pub struct Chosen {
     pub refusal: u32,
     pub font: u32,
@@ -41,6 +49,9 @@ pub struct StreamRead {
     pub done: u64,
     pub refused: u64,
     pub place: u64,
+    pub row: u32,
+    pub filled: u32,
+    pub run: u32,
 }
 
 extern "C" {
@@ -59,7 +70,7 @@ extern "C" {
         block_len: usize,
         font: u32,
         code: u32,
-    ) -> u32;
+    ) -> Downloaded;
     pub fn mf_remove_font(store: *mut u8, store_len: usize, font: u32) -> u32;
     pub fn mf_remove_character(store: *mut u8, store_len: usize, font: u32, code: u32) -> u32;
     pub fn mf_choose(

@@ -232,35 +232,52 @@ impl fmt::Display for Call {
     }
 }
 
-/// The refusal, then the call's other numbers, 0 where it has fewer.
+/// A call's numbers beside the refusal: three of its own, and W-209's three.
+pub const NUMBERS: usize = 6;
+
+/// The refusal, then the call's own numbers, 0 where it has fewer; last the row, the
+/// dots filled and the run of an 8 (W-209).
 #[derive(Clone, Copy, PartialEq, Eq, Debug)]
 pub struct Answer {
     pub refusal: u32,
-    pub numbers: [u64; 3],
+    pub numbers: [u64; NUMBERS],
 }
 
 impl Answer {
+    /// These numbers, and 0 for those that are missing.
+    pub fn of<const N: usize>(refusal: u32, first: [u64; N]) -> Answer {
+        let mut numbers = [0; NUMBERS];
+        numbers[..N].copy_from_slice(&first);
+        Answer { refusal, numbers }
+    }
+
     fn bare(refusal: u32) -> Answer {
-        Answer::one(refusal, 0)
+        Answer::of(refusal, [])
     }
 
     fn one(refusal: u32, number: u32) -> Answer {
-        Answer {
-            refusal,
-            numbers: [u64::from(number), 0, 0],
-        }
+        Answer::of(refusal, [u64::from(number)])
     }
 
     fn two(refusal: u32, first: u32, second: u32) -> Answer {
-        Answer {
-            refusal,
-            numbers: [u64::from(first), u64::from(second), 0],
-        }
+        Answer::of(refusal, [u64::from(first), u64::from(second)])
+    }
+
+    /// With a row, the dots filled and a run.
+    fn with_run(mut self, row: u32, filled: u32, run: u32) -> Answer {
+        self.numbers[3..].copy_from_slice(&[row, filled, run].map(u64::from));
+        self
     }
 
     /// The first number, where it is one of 32 bits.
     pub fn number(&self) -> u32 {
         self.numbers[0] as u32
+    }
+
+    /// The row, the dots filled and the run (W-209).
+    pub fn bad_run(&self) -> [u64; 3] {
+        let [.., row, filled, run] = self.numbers;
+        [row, filled, run]
     }
 }
 
@@ -462,9 +479,10 @@ pub fn ours(
             Call::DownloadFont { font, .. } => {
                 Answer::bare(c::mf_download_font(at, len, block, block_len, font))
             }
-            Call::DownloadCharacter { font, code, .. } => Answer::bare(c::mf_download_character(
-                at, len, block, block_len, font, code,
-            )),
+            Call::DownloadCharacter { font, code, .. } => {
+                let answer = c::mf_download_character(at, len, block, block_len, font, code);
+                Answer::bare(answer.refusal).with_run(answer.row, answer.filled, answer.run)
+            }
             Call::RemoveFont { font } => Answer::bare(c::mf_remove_font(at, len, font)),
             Call::RemoveCharacter { font, code } => {
                 Answer::bare(c::mf_remove_character(at, len, font, code))
@@ -534,21 +552,16 @@ pub fn ours(
                     request.orientation,
                     request.mode,
                 );
-                Answer {
-                    refusal: chosen.refusal,
-                    numbers: [
-                        u64::from(chosen.font),
-                        u64::from(chosen.which),
-                        chosen.place,
-                    ],
-                }
+                let (font, which) = (u64::from(chosen.font), u64::from(chosen.which));
+                Answer::of(chosen.refusal, [font, which, chosen.place])
             }
             Call::ReadStream { .. } => {
                 let read = c::mf_read_stream(at, len, block, block_len);
-                Answer {
-                    refusal: read.refusal,
-                    numbers: [read.done, read.refused, read.place],
-                }
+                Answer::of(read.refusal, [read.done, read.refused, read.place]).with_run(
+                    read.row,
+                    read.filled,
+                    read.run,
+                )
             }
         }
     };
@@ -578,7 +591,8 @@ pub fn theirs(call: &Call, store: &mut [u8]) -> Outcome {
             Answer::bare(reference::download_font(store, block, *font))
         }
         Call::DownloadCharacter { block, font, code } => {
-            Answer::bare(reference::download_character(store, block, *font, *code))
+            let answer = reference::download_character(store, block, *font, *code);
+            Answer::bare(answer.refusal).with_run(answer.row, answer.filled, answer.run)
         }
         Call::RemoveFont { font } => Answer::bare(reference::remove_font(store, *font)),
         Call::RemoveCharacter { font, code } => {
@@ -636,21 +650,16 @@ pub fn theirs(call: &Call, store: &mut [u8]) -> Outcome {
                 Other::Same => (store, store),
             };
             let chosen = reference::choose_from_two(soft, cartridge, request);
-            Answer {
-                refusal: chosen.refusal,
-                numbers: [
-                    u64::from(chosen.font),
-                    u64::from(chosen.which),
-                    chosen.place,
-                ],
-            }
+            let (font, which) = (u64::from(chosen.font), u64::from(chosen.which));
+            Answer::of(chosen.refusal, [font, which, chosen.place])
         }
         Call::ReadStream { stream } => {
             let read = reference::read_stream(store, stream);
-            Answer {
-                refusal: read.refusal,
-                numbers: [read.done, read.refused, read.place],
-            }
+            Answer::of(read.refusal, [read.done, read.refused, read.place]).with_run(
+                read.row,
+                read.filled,
+                read.run,
+            )
         }
     };
     Outcome {

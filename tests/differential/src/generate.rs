@@ -482,6 +482,34 @@ impl Generator<'_> {
         data
     }
 
+    /// Makes a run of class 2 data, which goes on from where a reading is, too long for
+    /// its row: the last one, or any.
+    fn misfit(&mut self, data: &mut [u8], width: usize, mut reading: Reading) {
+        let mut runs = Vec::new();
+        for (at, &byte) in data.iter().enumerate() {
+            if reading.rows_left == 0 {
+                break;
+            }
+            match reading.take(width, byte) {
+                // A run has one byte.
+                Some(unfilled) if unfilled < 255 => runs.push((at, unfilled)),
+                _ => {}
+            }
+        }
+        let Some(&last) = runs.last() else {
+            return;
+        };
+        let (at, unfilled) = match self.chance.once_in(4) {
+            true => last,
+            false => self.chance.of(&runs),
+        };
+        data[at] = match self.chance.below(3) {
+            0 => unfilled + 1,
+            1 => 255,
+            _ => self.chance.between(unfilled + 1, 255),
+        } as u8;
+    }
+
     /// Data from where a reading is: complete, cut, too long, or with a byte
     /// that breaks it.
     fn data(&mut self, class: u8, width: usize, reading: Reading, missing: usize) -> Vec<u8> {
@@ -499,7 +527,7 @@ impl Generator<'_> {
             }
         };
         let chance = &mut *self.chance;
-        match chance.below(10) {
+        match chance.below(12) {
             0 | 1 => {
                 let length = chance.below(data.len() + 1);
                 data.truncate(length);
@@ -528,6 +556,7 @@ impl Generator<'_> {
                 data[at] = chance.of(&[0, 1, 255]);
             }
             7 => data.clear(),
+            8 | 9 if class == 2 => self.misfit(&mut data, width, reading),
             _ => {}
         }
         data
@@ -856,7 +885,14 @@ impl Generator<'_> {
                         block.truncate(2 + self.chance.below(40));
                         (code, block)
                     }
-                    _ => (self.chance.of(&CODES), self.small_character()),
+                    _ => {
+                        let mut block = self.small_character();
+                        if block[3] == 2 && self.chance.once_in(6) {
+                            let (width, height) = (high16(&block, 10), high16(&block, 12));
+                            self.misfit(&mut block[16..], width, Reading::new(height));
+                        }
+                        (self.chance.of(&CODES), block)
+                    }
                 };
                 stream.extend(format!("\x1b*c{code}E\x1b(s{}W", block.len()).bytes());
                 stream.extend(&block);
@@ -1285,6 +1321,7 @@ impl Generator<'_> {
 
 /// Where a reading of class 2 data is: the rows not drawn, and of the row begun
 /// its count and the dots that no run has filled.
+#[derive(Clone, Copy)]
 pub struct Reading {
     rows_left: usize,
     row: Option<(usize, usize)>,
@@ -1304,19 +1341,25 @@ impl Reading {
             return reading;
         }
         for &byte in kept.data {
-            let byte = usize::from(byte);
-            match reading.row {
-                None => reading.row = Some((byte, kept.width)),
-                Some((repeat, unfilled)) if byte < unfilled => {
-                    reading.row = Some((repeat, unfilled - byte));
-                }
-                Some((repeat, _)) => {
-                    reading.rows_left = reading.rows_left.saturating_sub(1 + repeat);
-                    reading.row = None;
-                }
-            }
+            reading.take(kept.width, byte);
         }
         reading
+    }
+
+    /// Reads one byte more. If it is a run: the dots that its row lacked before it.
+    fn take(&mut self, width: usize, byte: u8) -> Option<usize> {
+        let byte = usize::from(byte);
+        let Some((repeat, unfilled)) = self.row else {
+            self.row = Some((byte, width));
+            return None;
+        };
+        if byte < unfilled {
+            self.row = Some((repeat, unfilled - byte));
+        } else {
+            self.rows_left = self.rows_left.saturating_sub(1 + repeat);
+            self.row = None;
+        }
+        Some(unfilled)
     }
 
     /// Whether a kept character's picture is complete.

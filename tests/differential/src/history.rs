@@ -1,12 +1,13 @@
 //! One history: a store on both sides, its book, chance calls, and after each
 //! what demands 1 to 3 ask.
 
-use crate::book::{self, Book, Font, SOFT};
+use crate::book::{self, Book, Font, Spelled, SOFT};
 use crate::calls::{entries, ours, theirs, Answer, Call, Lending, Lent, Request, ANSWER};
 use crate::chance::Chance;
 use crate::generate::{self, Generator, Reading, Theme, CHARACTER_RECORD, FONT_KEPT, KEPT};
 use crate::met::Met;
 use crate::profile;
+use crate::rows::{self, Sent};
 use marlinfold_reference as reference;
 
 /// A difference, in words.
@@ -179,13 +180,45 @@ impl History<'_> {
             if call.output() != out {
                 return complain(format!("refused with {answer:?}, but the output changed"));
             }
-            if answer.numbers != [0; 3] {
-                return complain(format!("refused with {answer:?}, numbers not 0"));
-            }
         }
+        // W-209: "This amends "0 for every other number" in document 01 for refusal 8 and
+        // a stream's 13 alone."
+        let has_numbers = match call {
+            Call::DownloadCharacter { .. } => answer.refusal == 8,
+            Call::ReadStream { .. } => answer.refusal == 0 || answer.refusal == 13,
+            _ => answer.refusal == 0,
+        };
+        if !has_numbers && answer != Answer::of(answer.refusal, []) {
+            return complain(format!("answered {answer:?}, numbers not 0"));
+        }
+        self.rows_by_their_rules(&before, call, &answer)?;
         self.met.count(call, &answer)?;
         self.situations(call, &answer, &before, &pair.theirs);
         Ok((answer, out))
+    }
+
+    /// W-209: a character download answers 8, and its numbers, as the rows of its data
+    /// say.
+    fn rows_by_their_rules(&mut self, before: &[u8], call: &Call, answer: &Answer) -> Found<()> {
+        let Call::DownloadCharacter { block, .. } = call else {
+            return Ok(());
+        };
+        // A block that is refused before its rows are read may have any.
+        let read = match answer.refusal {
+            0 | 8 | 10 => true,
+            9 => block[1] != 0,
+            _ => false,
+        };
+        if !read {
+            return Ok(());
+        }
+        let sent = Sent::of(before, call);
+        rows::check(sent.as_ref(), answer)
+            .map_err(|what| format!("{call}\n  answered {answer:?}, {what}"))?;
+        if let Some(sent) = sent {
+            sent.met(answer, self.met);
+        }
+        Ok(())
     }
 
     /// A call of a store's list: made on both sides, and noted in its book.
@@ -253,6 +286,7 @@ impl History<'_> {
         let spelled = book::spelled(stream);
         let mut alone = self.lending.lend(before, &mut self.chance);
         let (mut done, mut refused) = (spelled.done, spelled.refused);
+        let mut answers = Vec::new();
         for call in &spelled.downloads {
             let (answer, _) = self.only_ours(&mut alone, call)?;
             pair.book.note(call, &answer);
@@ -260,11 +294,22 @@ impl History<'_> {
                 0 => done += 1,
                 _ => refused += 1,
             }
+            if answer.refusal == 8 {
+                // It left the store as it was.
+                rows::check(Sent::of(alone.content(), call).as_ref(), &answer)
+                    .map_err(|what| format!("{call}\n  answered {answer:?}, {what}"))?;
+            } else if answer != Answer::of(answer.refusal, []) {
+                return Err(format!("{call}\n  answered {answer:?}, numbers not 0"));
+            }
+            answers.push(answer);
         }
-        let expected = Answer {
-            refusal: if spelled.broken.is_some() { 13 } else { 0 },
-            numbers: [done, refused, spelled.broken.unwrap_or(0)],
-        };
+        // W-209: "the stream for its first such refusal, also where it ends in 13, and 0
+        // for all three otherwise"
+        let first = answers.iter().position(|answer| answer.refusal == 8);
+        let [row, filled, run] = first.map_or([0; 3], |at| answers[at].bad_run());
+        let refusal = if spelled.broken.is_some() { 13 } else { 0 };
+        let place = spelled.broken.unwrap_or(0);
+        let expected = Answer::of(refusal, [done, refused, place, row, filled, run]);
         if *answer != expected {
             return Err(format!(
                 "stream answered {answer:?}, its commands one by one {expected:?}"
@@ -273,7 +318,44 @@ impl History<'_> {
         if alone.content() != pair.ours.content() {
             return Err("a stream's commands made one by one leave another store".into());
         }
+        if let Some(first) = first {
+            self.stream_with_bad_runs(&spelled, &answers, first);
+        }
         Ok(())
+    }
+
+    /// Counts what is worth having met of a stream's downloads answered 8, of which this
+    /// is the first.
+    fn stream_with_bad_runs(&mut self, spelled: &Spelled, answers: &[Answer], first: usize) {
+        let met = &mut *self.met;
+        let ends = match spelled.broken {
+            Some(_) => "ends with 13",
+            None => "ends with 0",
+        };
+        met.situation(&format!("stream with an 8 that {ends}"));
+        let (before, after) = (&answers[..first], &answers[first + 1..]);
+        if before.iter().any(|answer| answer.refusal != 0) {
+            met.situation("stream with another refusal before its first 8");
+        }
+        if after.iter().any(|answer| answer.refusal == 0) {
+            met.situation("stream with downloads done after its first 8");
+        }
+        if let Call::DownloadCharacter { block, .. } = &spelled.downloads[first] {
+            if block[1] != 0 {
+                met.situation("stream of which the first 8 is by a continuation");
+            }
+        }
+        let Some(last) = after.iter().rfind(|answer| answer.refusal == 8) else {
+            return;
+        };
+        met.situation(&format!("several 8 in one stream that {ends}"));
+        let [row, filled, _] = answers[first].bad_run();
+        if last.bad_run() != answers[first].bad_run() {
+            met.situation("several 8 in one stream, the last with other numbers");
+            if (row, filled) == (0, 0) {
+                met.situation("the same, and the first in row 0 with no dot filled");
+            }
+        }
     }
 
     /// W-201: "each entry what a single choice would give on the same store. An
@@ -321,8 +403,7 @@ impl History<'_> {
             Some((rule, codes)) => (*rule, codes[0]),
             None => (0, 0),
         };
-        let expected = [u64::from(rule), u64::from(code), 0];
-        if answer.refusal != 0 || answer.numbers != expected {
+        if *answer != Answer::of(0, [u64::from(rule), u64::from(code)]) {
             return Err(format!(
                 "profile of font {font}: answered {answer:?}; by its words {broken:?}"
             ));
@@ -425,7 +506,7 @@ impl History<'_> {
         let stream = stream.to_vec();
         self.both(&mut again, &Call::ReadStream { stream })?;
         let answer = self.both(&mut again, &Call::CheckProfile { font })?;
-        if answer.refusal != 0 || answer.numbers != [0; 3] {
+        if answer != Answer::of(0, []) {
             return Err(format!("profiled font {font} read again: {answer:?}"));
         }
         self.met
@@ -759,7 +840,7 @@ impl History<'_> {
         let long = |record: &&generate::Record| record.length > CHARACTER_RECORD + 32751;
         let split = records.iter().filter(long).count();
         let done = (2 * records.len() + split) as u64;
-        if answer.refusal != 0 || answer.numbers != [done, 0, 0] {
+        if answer != Answer::of(0, [done]) {
             return Err(format!("round trip: {read}\n  answered {answer:?}"));
         }
         // The font's records, byte for byte, and nothing else behind the mark.
@@ -869,8 +950,6 @@ impl History<'_> {
                         met.situation("continuation that completes");
                     }
                     (0, false) => met.situation("continuation that doesn't complete"),
-                    (8, true) => met.situation("run past the row in a first block"),
-                    (8, false) => met.situation("run past the row in a continuation"),
                     (9, true) => met.situation("picture too large"),
                     (9, false) => met.situation("kept data too large"),
                     (10, true) if named => met.situation("no room for the open character anew"),

@@ -6,7 +6,7 @@ use crate::calls::{Answer, Call, CALLS, NAMES, POSSIBLE};
 const REFUSALS: usize = 15;
 
 /// Every one must be met by a whole run.
-const SITUATIONS: [&str; 151] = [
+const SITUATIONS: [&str; 149] = [
     "font replaced",
     "font of the open character replaced",
     "font block while a character is open",
@@ -18,8 +18,6 @@ const SITUATIONS: [&str; 151] = [
     "continuation without data",
     "continuation that completes",
     "continuation that doesn't complete",
-    "run past the row in a first block",
-    "run past the row in a continuation",
     "picture too large",
     "kept data too large",
     "no room for a first block",
@@ -160,16 +158,52 @@ const SITUATIONS: [&str; 151] = [
     "from two, out of range with both stores empty",
 ];
 
+/// Those of W-209, every one of which a shorter run must meet too.
+const BAD_RUNS: [&str; 22] = [
+    "8 by a first block",
+    "8 by a continuation",
+    "8 by a first block, repeats before it",
+    "8 by a continuation, repeats before it",
+    "8 by a continuation, in a row that it begins",
+    "8 by a continuation, in a row with dots kept before",
+    "8 in a row with repeats",
+    "8 in the last row, its repeats beyond the height",
+    "8 with no dot filled",
+    "8 after a run of 0",
+    "8 after 256 rows or more",
+    "8 with 256 dots filled or more",
+    "no 8, a run past the width beyond the picture",
+    "stream with an 8 that ends with 0",
+    "stream with an 8 that ends with 13",
+    "stream with another refusal before its first 8",
+    "stream with downloads done after its first 8",
+    "stream of which the first 8 is by a continuation",
+    "several 8 in one stream that ends with 0",
+    "several 8 in one stream that ends with 13",
+    "several 8 in one stream, the last with other numbers",
+    "the same, and the first in row 0 with no dot filled",
+];
+
+fn situations() -> impl Iterator<Item = &'static str> {
+    SITUATIONS.iter().chain(&BAD_RUNS).copied()
+}
+
 pub struct Met {
     answers: [[u64; REFUSALS]; CALLS],
-    situations: [u64; SITUATIONS.len()],
+    situations: [u64; SITUATIONS.len() + BAD_RUNS.len()],
+}
+
+/// How many possible answers and situations were never met: of all, and of W-209's.
+pub struct Never {
+    pub all: usize,
+    pub bad_runs: usize,
 }
 
 impl Met {
     pub fn new() -> Met {
         Met {
             answers: [[0; REFUSALS]; CALLS],
-            situations: [0; SITUATIONS.len()],
+            situations: [0; SITUATIONS.len() + BAD_RUNS.len()],
         }
     }
 
@@ -185,7 +219,7 @@ impl Met {
     }
 
     pub fn situation(&mut self, name: &str) {
-        let index = SITUATIONS.iter().position(|&known| known == name);
+        let index = situations().position(|known| known == name);
         self.situations[index.expect("a named situation")] += 1;
     }
 
@@ -204,8 +238,8 @@ impl Met {
         self.answers.iter().flatten().sum()
     }
 
-    /// Prints the tables; how many possible things were never met.
-    pub fn report(&self) -> usize {
+    /// Prints the tables.
+    pub fn report(&self) -> Never {
         let mut never = 0;
         print!("{:18}", "call");
         for refusal in 0..REFUSALS {
@@ -225,10 +259,14 @@ impl Met {
             }
             println!();
         }
-        for (name, times) in SITUATIONS.iter().zip(self.situations) {
+        for (name, times) in situations().zip(self.situations) {
             println!("{times:>8}  {name}");
             never += usize::from(times == 0);
         }
-        never
+        let bad_runs = &self.situations[SITUATIONS.len()..];
+        Never {
+            all: never,
+            bad_runs: bad_runs.iter().filter(|&&times| times == 0).count(),
+        }
     }
 }
