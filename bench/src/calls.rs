@@ -70,25 +70,39 @@ pub enum Call {
     },
 }
 
-/// The refusal and the other numbers.
-pub type Answer = [u64; 4];
+/// The refusal and the other numbers; of a stream the third is the commands refused. The
+/// last three are a row, the dots filled and a run (W-209).
+pub type Answer = [u64; 7];
 
 fn bare(refusal: u32) -> Answer {
-    [u64::from(refusal), 0, 0, 0]
+    three(refusal, 0, 0)
 }
 
 fn two(refusal: u32, number: u32) -> Answer {
-    [u64::from(refusal), u64::from(number), 0, 0]
+    three(refusal, number, 0)
 }
 
 fn three(refusal: u32, first: u32, second: u32) -> Answer {
-    [u64::from(refusal), u64::from(first), u64::from(second), 0]
+    let [refusal, first, second] = [refusal, first, second].map(u64::from);
+    [refusal, first, second, 0, 0, 0, 0]
+}
+
+fn downloaded(refusal: u32, bad_run: [u32; 3]) -> Answer {
+    let [row, filled, run] = bad_run.map(u64::from);
+    [u64::from(refusal), 0, 0, 0, row, filled, run]
+}
+
+/// The commands done and refused, and the place.
+fn stream_read(refusal: u32, numbers: [u64; 3], bad_run: [u32; 3]) -> Answer {
+    let [done, refused, place] = numbers;
+    let [row, filled, run] = bad_run.map(u64::from);
+    [u64::from(refusal), done, refused, place, row, filled, run]
 }
 
 /// The font number and the store that holds it, then the record's place.
 fn chosen_record(refusal: u32, font: u32, which: u32, place: u64) -> Answer {
     let font = u64::from(font) | u64::from(which) << 32;
-    [u64::from(refusal), font, 0, place]
+    [u64::from(refusal), font, 0, place, 0, 0, 0]
 }
 
 /// An output as a sheet's answers.
@@ -153,9 +167,10 @@ pub fn ours(call: Call, store: &mut [u8], input: &[u8], out: &mut [u8]) -> Answe
             Call::DownloadFont { font } => {
                 bare(c::mf_download_font(at, len, block, block_len, font))
             }
-            Call::DownloadCharacter { font, code } => bare(c::mf_download_character(
-                at, len, block, block_len, font, code,
-            )),
+            Call::DownloadCharacter { font, code } => {
+                let a = c::mf_download_character(at, len, block, block_len, font, code);
+                downloaded(a.refusal, [a.row, a.filled, a.run])
+            }
             Call::RemoveFont { font } => bare(c::mf_remove_font(at, len, font)),
             Call::RemoveCharacter { font, code } => {
                 bare(c::mf_remove_character(at, len, font, code))
@@ -224,8 +239,9 @@ pub fn ours(call: Call, store: &mut [u8], input: &[u8], out: &mut [u8]) -> Answe
                 two(written.refusal, written.length)
             }
             Call::ReadStream => {
-                let read = c::mf_read_stream(at, len, block, block_len);
-                [u64::from(read.refusal), read.done, read.refused, read.place]
+                let r = c::mf_read_stream(at, len, block, block_len);
+                let numbers = [r.done, r.refused, r.place];
+                stream_read(r.refusal, numbers, [r.row, r.filled, r.run])
             }
             Call::TurnPicture {
                 width,
@@ -243,7 +259,8 @@ pub fn theirs(call: Call, store: &mut [u8], input: &[u8], out: &mut [u8]) -> Ans
         Call::MakeFresh => bare(reference::make_fresh(store)),
         Call::DownloadFont { font } => bare(reference::download_font(store, input, font)),
         Call::DownloadCharacter { font, code } => {
-            bare(reference::download_character(store, input, font, code))
+            let a = reference::download_character(store, input, font, code);
+            downloaded(a.refusal, [a.row, a.filled, a.run])
         }
         Call::RemoveFont { font } => bare(reference::remove_font(store, font)),
         Call::RemoveCharacter { font, code } => {
@@ -289,8 +306,9 @@ pub fn theirs(call: Call, store: &mut [u8], input: &[u8], out: &mut [u8]) -> Ans
             two(written.refusal, written.length)
         }
         Call::ReadStream => {
-            let read = reference::read_stream(store, input);
-            [u64::from(read.refusal), read.done, read.refused, read.place]
+            let r = reference::read_stream(store, input);
+            let numbers = [r.done, r.refused, r.place];
+            stream_read(r.refusal, numbers, [r.row, r.filled, r.run])
         }
         Call::TurnPicture {
             width,

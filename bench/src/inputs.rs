@@ -10,12 +10,14 @@ pub struct Input {
     /// A block, a stream or a second store.
     pub given: Vec<u8>,
     pub out: usize,
+    /// It has a run past the width, in a block or in some of a stream's (W-209).
+    pub bad: bool,
 }
 
 /// A name, and its input for a store of a length.
 pub type Named = (&'static str, fn(usize) -> Input);
 
-pub const INPUTS: [Named; 44] = [
+pub const INPUTS: [Named; 46] = [
     ("choose, store full of fonts", choose_among_fonts),
     ("choose in mode 600, 600 dpi fonts", choose_among_fine_fonts),
     ("choose in mode 600, both mixed", choose_among_mixed_fonts),
@@ -42,6 +44,7 @@ pub const INPUTS: [Named; 44] = [
     ),
     ("large class 2 first block", large_first_block),
     ("large class 2 continuation", large_continuation),
+    ("large class 2 block, its last run bad", large_bad_block),
     ("remove the first of many fonts", remove_first_font),
     (
         "remove the first of many characters",
@@ -65,6 +68,7 @@ pub const INPUTS: [Named; 44] = [
     ("write a profiled font of 224", write_profiled),
     ("read a stream of rising fonts", read_fonts),
     ("read a stream of characters", read_characters),
+    ("read a stream of characters, half bad", read_half_bad),
     ("read a stream of falling fonts", read_falling_fonts),
     ("read a stream of continuations", read_continuations),
     ("turn 1024 x 256 dots by a quarter", |length| {
@@ -191,6 +195,12 @@ fn fresh(length: usize) -> Vec<u8> {
     store
 }
 
+/// A character block that is done.
+fn put_character(store: &mut [u8], block: &[u8], font: u32, code: u32) {
+    let answer = reference::download_character(store, block, font, code);
+    assert_eq!(answer, reference::Downloaded::default());
+}
+
 /// Fonts 1, 2, .. as long as `spare` bytes are left.
 fn full_of_fonts(length: usize, spare: usize) -> (Vec<u8>, usize) {
     full_of(header, length, spare)
@@ -229,10 +239,7 @@ fn at_most(most: usize, length: usize, spare: usize, class: u8) -> (Vec<u8>, u32
     let room = length - MARK_RECORD - FONT_RECORD - spare;
     let codes = (room / record).min(most) as u32;
     for code in 1..=codes {
-        assert_eq!(
-            reference::download_character(&mut store, &block, 5, code),
-            0
-        );
+        put_character(&mut store, &block, 5, code);
     }
     (store, codes)
 }
@@ -258,10 +265,7 @@ fn ten_fonts(length: usize, block: &[u8]) -> Vec<u8> {
     let characters = (length - MARK_RECORD - 10 * FONT_RECORD) / record;
     for at in 0..characters as u32 {
         let (font, code) = (1 + at % 10, 1 + at / 10);
-        assert_eq!(
-            reference::download_character(&mut store, block, font, code),
-            0
-        );
+        put_character(&mut store, block, font, code);
     }
     store
 }
@@ -272,6 +276,7 @@ fn input(store: Vec<u8>, call: Call) -> Input {
         call,
         given: Vec::new(),
         out: 0,
+        bad: false,
     }
 }
 
@@ -433,10 +438,25 @@ fn large_continuation(length: usize) -> Input {
     reference::download_font(&mut store, &header(1), 5);
     let (head, rest) = data.split_at(data.len() / 2);
     let block = first_block(2, width, height, head);
-    assert_eq!(reference::download_character(&mut store, &block, 5, 65), 0);
+    put_character(&mut store, &block, 5, 65);
     Input {
         given: [&[4, 1], rest].concat(),
         ..input(store, Call::DownloadCharacter { font: 5, code: 65 })
+    }
+}
+
+/// The last run, and with it its row, one dot too long.
+fn spoilt(mut block: Vec<u8>) -> Vec<u8> {
+    *block.last_mut().expect("a run") += 1;
+    block
+}
+
+fn large_bad_block(length: usize) -> Input {
+    let good = large_first_block(length);
+    Input {
+        given: spoilt(good.given),
+        bad: true,
+        ..good
     }
 }
 
@@ -519,10 +539,10 @@ fn picture(length: usize, class: u8) -> (Vec<u8>, usize) {
     };
     let mut sent = data.len().min(32_751);
     let block = first_block(class, 1024, height, &data[..sent]);
-    assert_eq!(reference::download_character(&mut store, &block, 5, 65), 0);
+    put_character(&mut store, &block, 5, 65);
     if sent < data.len() {
         let block = [&[4, 1], &data[sent..]].concat();
-        assert_eq!(reference::download_character(&mut store, &block, 5, 65), 0);
+        put_character(&mut store, &block, 5, 65);
         sent = data.len();
     }
     assert_eq!(sent, data.len());
@@ -585,10 +605,7 @@ fn profiled(length: usize, class: u8) -> Vec<u8> {
     // Pitch 120, as the characters' delta X.
     assert_eq!(reference::download_font(&mut store, &header(3), 5), 0);
     for code in 32..32 + codes as u32 {
-        assert_eq!(
-            reference::download_character(&mut store, &block, 5, code),
-            0
-        );
+        put_character(&mut store, &block, 5, code);
     }
     assert_eq!(
         reference::check_profile(&store, 5),
@@ -643,6 +660,24 @@ fn read_characters(length: usize) -> Input {
     stream.truncate(written.length as usize);
     Input {
         given: stream,
+        ..input(fresh(length), Call::ReadStream)
+    }
+}
+
+/// The same characters, each second with a last run that doesn't fit.
+fn read_half_bad(length: usize) -> Input {
+    let (_, codes) = full_of_characters(length, 0, 2);
+    let good = first_block(2, 96, 20, &runs(96, 20, 17));
+    let bad = spoilt(good.clone());
+    let mut stream = stream_of_fonts(5..=5);
+    for code in 1..=codes {
+        let block = if code % 2 == 0 { &good } else { &bad };
+        stream.extend(format!("\x1b*c{code}E\x1b(s{}W", block.len()).bytes());
+        stream.extend(block);
+    }
+    Input {
+        given: stream,
+        bad: true,
         ..input(fresh(length), Call::ReadStream)
     }
 }
