@@ -87,8 +87,8 @@
  *
  * What comes back
  *   A refusal number, MF_DONE (0) if there is none. After a refusal every other number of the
- *   answer is 0 (save MF_STREAM_BROKEN, see mf_read_stream), and store and output are unchanged,
- *   save after
+ *   answer is 0 (save MF_RUN_PAST_ROW, see mf_download_character, and MF_STREAM_BROKEN, see
+ *   mf_read_stream), and store and output are unchanged, save after
  *     MF_NO_ROOM from mf_download_character: its font and all the characters of that font are
  *       removed;
  *     MF_STREAM_BROKEN: the commands before the broken place stay done.
@@ -106,10 +106,11 @@
  * Saving a store
  *   A store may be saved, copied and taken up again as plain bytes, by the same version on any
  *   machine. The first number of MF_VERSION rises when the form of a call or of the store
- *   changes: versions that have it in common take up each other's stores. A store with fonts that
- *   a version before 2.0.0 made is not a store any more (MF_NOT_A_STORE), since its font records
- *   have 72 or 78 bytes and not 82: have that version write its fonts out, and read the streams
- *   into a fresh store, in which each font takes 10 or 4 bytes more.
+ *   changes: versions that have it in common take up each other's stores, and so do those of
+ *   2.0.0 to 3.0.0, whose calls alone differ. A store with fonts that a version before 2.0.0 made
+ *   is not a store any more (MF_NOT_A_STORE), since its font records have 72 or 78 bytes and not
+ *   82: have that version write its fonts out, and read the streams into a fresh store, in which
+ *   each font takes 10 or 4 bytes more.
  *
  * What drawing needs
  *   At most this many bytes of stack on x86-64, beside what memset and memmove of the C library
@@ -124,8 +125,8 @@
 extern "C" {
 #endif
 
-#define MF_VERSION "2.1.0"
-#define MF_VERSION_NUMBER 20100 /* 10000 x first + 100 x second + third number */
+#define MF_VERSION "3.0.0"
+#define MF_VERSION_NUMBER 30000 /* 10000 x first + 100 x second + third number */
 
 enum mf_refusal {
     MF_DONE = 0,           /* done */
@@ -250,6 +251,8 @@ typedef struct { uint32_t refusal, font, which; uint64_t place; } mf_chosen_reco
 /* count: the characters of a font, or the data bytes of a character */
 typedef struct { uint32_t refusal; uint32_t count; } mf_told;
 typedef struct { uint32_t refusal; uint32_t length; } mf_written;
+/* row, filled, run: where a run passes the row's end, see mf_download_character; else 0 */
+typedef struct { uint32_t refusal, row, filled, run; } mf_downloaded;
 /* rule, code: 0 and 0, or the first rule broken and the lowest code that breaks it */
 typedef struct { uint32_t refusal; uint32_t rule; uint32_t code; } mf_profile;
 typedef struct {
@@ -257,6 +260,10 @@ typedef struct {
     uint64_t done;    /* commands */
     uint64_t refused; /* commands */
     uint64_t place;   /* where it is broken, see mf_read_stream; else 0 */
+    /* of the first command that MF_RUN_PAST_ROW refused, see mf_read_stream; else 0: */
+    uint32_t row;
+    uint32_t filled;
+    uint32_t run;
 } mf_stream_read;
 
 /* One request of a sheet: the numbers of mf_choose, in its order. */
@@ -302,6 +309,11 @@ MF_CHECK_LAYOUT(sizeof(mf_told) == 8);
 MF_CHECK_FIELD(mf_written, refusal, 0, 4);
 MF_CHECK_FIELD(mf_written, length, 4, 4);
 MF_CHECK_LAYOUT(sizeof(mf_written) == 8);
+MF_CHECK_FIELD(mf_downloaded, refusal, 0, 4);
+MF_CHECK_FIELD(mf_downloaded, row, 4, 4);
+MF_CHECK_FIELD(mf_downloaded, filled, 8, 4);
+MF_CHECK_FIELD(mf_downloaded, run, 12, 4);
+MF_CHECK_LAYOUT(sizeof(mf_downloaded) == 16);
 MF_CHECK_FIELD(mf_profile, refusal, 0, 4);
 MF_CHECK_FIELD(mf_profile, rule, 4, 4);
 MF_CHECK_FIELD(mf_profile, code, 8, 4);
@@ -310,7 +322,10 @@ MF_CHECK_FIELD(mf_stream_read, refusal, 0, 4);
 MF_CHECK_FIELD(mf_stream_read, done, 8, 8);
 MF_CHECK_FIELD(mf_stream_read, refused, 16, 8);
 MF_CHECK_FIELD(mf_stream_read, place, 24, 8);
-MF_CHECK_LAYOUT(sizeof(mf_stream_read) == 32);
+MF_CHECK_FIELD(mf_stream_read, row, 32, 4);
+MF_CHECK_FIELD(mf_stream_read, filled, 36, 4);
+MF_CHECK_FIELD(mf_stream_read, run, 40, 4);
+MF_CHECK_LAYOUT(sizeof(mf_stream_read) == 48);
 MF_CHECK_FIELD(mf_request, symbol_set, 0, 4);
 MF_CHECK_FIELD(mf_request, spacing, 4, 4);
 MF_CHECK_FIELD(mf_request, pitch, 8, 4);
@@ -526,6 +541,23 @@ uint32_t mf_download_font(uint8_t *store, size_t store_len,
  * picture is not complete yet, the character is the open one from now on; else none is open.
  * A continuation (byte 1 is not 0) adds its data, from byte 2 on, to the open character, which
  * must be the one named. Completing it closes it; so does removing it.
+ * Data of class 2 are rows: a byte that says how many times more the row is drawn, then its runs,
+ * white and black in turn, a byte each, until they fill the width. MF_RUN_PAST_ROW comes with
+ * three numbers that say where they are bad; in every other answer these are 0:
+ *   row     the picture's row that is being read, counted from 0 at the top. A row that is drawn
+ *           several times counts that often; a bad one is the first of the rows that it would
+ *           make. In a continuation too it is counted from the picture's top.
+ *   filled  the dots of that row that its runs so far have filled
+ *   run     the run that does not fit, its byte: filled + run is above the width
+ * A picture 10 dots wide and 4 rows high with the data 1 10 0 4 7 is refused with row 2, filled 4
+ * and run 7: the row 1 10 is drawn twice, as rows 0 and 1; then the row 0 4 7 has runs of 4 and
+ * of 7 dots, which are 11. With tell a function of yours:
+ *
+ *     mf_downloaded sent =
+ *         mf_download_character(store, sizeof store, block, block_len, font, code);
+ *     if (sent.refusal == MF_RUN_PAST_ROW)
+ *         tell(sent.row, sent.filled, sent.run);
+ *
  * Refuses, in this order:
  *   MF_NOT_A_STORE   not a store
  *   MF_OUT_OF_RANGE  font is above MF_FONT_MAX, or code above MF_CODE_MAX
@@ -545,9 +577,9 @@ uint32_t mf_download_font(uint8_t *store, size_t store_len,
  *   MF_TOO_LARGE     the kept data would be more than 32768 bytes
  *   MF_NO_ROOM       no room for MF_CHARACTER_ROOM bytes and the data, what is replaced counted
  *                    as free: the font is removed with all its characters */
-uint32_t mf_download_character(uint8_t *store, size_t store_len,
-                               const uint8_t *block, size_t block_len,
-                               uint32_t font, uint32_t code);
+mf_downloaded mf_download_character(uint8_t *store, size_t store_len,
+                                    const uint8_t *block, size_t block_len,
+                                    uint32_t font, uint32_t code);
 
 /* Removes a font with all its characters.
  * Refuses, in this order:
@@ -806,6 +838,9 @@ mf_written mf_write_profiled(const uint8_t *store, size_t store_len,
  * Answers the commands done and the commands refused; place is then 0. So MF_DONE does not mean
  * that all was taken: look at refused, which must be 0 too. To learn which commands were refused,
  * and why, make their downloads one by one, as the program marlinfold-fonts does.
+ * row, filled and run are those that mf_download_character answers for the first command that it
+ * refuses with MF_RUN_PAST_ROW, whatever commands follow, also where the stream is broken later.
+ * They are 0 if there is none; run is never 0 if there is one.
  * A stream that was cut between two commands cannot be told from a whole one. Nothing is undone:
  * to be able to go back, keep a copy of the store's bytes.
  * Refuses, in this order:
@@ -813,8 +848,8 @@ mf_written mf_write_profiled(const uint8_t *store, size_t store_len,
  *   MF_STREAM_BROKEN  another byte than ESC where a command should begin, or a command with a
  *                     wrong byte, too large a number of bytes or not all of them. Answers the
  *                     place of the byte that is no ESC, or of the ESC of the wrong command,
- *                     counted from 0, and the counts before it; what stands before it stays
- *                     done */
+ *                     counted from 0, with the counts and the first bad row before it; what
+ *                     stands before it stays done */
 mf_stream_read mf_read_stream(uint8_t *store, size_t store_len,
                               const uint8_t *stream, size_t stream_len);
 

@@ -159,6 +159,12 @@ static void print_note_json(const note *said)
         json_number("number", said->numbered);
     if (said->code >= 0)
         json_number("code", said->code);
+    if (said->bad.width) {
+        json_number("row", (long)said->bad.row);
+        json_number("filled", (long)said->bad.filled);
+        json_number("run", (long)said->bad.run);
+        json_number("width", (long)said->bad.width);
+    }
     json_string("text", said->what);
     json_end();
 }
@@ -166,8 +172,10 @@ static void print_note_json(const note *said)
 /* Tells the font's incomplete characters. */
 static void tell_incomplete(uint32_t font)
 {
-    note said = {"incomplete", NULL, -1, -1, -1, -1, 0, "incomplete, rows are missing"};
+    note said = no_note;
 
+    said.kind = "incomplete";
+    strcpy(said.what, "incomplete, rows are missing");
     said.file = origin[font].file;
     said.font = (long)origin[font].number;
     said.numbered = into.next != OWN_NUMBERS ? (long)font : -1;

@@ -120,7 +120,7 @@ static met fonts[MF_FONT_MAX + 1];
 static void warn(rewriting *of, const char *kind, uint64_t at, long font, long code,
                  const char *what)
 {
-    note said = {NULL, NULL, -1, -1, -1, -1, 0, ""};
+    note said = no_note;
 
     said.kind = kind;
     said.file = of->from->name;

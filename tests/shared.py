@@ -25,8 +25,13 @@ class Profile(ctypes.Structure):
     _fields_ = [("refusal", U32), ("rule", U32), ("code", U32)]
 
 
+class Downloaded(ctypes.Structure):
+    _fields_ = [("refusal", U32), ("row", U32), ("filled", U32), ("run", U32)]
+
+
 class StreamRead(ctypes.Structure):
-    _fields_ = [("refusal", U32), ("done", U64), ("refused", U64), ("place", U64)]
+    _fields_ = [("refusal", U32), ("done", U64), ("refused", U64), ("place", U64),
+                ("row", U32), ("filled", U32), ("run", U32)]
 
 
 def declared(library, name, result, *numbers):
@@ -47,6 +52,7 @@ def must_be(what, got, expected):
 def main(path, fonts):
     library = ctypes.CDLL(path)
     make_fresh = declared(library, "mf_make_fresh", U32)
+    download = declared(library, "mf_download_character", Downloaded, None, U32, U32)
     read_stream = declared(library, "mf_read_stream", StreamRead, None)
     choose = declared(library, "mf_choose", Chosen, *[U32] * 5, ctypes.c_int32, *[U32] * 3)
     from_two = declared(library, "mf_choose_from_two", ChosenRecord, None, *choose.argtypes[2:])
@@ -61,10 +67,18 @@ def main(path, fonts):
     must_be("a fresh store", make_fresh(store, len(store)), 0)
     read = read_stream(store, len(store), stream, len(stream))
     must_be("read", (read.refusal, read.done, read.refused, read.place), (0, 190, 0, 0))
-    # cut in its last command: three numbers of 64 bits behind one of 32
+    # cut in its last command: three numbers of 64 bits after one of 32
     read = read_stream(store, len(store), stream, len(stream) - 1)
     must_be("cut", (read.refusal, read.done, read.refused), (13, 189, 0))
     must_be("the place of the cut", stream[read.place:read.place + 3], b"\x1b(s")
+    # 10 by 4 dots: a row drawn twice, then one of 4 and 7 dots; alone, and before a broken place
+    block = bytes([4, 0, 14, 2, 0, 0, 0, 0, 0, 0, 0, 10, 0, 4, 0, 0, 1, 10, 0, 4, 7])
+    sent = download(store, len(store), block, len(block), 3, 65)
+    must_be("a bad row", (sent.refusal, sent.row, sent.filled, sent.run), (8, 2, 4, 7))
+    bad = b"\x1b*c3D\x1b(s21W" + block + b"?"
+    read = read_stream(store, len(store), bad, len(bad))
+    must_be("a bad row in a stream", (read.refusal, read.done, read.refused, read.place,
+                                      read.row, read.filled, read.run), (13, 1, 1, 32, 2, 4, 7))
 
     # Roman-8, proportional, 10 to the inch, 10 points, style 0, bold, typeface 0, portrait
     chosen = choose(store, len(store), 277, 1, 1000, 1000, 0, 3, 0, 0, 300)

@@ -2,12 +2,15 @@
 #ifndef JUDGING_H
 #define JUDGING_H
 
+#include "message.h"
+
 #include <stddef.h>
 #include <stdint.h>
 
 typedef struct {
     uint32_t refusal; /* MF_DONE if there is nothing against it */
     char why[120];    /* the field with its value and what is allowed, or what was expected */
+    bad_run bad;      /* of MF_RUN_PAST_ROW alone */
 } judgement;
 
 #define NO_HEADER 4 /* the orientation of a font that is not there */

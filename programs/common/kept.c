@@ -61,8 +61,9 @@ static void find_incomplete(uint32_t font)
             mf_download_font(second, sizeof second, given.block, given.number, font);
         else if (given.found == CHARACTER_BLOCK) {
             mf_download_character(second, sizeof second, given.block, given.number, font, code);
-            kept.incomplete[code] = !mf_download_character(second, sizeof second, empty,
-                                                           sizeof empty, font, code);
+            kept.incomplete[code] = mf_download_character(second, sizeof second, empty,
+                                                          sizeof empty, font, code)
+                                        .refusal == MF_DONE;
         }
     }
 }

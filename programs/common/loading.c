@@ -49,7 +49,7 @@ static uint32_t kept_number(loading *into)
 /* A note about a font of the file, as the file names it and as it is kept. */
 static note note_of(const loading *of, const char *kind, uint32_t font)
 {
-    note made = {NULL, NULL, -1, -1, -1, -1, 0, ""};
+    note made = no_note;
 
     made.kind = kind;
     made.file = of->file;
@@ -69,6 +69,8 @@ static void tell_refused(const loading *of, const command *given, const judgemen
         made.code = (long)given->number;
     if (given->found == CHARACTER_BLOCK)
         made.code = (long)of->code;
+    if (why->refusal == MF_RUN_PAST_ROW)
+        made.bad = why->bad;
     snprintf(made.what, sizeof made.what, "%s", why->why);
     tell_note(&made);
 }
@@ -99,7 +101,7 @@ static void pass_over(loading *of)
 /* A note about a place where no command is read, or about the file as a whole. */
 static void tell_place(const loading *of, const char *kind, int64_t place, const char *what)
 {
-    note made = {NULL, NULL, -1, -1, -1, -1, 0, ""};
+    note made = no_note;
 
     made.kind = kind;
     made.file = of->file;
@@ -136,6 +138,21 @@ static void judged_by_call(judgement *made, uint32_t refusal)
 {
     made->refusal = refusal;
     snprintf(made->why, sizeof made->why, "%s", mf_refusal_name(refusal));
+}
+
+/* The same of a character block whose rows have this width. */
+static void judged_by_download(judgement *made, mf_downloaded sent, uint32_t width)
+{
+    judged_by_call(made, sent.refusal);
+    if (sent.refusal != MF_RUN_PAST_ROW)
+        return;
+    made->bad.row = sent.row;
+    made->bad.filled = sent.filled;
+    made->bad.run = sent.run;
+    made->bad.width = width;
+    snprintf(made->why, sizeof made->why, "%s: row %u, %u of %u dots filled, run of %u",
+             mf_refusal_name(sent.refusal), (unsigned)sent.row, (unsigned)sent.filled,
+             (unsigned)width, (unsigned)sent.run);
 }
 
 /* Tells that a font goes for another. */
@@ -175,7 +192,7 @@ static void load_font(loading *into, const command *given, judgement *made)
 
 static void load_character(loading *into, const command *given, judgement *made)
 {
-    uint32_t number = kept_number(into);
+    uint32_t number = kept_number(into), width = into->width;
 
     if (number > MF_FONT_MAX) {
         judged_by_call(made, MF_OUT_OF_RANGE);
@@ -185,8 +202,13 @@ static void load_character(loading *into, const command *given, judgement *made)
                     origin[number].file ? origin[number].orientation : NO_HEADER);
     if (made->refusal)
         return;
-    judged_by_call(made, mf_download_character(store, sizeof store, given->block, given->number,
-                                               number, into->code));
+    if (given->block[1] == 0)
+        width = mf_field(given->block, 10);
+    judged_by_download(made, mf_download_character(store, sizeof store, given->block,
+                                                   given->number, number, into->code),
+                       width);
+    if (!made->refusal)
+        into->width = width;
     if (made->refusal == MF_NO_CHARACTER)
         strcpy(made->why, "a continuation not for the open character");
     if (made->refusal == MF_NO_ROOM) {

@@ -26,6 +26,7 @@ typedef struct {
     const char *file;      /* the file that is read */
     uint64_t place;        /* of the command under way in it */
     uint32_t number, code; /* as the file names them */
+    uint32_t width;        /* of the last character begun, which is the open one if any is */
     uint32_t given[MF_FONT_MAX + 1]; /* the numbers that the file's fonts are given */
     passed_over passed;
     unsigned long blocks;  /* done in this file */

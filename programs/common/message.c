@@ -62,6 +62,8 @@ static void print_note(const note *said)
 
 void (*tell_note)(const note *said) = print_note;
 
+const note no_note = {NULL, NULL, -1, -1, -1, -1, 0, {0, 0, 0, 0}, ""};
+
 void refuse(const char *what, uint32_t refusal)
 {
     stop("%s: refusal %u, %s", what, (unsigned)refusal, mf_refusal_name(refusal));

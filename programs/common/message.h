@@ -22,6 +22,12 @@ void tell(const char *format, ...);
 /* The same, and the program ends with FAILED. */
 void stop(const char *format, ...);
 
+/* A run that passes the end of its row, as the library answers it. */
+typedef struct {
+    uint32_t row, filled, run;
+    uint32_t width; /* of the row; 0 if there is no such run */
+} bad_run;
+
 /* What is to be said of a place in a file. */
 typedef struct {
     const char *kind; /* in a word or two */
@@ -31,8 +37,12 @@ typedef struct {
     long numbered;    /* as it is kept, if that was asked for */
     long code;
     int font_in_words; /* what is said names the font */
+    bad_run bad;       /* what is said has these numbers */
     char what[400];
 } note;
+
+/* A note of nothing. */
+extern const note no_note;
 
 /* Tells it in a line. A program may put another function in its place. */
 extern void (*tell_note)(const note *said);

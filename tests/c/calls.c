@@ -213,7 +213,7 @@ static uint32_t character(unsigned class_, unsigned width, unsigned height, cons
 {
     uint8_t block[64];
     length = first_block(block, class_, width, height, data, length);
-    return mf_download_character(store, sizeof store, block, length, 5, 65);
+    return mf_download_character(store, sizeof store, block, length, 5, 65).refusal;
 }
 
 static void bytes(const char *name, uint32_t refusal, const uint8_t *from, size_t length)
@@ -254,8 +254,10 @@ static void drawing(void)
            (unsigned)mf_field(kept, 12), (unsigned)mf_field(kept, 14));
     /* All but the last row; then that. */
     answer("incomplete", character(2, 10, 3, p10, 4));
-    answer("continuation", mf_download_character(store, sizeof store, more, sizeof more, 5, 65));
-    answer("closed by it", mf_download_character(store, sizeof store, more, sizeof more, 5, 65));
+    answer("continuation",
+           mf_download_character(store, sizeof store, more, sizeof more, 5, 65).refusal);
+    answer("closed by it",
+           mf_download_character(store, sizeof store, more, sizeof more, 5, 65).refusal);
     bytes("joined picture", mf_draw_picture(store, sizeof store, out, size, 5, 65), out, size);
     answer("P11", character(2, 300, 1, p11, sizeof p11));
     bytes("P11 row", mf_draw_row(store, sizeof store, out, sizeof out, 5, 65, 0), out,

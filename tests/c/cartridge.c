@@ -103,7 +103,8 @@ static void put_character(uint32_t which, uint32_t font, uint32_t code, unsigned
     uint8_t block[64] = {4, 0, 14, 1, 0, 0, 0, 0, 0, 0, 0, 0, 0, 1, 0, 120};
     high(block + 10, 8 * bytes);
     memset(block + 16, 0xA5, bytes);
-    if (mf_download_character(stores[which], lengths[which], block, 16 + bytes, font, code))
+    if (mf_download_character(stores[which], lengths[which], block, 16 + bytes, font, code)
+            .refusal)
         printf("%s, code %u: refused\n", names[which], (unsigned)code);
 }
 

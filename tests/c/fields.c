@@ -74,7 +74,7 @@ static uint32_t put_character(uint32_t font, uint32_t code, unsigned class_, int
 {
     uint8_t block[64];
     length = first_block(block, class_, width, height, data, length);
-    return mf_download_character(store, sizeof store, block, length, font, code);
+    return mf_download_character(store, sizeof store, block, length, font, code).refusal;
 }
 
 static mf_font_fields told_font(uint32_t font)
@@ -343,8 +343,10 @@ static void fill(size_t length, size_t more)
     first_block(block, 1, 1024, 256, NULL, 0);
     printf("%u bytes, room %u, a character of %u", (unsigned)length, (unsigned)room,
            (unsigned)(room + more));
-    printf(": %s, ", mf_refusal_name(mf_download_character(
-                         lent, length, block, 16 + room + more - MF_CHARACTER_ROOM, 9, 65)));
+    printf(": %s, ", mf_refusal_name(mf_download_character(lent, length, block,
+                                                           16 + room + more - MF_CHARACTER_ROOM,
+                                                           9, 65)
+                                         .refusal));
     printf("room %u\n", (unsigned)mf_room_left(lent, length));
     free(lent);
 }
@@ -603,7 +605,7 @@ static void probe(const char *name, uint32_t code)
     uint32_t refusal;
 
     memcpy(copy, store, sizeof store);
-    refusal = mf_download_character(store, sizeof store, empty, sizeof empty, 1, code);
+    refusal = mf_download_character(store, sizeof store, empty, sizeof empty, 1, code).refusal;
     printf("%s: class %u, %u of %u bytes, %s, store %s\n", name, (unsigned)letter.class_,
            (unsigned)told.count, (unsigned)mf_picture_bytes(letter.width, letter.height),
            mf_refusal_name(refusal), memcmp(store, copy, sizeof store) ? "changed" : "as it was");

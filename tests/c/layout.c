@@ -34,6 +34,12 @@ static void layout(void)
     AT(mf_written, refusal);
     AT(mf_written, length);
     puts("");
+    SIZE(mf_downloaded);
+    AT(mf_downloaded, refusal);
+    AT(mf_downloaded, row);
+    AT(mf_downloaded, filled);
+    AT(mf_downloaded, run);
+    puts("");
     SIZE(mf_profile);
     AT(mf_profile, refusal);
     AT(mf_profile, rule);
@@ -44,6 +50,9 @@ static void layout(void)
     AT(mf_stream_read, done);
     AT(mf_stream_read, refused);
     AT(mf_stream_read, place);
+    AT(mf_stream_read, row);
+    AT(mf_stream_read, filled);
+    AT(mf_stream_read, run);
     puts("");
 }
 
@@ -188,6 +197,12 @@ static void show_told(mf_told told)
     printf("told: refusal %u count %u\n", (unsigned)told.refusal, (unsigned)told.count);
 }
 
+static void show_downloaded(mf_downloaded sent)
+{
+    printf("downloaded: refusal %u row %u filled %u run %u\n", (unsigned)sent.refusal,
+           (unsigned)sent.row, (unsigned)sent.filled, (unsigned)sent.run);
+}
+
 static void show_written(mf_written written)
 {
     printf("written: refusal %u length %u\n", (unsigned)written.refusal,
@@ -204,13 +219,18 @@ static void show_read(const char *stream, size_t length)
 {
     mf_stream_read read =
         mf_read_stream(store, sizeof store, (const uint8_t *)stream, length);
-    printf("read: refusal %u done %lu refused %lu place %lu\n", (unsigned)read.refusal,
-           (unsigned long)read.done, (unsigned long)read.refused, (unsigned long)read.place);
+    printf("read: refusal %u done %lu refused %lu place %lu row %u filled %u run %u\n",
+           (unsigned)read.refusal, (unsigned long)read.done, (unsigned long)read.refused,
+           (unsigned long)read.place, (unsigned)read.row, (unsigned)read.filled,
+           (unsigned)read.run);
 }
 
 int main(void)
 {
     static const char stream[] = "\x1b*c5D\x1b*c65E\x1b*c66E\x1b*c40000D\x1b)s1W!?";
+    /* 10 by 4 dots for font 50: a row that is drawn twice, then 4 and 7 dots */
+    static const char bad_row[] = "\x1b*c50D\x1b(s21W\4\0\16\2\1\0\0\0\0\0\0\12\0\4\0\0"
+                                  "\1\12\0\4\7?";
     layout();
     layout_of_sheet();
     build();
@@ -220,6 +240,10 @@ int main(void)
     chosen_from_two(MF_MODE_600);
     chosen_from_two(301);
     put_characters();
+    show_downloaded(mf_download_character(store, sizeof store, (const uint8_t *)bad_row + 12, 21,
+                                          FITTING, 65));
+    show_downloaded(mf_download_character(store, sizeof store, (const uint8_t *)bad_row + 12, 21,
+                                          FITTING, 256));
     show_told(mf_tell_font(store, sizeof store, out, sizeof out, FITTING));
     show_told(mf_tell_character(store, sizeof store, out, sizeof out, FITTING, 65));
     show_told(mf_tell_font(store, sizeof store, out, sizeof out, 1));
@@ -229,5 +253,7 @@ int main(void)
     show_profile(mf_check_profile(store, sizeof store, 1));
     show_read(stream, sizeof stream - 1);
     show_read(stream, sizeof stream - 2);
+    show_read(bad_row, sizeof bad_row - 1);
+    show_read(bad_row, sizeof bad_row - 2);
     return 0;
 }

@@ -1,7 +1,7 @@
 /* loading FILE...: holds the programs' loader to mf_read_stream. Each file is loaded into one
  * store and read into another, whole, and then cut, damaged and spliced by chance: both
- * stores, the counts and the broken places must be the same. Prints what was met; what is
- * met nowhere is a failure, since nothing was tried then. */
+ * stores, the counts, the broken places and the first bad row must be the same. Prints what was
+ * met; what is met nowhere is a failure, since nothing was tried then. */
 #include "commands.h"
 #include "judging.h"
 #include "loading.h"
@@ -20,7 +20,8 @@ typedef struct {
 static uint8_t other[MF_STORE_MAX], changed[1 << 17];
 static contents files[FILES];
 static loading into;
-static unsigned long streams, refused, broken, removed, judged;
+static unsigned long streams, refused, broken, removed, judged, bad_rows;
+static bad_run first_bad; /* that the loader told in this stream; width 0 for none */
 
 static uint32_t chance(uint32_t below)
 {
@@ -29,6 +30,22 @@ static uint32_t chance(uint32_t below)
     state ^= state >> 17;
     state ^= state << 5;
     return state % below;
+}
+
+static void keep_first(const note *said)
+{
+    if (!first_bad.width)
+        first_bad = said->bad;
+}
+
+/* Whether it is what the library answers for the stream, and passes its row's end. */
+static int is_first_bad(const mf_stream_read *read)
+{
+    const bad_run *bad = &first_bad;
+
+    return bad->row == read->row && bad->filled == read->filled && bad->run == read->run &&
+           (bad->width ? bad->filled < bad->width && bad->filled + bad->run > bad->width
+                       : !bad->row && !bad->filled && !bad->run);
 }
 
 static void fresh(void)
@@ -63,7 +80,8 @@ static void hold_judgement(const command *given)
     } else {
         mf_download_font(tried, sizeof tried, header, sizeof header, 1);
         judge_character(&made, given->block, given->number, MF_PORTRAIT);
-        refusal = mf_download_character(tried, sizeof tried, given->block, given->number, 1, 1);
+        refusal = mf_download_character(tried, sizeof tried, given->block, given->number, 1, 1)
+                      .refusal;
         /* What only the call can see. */
         if (refusal == MF_NO_CHARACTER || refusal == MF_RUN_PAST_ROW || refusal == MF_NO_ROOM ||
             (refusal == MF_TOO_LARGE && !made.refusal))
@@ -101,20 +119,25 @@ static void hold(const uint8_t *bytes, size_t length)
 
     hold_judgements(bytes, length);
     into.done = into.refused = into.broken = 0;
+    memset(&first_bad, 0, sizeof first_bad);
     load_stream(&into, &from);
     read = mf_read_stream(other, sizeof other, bytes, length);
     streams++;
     refused += into.refused;
     broken += into.broken;
     removed += fonts_kept() < before;
+    bad_rows += first_bad.width != 0;
     if (memcmp(store, other, sizeof store) == 0 && into.done == read.done &&
         into.refused == read.refused && into.broken == (read.refusal == MF_STREAM_BROKEN) &&
-        (!into.broken || into.place == read.place))
+        (!into.broken || into.place == read.place) && is_first_bad(&read))
         return;
     printf("stream %lu: done %lu, refused %lu, place %lu; read: %lu, %lu, %lu, refusal %u; %s\n",
            streams, into.done, into.refused, (unsigned long)into.place, (unsigned long)read.done,
            (unsigned long)read.refused, (unsigned long)read.place, (unsigned)read.refusal,
            memcmp(store, other, sizeof store) ? "stores differ" : "stores are the same");
+    printf("told row %u, %u of %u filled, run %u; read: %u, %u, %u\n", (unsigned)first_bad.row,
+           (unsigned)first_bad.filled, (unsigned)first_bad.width, (unsigned)first_bad.run,
+           (unsigned)read.row, (unsigned)read.filled, (unsigned)read.run);
     exit(1);
 }
 
@@ -193,6 +216,7 @@ int main(int argc, char **names)
     if (number < 1 || number > FILES)
         return 2;
     into.next = OWN_NUMBERS;
+    tell_note = keep_first;
     for (file = 0; file < number; file++) {
         files[file] = read_whole(names[file + 1]);
         if (files[file].length == 0)
@@ -206,6 +230,7 @@ int main(int argc, char **names)
         try_changed(&files[chance((uint32_t)number)], &files[chance((uint32_t)number)]);
     }
     printf("%lu streams: %lu commands refused, %lu blocks judged so before, %lu broken, %lu lost a "
-           "font for want of room\n", streams, refused, judged, broken, removed);
-    return !(refused && judged && broken && removed);
+           "font for want of room, %lu with a bad row\n", streams, refused, judged, broken, removed,
+           bad_rows);
+    return !(refused && judged && broken && removed && bad_rows);
 }

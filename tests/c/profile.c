@@ -39,7 +39,7 @@ static void put(uint32_t code, int left, unsigned height, unsigned delta, unsign
     block[13] = (uint8_t)height;
     block[15] = (uint8_t)delta;
     memset(block + 16, 0x5A, length);
-    if (mf_download_character(store, sizeof store, block, 16 + length, FONT, code))
+    if (mf_download_character(store, sizeof store, block, 16 + length, FONT, code).refusal)
         puts("character refused");
 }
 
