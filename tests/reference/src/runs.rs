@@ -102,6 +102,9 @@ impl Reading {
     }
 }
 
+/// Dots that a row lacks, above which four runs of letters mostly fit.
+const FOUR_AT_ONCE: u32 = 32;
+
 impl RunReading {
     /// 01, Rows: "Class 2: a repeat count, then white and black runs in turn,
     /// white first, each one byte, until they sum to the width; the row is
@@ -120,6 +123,19 @@ impl RunReading {
                     (u32::from(repeat), self.width)
                 }
             };
+            // Four runs that leave the row unfinished together: none of them ends
+            // it or passes its end.
+            while unfilled > FOUR_AT_ONCE {
+                let Some(four) = data[at..].first_chunk::<4>() else {
+                    break;
+                };
+                let sum: u32 = four.iter().map(|&run| u32::from(run)).sum();
+                if sum >= unfilled {
+                    break;
+                }
+                unfilled -= sum;
+                at += 4;
+            }
             // A row ends the moment its runs sum to the width; 0 is a run like
             // any other.
             loop {
