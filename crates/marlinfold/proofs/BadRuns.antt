@@ -13,20 +13,19 @@ use Rattle.form.proofs.Locates.{store-is}
 use Rattle.store.specs.Answer.{After}
 use Rattle.store.specs.Calls.{downloadingFont}
 use Rattle.store.specs.Download.{downloadingCharacter}
-use Rattle.store.specs.BadRuns.{BadRunIn}
 use Rattle.store.specs.declared.download.BadRun.{BadRun}
-use Rattle.store.proofs.BadRuns.{font-run, bad-run-told, bad-run-refused, bad-run-exactly}
+use Rattle.store.proofs.BadRuns.{Eight, font-run, character-run, bad-run-told, bad-run-refused, bad-run-exactly}
 use Rattle.stream.specs.Reading.{Download, font-block, character-block, making}
 use Rattle.stream.specs.Downloads.{spelledDownloads, firstBad}
 use Rattle.stream.proofs.BadRuns.{carried-bad, first-bad-told}
 use Rattle.marlinfold.specs.Calls.{ofDownload}
 use Rattle.marlinfold.specs.Book.{callOf, callsOf, spelledCalls}
-use Rattle.marlinfold.specs.Demands.{carriedOut, firstBadRun, BadRunTold, BadRunRefused, BadRunExactly, StreamFirstBadRun}
+use Rattle.marlinfold.specs.Demands.{carriedOut, firstBadRun, BadRunTold, ZerosOtherwise, BadRunRefused, BadRunExactly, StreamFirstBadRun}
 
 pub told : BadRunTold
 told n c b s e = go (decode s) refl
   where
-    go : (o : Option Store) → decode s ≡ o → let a : After = downloadingCharacter n c b s in BadRunIn n c b s (a .bad .row) (a .bad .filled) (a .bad .run)
+    go : (o : Option Store) → decode s ≡ o → Eight n c b s (downloadingCharacter n c b s .bad)
     go none q = let z : downloadingCharacter n c b s .answer ≡ 1 = unfold downloadingCharacter onStore in rw q in absurd (omega (arith, z, e))
     go (some st) q = bad-run-told n c b s (store-is s st q) e
 
@@ -38,6 +37,9 @@ exactly n c b s row filled run x l k = ap ofDownload (bad-run-exactly n c b s ro
 
 abbrev pub three : BadRun → List ℕ
 three r = r .row ∷ r .filled ∷ r .run ∷ []
+
+pub zeros-otherwise : ZerosOtherwise
+zeros-otherwise n c b s f = ap three (character-run n c b s .1 f)
 
 -- the calls of a stream as its downloads
 calls-bad : (ds : List Download) (s : List ℕ) → firstBadRun (callsOf ds) s ≡ three (firstBad ds s)

@@ -215,7 +215,7 @@ module _ (n c : ℕ) (b s : List ℕ) where
       go (some st) e =
           character-answers n c b s (store-is s st e) (Is sent)
           (refused sent 2 refl, refused sent 3 refl, refused sent 4 refl, refused sent 5 refl, refused sent 6 refl, refused sent 7 refl, refused sent 9 refl)
-          (λ row filled run x. inr (past-width n c b row filled run x)) (λ st h d x v. inl refl) (λ st h d x v. inr (no-room n c b st _ (x .guest .is) (x .guest .there)))
+          (λ row filled run x r. inr (past-width n c b row filled run x r)) (λ st h d x v. inl refl) (λ st h d x v. inr (no-room n c b st _ (x .guest .is) (x .guest .there)))
 
 -- ── two stores
 chooses-from-two : (p : Bool) (t : List ℕ) (r : Request) (s soft cartridge : List ℕ) (a : Chosen) → Told (choose-from-two p t r) s (ofRecord s (recordAnswer soft cartridge a))

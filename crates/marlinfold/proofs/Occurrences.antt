@@ -35,4 +35,4 @@ listed-occur = (each, numbers)
 
 pub own-cases-occur : OwnCasesOccur
 unfolding computing badRow badStart fontSent characterSent tells ownCases sending firstBlock
-own-cases-occur = (refl, (refl, (refl, (refl, (refl, (refl, (refl, (refl, tt))))))))
+own-cases-occur = (refl, (refl, (refl, (refl, (refl, (refl, (refl, (refl, (refl, (refl, tt))))))))))

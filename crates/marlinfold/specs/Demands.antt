@@ -15,7 +15,7 @@ use Rattle.form.specs.Records.{isStore, FontStands, CountsTrue}
 use Rattle.form.specs.Fonts.{Font, fontsOf}
 use Rattle.store.specs.Answer.{noRun}
 use Rattle.store.specs.Calls.{removeFont}
-use Rattle.store.specs.BadRuns.{BadRunIn, withoutData}
+use Rattle.store.specs.BadRuns.{BadRunIn, ChecksPassed, withoutData}
 use Rattle.choice.specs.Request.{inRange}
 use Rattle.choice.specs.Lists.{In}
 use Rattle.choice.specs.Candidates.{Candidate, asFont, candidates, ofBoth}
@@ -109,7 +109,8 @@ stoppedAt at b s =
     answered 13 (x .counts .done ∷ x .counts .refused ∷ at ∷ firstBadRun (spelledCalls b) s) (x .bytes) []
 
 -- The outcomes of a call on the buffer s that are refusals. Whether and with what number a call refuses is its line of `outcome`, where the exact
--- condition of each refusal stands; that each listed number occurs is the claim `ListedOccur`.
+-- condition of each refusal stands; that each listed number occurs is the claim `ListedOccur`, and that 8, 10 and 13 do is
+-- `OwnCasesOccur`.
 pub data Refusal (s : List ℕ) : Call → Outcome → Type 0 where
   as-listed : (c : Call) (k : ℕ) → isIn k (listed c) ≡ true → Refusal s c (unchanged c k s)
   -- 10, "character block: its font and all its characters removed"
@@ -118,7 +119,7 @@ pub data Refusal (s : List ℕ) : Call → Outcome → Type 0 where
       → Refusal s (download-character n c b) (answered 10 (0 ∷ 0 ∷ 0 ∷ []) (encode (removeFont n st)) [])
   -- 8, W-209: "This amends '0 for every other number' in document 01 for refusal 8 and a stream's 13 alone."
   past-width :
-      (n c : ℕ) (b : List ℕ) (row filled run : ℕ) → BadRunIn n c b s row filled run
+      (n c : ℕ) (b : List ℕ) (row filled run : ℕ) (x : BadRunIn n c b s row filled run) → ChecksPassed n c b (x .store)
       → Refusal s (download-character n c b) (answered 8 (row ∷ filled ∷ run ∷ []) s [])
   -- 13, "commands before it stay done"; it "gives its place and the counts so far"
   broken : (b : List ℕ) (at : ℕ) → isStore s ≡ true → carriedOut b s .ending ≡ BrokenAt at → Refusal s (read-stream b) (stoppedAt at b s)
@@ -285,12 +286,20 @@ SheetBySingles =
 
 -- ── W-209: "say which row was bad"
 -- "The row reader is to answer with the picture row being read, counted from 0 with repeats, the dots already filled and the run that didn't fit; the
--- character download and stream reading carry these three numbers to their own answers": the numbers beside an 8 are those of the row rules
+-- character download and stream reading carry these three numbers to their own answers": the numbers beside an 8 are those of the row rules, and no
+-- earlier check refuses the block
 abbrev pub BadRunTold : Type 0
 BadRunTold =
     (n c : ℕ) (b s : List ℕ)
     → let o : Outcome = outcome (download-character n c b) s in
-    o .refusal ≡ 8 → BadRunIn n c b s (getD (o .numbers) 0 0) (getD (o .numbers) 1 0) (getD (o .numbers) 2 0)
+    o .refusal ≡ 8 → (x : BadRunIn n c b s (getD (o .numbers) 0 0) (getD (o .numbers) 1 0) (getD (o .numbers) 2 0)) × ChecksPassed n c b (x .store)
+
+-- "and 0 for all three otherwise", also where the block is taken
+abbrev pub ZerosOtherwise : Type 0
+ZerosOtherwise =
+    (n c : ℕ) (b s : List ℕ)
+    → let o : Outcome = outcome (download-character n c b) s in
+    (o .refusal ≡ 8 → ⊥) → o .numbers ≡ 0 ∷ 0 ∷ 0 ∷ []
 
 -- data with such a run is never taken, nor does it cost the font
 abbrev pub BadRunRefused : Type 0

@@ -1,4 +1,5 @@
--- Demand 1: each number that is listed for a call occurs, so that none is listed in vain. One table, computed.
+-- Demand 1: each number that is listed for a call occurs, so that none is listed in vain; one table, computed. 8, 10 and 13 have a second one, with all
+-- their numbers.
 use Prim.Native.Nat.{ℕ, zero, suc, _+_, _-_, _/_, _%_}
 use mathlib.Core.Path.{_≡_}
 use mathlib.Core.List.{List, [], _∷_, _++_}
@@ -153,7 +154,8 @@ abbrev pub ListedOccur : Type 0
 ListedOccur = AllOccur occurrences × ((c : Call) → numbersOf (kind c) occurrences ≡ listed c)
 
 -- ── 8, 10 and 13, which demand 1 has cases of their own for, with all their numbers; W-209's three through streams too
--- two characters of A 10 dots wide with a run past the width: in row 2, after a row that is drawn twice; and in row 0, at its first run
+-- two characters of A 10 dots wide with a run past the width: in row 2, after a row that is drawn twice; and in row 0, at the first run
+-- of a row with 3 repeats
 unfoldable pub badRow : List ℕ
 badRow = firstBlock 10 4 (1 ∷ 10 ∷ 0 ∷ 4 ∷ 7 ∷ [])
 
@@ -184,9 +186,11 @@ ownCases =
     -- in a continuation rows count from the picture's top
     ∷ tells (oneCharacter + 1) (A ∷ sending 10 4 (1 ∷ 10 ∷ 0 ∷ []) ∷ []) (download-character 5 65 (4 ∷ 1 ∷ 4 ∷ 7 ∷ [])) (8 ∷ 2 ∷ 4 ∷ 7 ∷ [])
     ∷ tells oneFont (A ∷ []) (sending 10 1 (0 ∷ 10 ∷ [])) (10 ∷ 0 ∷ 0 ∷ 0 ∷ [])
+    ∷ tells oneCharacter (A ∷ []) (sending 10 1 (0 ∷ 10 ∷ [])) (0 ∷ 0 ∷ 0 ∷ 0 ∷ [])
     -- commands done, commands refused, the place of a 13; then the numbers of the first 8, whatever comes after it
     ∷ tells oneFont [] (read-stream fontSent) (0 ∷ 2 ∷ 0 ∷ 0 ∷ 0 ∷ 0 ∷ 0 ∷ [])
     ∷ tells oneFont [] (read-stream (fontSent ++ (characterSent badRow ++ (characterSent badStart ++ setCode 66)))) (0 ∷ 5 ∷ 2 ∷ 0 ∷ 2 ∷ 4 ∷ 7 ∷ [])
+    ∷ tells oneCharacter [] (read-stream (fontSent ++ (characterSent badRow ++ characterSent (firstBlock 10 1 (0 ∷ 10 ∷ []))))) (0 ∷ 5 ∷ 1 ∷ 0 ∷ 2 ∷ 4 ∷ 7 ∷ [])
     ∷ tells oneFont [] (read-stream (fontSent ++ (characterSent badRow ++ (27 ∷ 69 ∷ [])))) (13 ∷ 3 ∷ 1 ∷ 108 ∷ 2 ∷ 4 ∷ 7 ∷ [])
     ∷ tells oneFont [] (read-stream (27 ∷ [])) (13 ∷ 0 ∷ 0 ∷ 0 ∷ 0 ∷ 0 ∷ 0 ∷ [])
     ∷ []

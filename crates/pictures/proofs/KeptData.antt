@@ -9,10 +9,10 @@ use borrow.Author.Tests.{le-leb, lt-leb, leb-true, leb-false, eq-eqb, ne-eqb, eq
 use lib.Dec.{leb, eqb}
 use lib.ListN.{length, take, drop, length-append, take-append-drop}
 use lib.Seq.{length-take-le}
-use Rattle.pictures.specs.Size.{bitmapClass, pictureSize, dataLimit}
+use Rattle.pictures.specs.Size.{bitmapClass, runsClass, pictureSize, dataLimit}
 use Rattle.pictures.specs.Runs.{scanFrom, start}
 use Rattle.pictures.specs.Rows.{bitmapRow, runsRow, rowsFrom, count, rowDots, picture}
-use Rattle.pictures.specs.Picture.{judge, judgeBitmap, judgeScan, PastRun, keptData, held, heldBy}
+use Rattle.pictures.specs.Picture.{judge, judgeBitmap, judgeScan, PastRun, PastByRows, keptData, held, heldBy}
 use Rattle.pictures.specs.declared.runs.Reader.{Reader}
 use Rattle.pictures.specs.declared.runs.Scanned.{Scanned}
 use Rattle.pictures.specs.declared.runs.Scanned.the-variants.{Complete as ScanComplete, Open, PastWidth as ScanPast}
@@ -222,3 +222,6 @@ module _ (k w h : ℕ) where
   pub complete-prefix : (xs ys : List ℕ) → judge k w h (xs ++ ys) ≡ Complete (length (xs ++ ys)) → 0 < length ys → judge k w h xs ≡ Incomplete
   unfolding judge
   complete-prefix xs ys e l = ended-as w h (eqb k 1) xs ys e l
+
+pub past-by-rows : PastByRows
+past-by-rows w h d row filled run wide tall = (judged-past runsClass w h d row filled run wide tall, λ x. past-judged runsClass w h d row filled run (λ e. omega (arith, e)) (x .0) (x .1))

@@ -30,7 +30,7 @@ dots-more (b ∷ runs) a = omega (arith, dots-more runs a)
 
 -- a run that passes the width has a dot
 pub past-dots : (w top row f b : ℕ) (d : List ℕ) → PastRun w top d row f b → 0 < b
-past-dots w top row f b d (whole-row _ repeats last runs later _ _ _ g z x) = past-dots w (top + 1 + repeats) row f b later x
+past-dots w top row f b d (whole-row _ repeats last runs later _ _ _ g z x) = past-dots w _ row f b later x
 past-dots w top row f b d (bad-row _ repeats _ runs later g o) = omega (arith, g, o)
 
 module _ (w h : ℕ) where
@@ -121,7 +121,7 @@ module _ (w h : ℕ) where
   run-passes n row r f a false ys l = rw (fill-over w f a l)
 
   not-above : (top row f b : ℕ) (d : List ℕ) → PastRun w top d row f b → top ≤ row
-  not-above top row f b d (whole-row _ repeats last runs later _ _ _ g z x) = omega (arith, not-above (top + 1 + repeats) row f b later x)
+  not-above top row f b d (whole-row _ repeats last runs later _ _ _ g z x) = omega (arith, not-above _ row f b later x)
   not-above top row f b d (bad-row _ repeats _ runs later g o) = omega arith
 
   past-found : (top row f b : ℕ) (d : List ℕ) → PastRun w top d row f b → row < h → (n : ℕ) → scanFrom w h n (before top) d ≡ PastWidth row f b

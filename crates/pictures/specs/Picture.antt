@@ -1,11 +1,12 @@
 -- Document 01, picture data of either class: when it is complete, and what is kept of it.
 use Prim.Native.Nat.{ℕ, _+_, _<_}
 use mathlib.Core.Path.{_≡_}
+use mathlib.Core.Logic.{_↔_}
 use mathlib.Core.List.{List, [], _∷_, _++_}
 use mathlib.Core.Bool.{cond}
 use lib.Dec.{leb, eqb}
 use lib.ListN.{length, take}
-use Rattle.pictures.specs.Size.{bitmapClass, pictureSize, dataLimit}
+use Rattle.pictures.specs.Size.{bitmapClass, runsClass, pictureSize, dataLimit}
 use Rattle.pictures.specs.Runs.{scanFrom, start}
 use Rattle.pictures.specs.declared.runs.Scanned.{Scanned}
 use Rattle.pictures.specs.declared.runs.Scanned.the-variants.{Complete as ScanComplete, Open, PastWidth as ScanPast}
@@ -35,8 +36,8 @@ runDots (b ∷ runs) = b + runDots runs
 
 -- W-209: "the picture row being read, counted from 0 with repeats, the dots already filled and the run that didn't fit", by the bytes of class 2 data
 -- from picture row `top` on, for a picture w dots wide. First come whole rows: runs that sum to the width with the last of them, each row drawn once
--- and `repeats` times again. Then comes the row being read: runs that sum to less than the width, and one that passes it. The laws `judged-past` and
--- `past-judged` say that 8 is just this in a row below the height.
+-- and `repeats` times again. Then comes the row being read: runs that sum to less than the width, and one that passes it. The claim `PastByRows`
+-- says that the row reader answers just this, in a row below the height.
 pub data PastRun (w : ℕ) : ℕ → List ℕ → ℕ → ℕ → ℕ → Type 0 where
   whole-row :
       (top repeats last : ℕ) (runs later : List ℕ) (row filled run : ℕ) → runDots runs < w → runDots runs + last ≡ w
@@ -44,6 +45,12 @@ pub data PastRun (w : ℕ) : ℕ → List ℕ → ℕ → ℕ → ℕ → Type 0
   bad-row :
       (row repeats run : ℕ) (runs later : List ℕ) → runDots runs < w → w < runDots runs + run
       → PastRun w row (repeats ∷ (runs ++ (run ∷ later))) row (runDots runs) run
+
+-- for every picture and all class 2 data for it
+abbrev pub PastByRows : Type 0
+PastByRows =
+    (w h : ℕ) (d : List ℕ) (row filled run : ℕ) → 0 < w → 0 < h
+    → (judge runsClass w h d ≡ PastWidth row filled run) ↔ (PastRun w 0 d row filled run × (row < h))
 
 -- document 01's number for data: "8 if class 2 data has a run past the width before all rows are drawn"
 abbrev pub judgedNumber : Judged → ℕ

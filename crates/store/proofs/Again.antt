@@ -31,7 +31,7 @@ use Rattle.form.specs.Checks.{onStore, checked, taking, finding, numbered, onFo
 use Rattle.store.specs.Answer.{After, noRun, refuse, done}
 use Rattle.store.specs.Calls.{fresh, makingFresh, used, withFont, putFont, removingFont, removeCharacter, removingCharacter, removeFont, downloadingFont, withCharacter, keptOf, dataOf}
 use Rattle.store.specs.Download.{names, refuseRun, withinWidth, withoutFont, byKind, judgedOf, keptOfData, markFor, putCharacter, downloadingCharacter}
-use Rattle.store.specs.BadRuns.{Sent, by-first, by-more, BadRunIn}
+use Rattle.store.specs.BadRuns.{Sent, by-first, by-more, BadRunIn, ChecksPassed}
 use Rattle.store.specs.Putting.{puttingFont, placing, receiving, receivingFirst, receivingMore, receivingBlock, puttingBlock}
 use Rattle.form.proofs.Numbers.{both-l, both-r}
 use Rattle.form.proofs.Codec.{Valid, decode-encode}
@@ -41,6 +41,7 @@ use Rattle.form.proofs.Lookup.{found, font-at, char-at, kept-under}
 use Rattle.store.proofs.Replaced.{no-font, new-font, new-char}
 use Rattle.store.proofs.Changed.{total-replaced, valid-font, valid-char, valid-cut}
 use Rattle.store.proofs.Downloads.{new-allowed, mark-new}
+use Rattle.store.proofs.FirstBlocks.{block-short}
 use Rattle.store.proofs.Receives.{in-range}
 use Rattle.store.proofs.Leaves.{fonts-font, fonts-char}
 use Rattle.form.proofs.Locates.{is-store, store-is}
@@ -178,19 +179,19 @@ names-mark n c m e =
 
 -- whatever holds of its refusals, of the numbers of a run past the width, of a character that stands, and of a font that goes for lack of room
 module _ (n c : ℕ) (b s : List ℕ) (is : isStore s ≡ true) (P : After → Type 0) (no : AtEach (λ m. P (refuse s m)))
-    (past : (row filled run : ℕ) → BadRunIn n c b s row filled run → P (refuseRun s row filled run))
+    (past : (row filled run : ℕ) (x : BadRunIn n c b s row filled run) → ChecksPassed n c b (x .store) → P (refuseRun s row filled run))
     (put : (st : Store) (h d : List ℕ) → Brought n c b s h d st → Valid (putCharacter n c h (keptOfData h d) st) → P (done (putCharacter n c h (keptOfData h d) st)))
     (gone : (st : Store) (h d : List ℕ) → Brought n c b s h d st → Valid (removeFont n st) → P (record { answer = 10; bad = noRun; bytes = encode (removeFont n st) })) where
-  module _ (st : Store) (e : decode s ≡ some st) (v : Valid st) (low : n ≤ lastFont) (code : c ≤ lastCode) (g : List ℕ) (there : find (keyOf n 0) (st .recs) ≡ some (font n g)) where
+  module _ (st : Store) (e : decode s ≡ some st) (v : Valid st) (low : n ≤ lastFont) (code : c ≤ lastCode) (long : characterLength b ≡ true) (g : List ℕ) (there : find (keyOf n 0) (st .recs) ≡ some (font n g)) where
     placed-by : (h d : List ℕ) → Sent n c b st h d → ((row filled run : ℕ) → judgedOf h d ≡ PastWidth row filled run → ⊥) → isKept (heldUnder (orientation g) h (keptOfData h d)) ≡ true
         → P (placing n c h (keptOfData h d) st)
     placed-by h d y i ok =
         let x : Brought n c b s h d st = record { guest = record { is = e; valid = v; low = low; code = code; header = g; there = there; ok = ok }; sent = y; fits = i } in
         placed-answers n c s h (keptOfData h d) st (x .guest) P (put st h d x) (gone st h d x)
 
-    received-by : (h d : List ℕ) → Sent n c b st h d → isKeptFirst h (orientation g) ≡ true → P (receiving n c h d s st)
+    received-by : (h d : List ℕ) → Sent n c b st h d → (kindOf b ≡ First → readFirst b (orientation g) ≡ Taken) → isKeptFirst h (orientation g) ≡ true → P (receiving n c h d s st)
     unfolding receiving heldUnder
-    received-by h d y f = go (judge (class h) (width h) (height h) d) refl
+    received-by h d y r f = go (judge (class h) (width h) (height h) d) refl
       where
         kept : List ℕ
         kept = keptData (class h) (width h) (height h) d
@@ -198,7 +199,7 @@ module _ (n c : ℕ) (b s : List ℕ) (is : isStore s ≡ true) (P : After → T
         go : (j : Judged) → judge (class h) (width h) (height h) d ≡ j → P (withinWidth s j (checked (refuse s) (leb (length kept) dataLimit) 9 (placing n c h kept st)))
         go (Complete m) q = by-check s P (leb (length kept) dataLimit) 9 _ (no .6) (λ l. placed-by h d y (λ row a r z. let v : _≡_ {A = ℕ} 0 1 = cc in absurd (omega arith)) (rw (f, held-whole (class h) (width h) (height h) d m q (leb-true _ _ l))))
         go Incomplete q = by-check s P (leb (length kept) dataLimit) 9 _ (no .6) (λ l. placed-by h d y (λ row a r z. let v : _≡_ {A = ℕ} 0 1 = cc in absurd (omega arith)) (rw (f, held-unfinished (class h) (width h) (height h) d q (leb-true _ _ l))))
-        go (PastWidth row filled run) q = past row filled run (bad-run (judged-past (class h) (width h) (height h) d row filled run (sides .0) (sides .1) q))
+        go (PastWidth row filled run) q = past row filled run (bad-run (judged-past (class h) (width h) (height h) d row filled run (sides .0) (sides .1) q)) passed
           where
             sides : (0 < width h) × (0 < height h)
             sides = kept-sides h (orientation g) f
@@ -206,19 +207,22 @@ module _ (n c : ℕ) (b s : List ℕ) (is : isStore s ≡ true) (P : After → T
             runs : class h ≡ runsClass
             runs = let k = kept-class h (orientation g) f in omega (arith, k .0, k .1, past-class (class h) (width h) (height h) d row filled run q)
 
+            passed : ChecksPassed n c b st
+            passed = let l = block-short b long in record { low = low; code = code; long = l .0; short = l .1; font = font n g; there = there; first = r }
+
             bad-run : PastRun (width h) 0 d row filled run × (row < height h) → BadRunIn n c b s row filled run
             bad-run x = record { store = st; is = e; descriptor = h; sent = d; stands = y; by-runs = runs; past = x .0; below = x .1 }
 
     first-by : kindOf b ≡ First → P (receivingFirst n c g b s st)
     unfolding receivingFirst readFirst
-    first-by f = by-verdict s P (firstChecks b (orientation g)) _ (no .1, (no .2, (no .3, (no .6, tt)))) (λ e. received-by (keptFirst b) (drop descriptorBytes b) (by-first f) (kept-first b (orientation g) f e))
+    first-by f = by-verdict s P (firstChecks b (orientation g)) _ (no .1, (no .2, (no .3, (no .6, tt)))) (λ e. received-by (keptFirst b) (drop descriptorBytes b) (by-first f) (λ z. e) (kept-first b (orientation g) f e))
 
     more-by : kindOf b ≡ Continuation → P (receivingMore n c b s st)
     unfolding receivingMore
     more-by k = by-check s P (names n c (st .mark)) 7 _ (no .5) (λ t. by-find s P (find (keyOf n (c + 1)) (st .recs)) 7 _ (no .5) (λ r q.
         let f = found (keyOf n (c + 1)) 0 alone r (st .recs) (v .order) q in
         let y = char-at n c _ r code (f .ok) (f .is) in
-        subst (λ (x : Rec). P (receiving n c (keptOf x) (dataOf x ++ drop continuationBytes b) s st)) (sym (y .2)) (received-by (y .0) (y .1 ++ drop continuationBytes b) (by-more (character n c (y .0) (y .1)) k (names-mark n c (st .mark) t) (q ∙ ap some (y .2))) (kept-under n c g (y .0) (y .1) (st .recs) (v .order) code there (q ∙ ap some (y .2))))))
+        subst (λ (x : Rec). P (receiving n c (keptOf x) (dataOf x ++ drop continuationBytes b) s st)) (sym (y .2)) (received-by (y .0) (y .1 ++ drop continuationBytes b) (by-more (character n c (y .0) (y .1)) k (names-mark n c (st .mark) t) (q ∙ ap some (y .2))) (λ z. let o : _≡_ {A = ℕ} 0 1 = cc in absurd (omega arith)) (kept-under n c g (y .0) (y .1) (st .recs) (v .order) code there (q ∙ ap some (y .2))))))
 
   pub character-answers : P (downloadingCharacter n c b s)
   unfolding downloadingCharacter receivingBlock receivingFirst receivingMore receiving placing onStore
@@ -229,21 +233,21 @@ module _ (n c : ℕ) (b s : List ℕ) (is : isStore s ≡ true) (P : After → T
       rw (w .1)
       (by-check s P (numbered n c) 2 _ (no .0) (λ l. let i = in-range n c l in
       by-check s P (characterLength b) 3 _ (no .1) (λ e.
-      by-find s P (find (keyOf n 0) (st .recs)) 6 _ (no .4) (λ r q. block st (w .1) v r (i .0) (i .1) q))))
+      by-find s P (find (keyOf n 0) (st .recs)) 6 _ (no .4) (λ r q. block st (w .1) v r (i .0) (i .1) e q))))
     where
-      block : (st : Store) → decode s ≡ some st → Valid st → (r : Rec) → n ≤ lastFont → c ≤ lastCode → find (keyOf n 0) (st .recs) ≡ some r → P (receivingBlock n c (keptOf r) b s st)
-      block st d v r low code q =
+      block : (st : Store) → decode s ≡ some st → Valid st → (r : Rec) → n ≤ lastFont → c ≤ lastCode → characterLength b ≡ true → find (keyOf n 0) (st .recs) ≡ some r → P (receivingBlock n c (keptOf r) b s st)
+      block st d v r low code l q =
           let f = found (keyOf n 0) 0 alone r (st .recs) (v .order) q in
           let y = font-at n _ r (f .ok) (f .is) in
           let t : find (keyOf n 0) (st .recs) ≡ some (font n (y .0)) = q ∙ ap some (y .1) in
           subst (λ (x : Rec). P (receivingBlock n c (keptOf x) b s st)) (sym (y .1))
-          (by-kind s P (kindOf b) _ _ (λ h d. receiving n c h d s st) (no .2) (λ e. first-by st d v low code (y .0) t e) (λ e. more-by st d v low code (y .0) t e))
+          (by-kind s P (kindOf b) _ _ (λ h d. receiving n c h d s st) (no .2) (λ e. first-by st d v low code l (y .0) t e) (λ e. more-by st d v low code l (y .0) t e))
 
 pub character-leaves : (n c : ℕ) (b s : List ℕ) → isStore s ≡ true → Left 10 n [] s (downloadingCharacter n c b s)
 unfolding fontsIn
 character-leaves n c b s is =
     character-answers n c b s is (Left 10 n [] s) (refusal 10 n [] s is 2 refl, refusal 10 n [] s is 3 refl, refusal 10 n [] s is 4 refl, refusal 10 n [] s is 5 refl, refusal 10 n [] s is 6 refl, refusal 10 n [] s is 7 refl, refusal 10 n [] s is 9 refl)
-    (λ row f x y. refusal 10 n [] s is 8 refl)
+    (λ row f x y z. refusal 10 n [] s is 8 refl)
     (λ st h d x a.
     let k = keptOfData h d in
     let g = x .guest in

@@ -27,7 +27,8 @@ use Rattle.form.proofs.Ready.{same-store}
 use Rattle.store.specs.Answer.{After, noRun}
 use Rattle.store.specs.Calls.{removeFont, keptOf, dataOf, downloadingFont}
 use Rattle.store.specs.Download.{putCharacter, refuseRun, judgedOf, keptOfData, downloadingCharacter}
-use Rattle.store.specs.BadRuns.{Sent, by-first, by-more, BadRunIn, withoutData}
+use Rattle.store.specs.BadRuns.{Sent, by-first, by-more, BadRunIn, ChecksPassed, withoutData}
+use Rattle.store.specs.declared.download.BadRun.{BadRun}
 use Rattle.store.proofs.Again.{Brought, font-answers, character-answers}
 
 -- a font block is not refused with 8 and tells no run
@@ -56,18 +57,21 @@ character-run n c b s = go (decode s) refl
     go (some st) e =
         character-answers n c b s (store-is s st e) TellsRun
         (plain 2 s refl, plain 3 s refl, plain 4 s refl, plain 5 s refl, plain 6 s refl, plain 7 s refl, plain 9 s refl)
-        (λ row filled run x. ((λ e. past-dots (width (x .descriptor)) 0 row filled run (x .sent) (x .past)), λ f. absurd (f refl)))
+        (λ row filled run x r. ((λ e. past-dots (width (x .descriptor)) 0 row filled run (x .sent) (x .past)), λ f. absurd (f refl)))
         (λ st h d y v. plain 0 (encode (putCharacter n c h (keptOfData h d) st)) refl) (λ st h d y v. plain 10 (encode (removeFont n st)) refl)
 
 -- the numbers of an 8 are those of the row rules
+abbrev pub Eight : ℕ → ℕ → List ℕ → List ℕ → BadRun → Type 0
+Eight n c b s r = (x : BadRunIn n c b s (r .row) (r .filled) (r .run)) × ChecksPassed n c b (x .store)
+
 pub bad-run-told : (n c : ℕ) (b s : List ℕ) → isStore s ≡ true
     → let a : After = downloadingCharacter n c b s in
-    a .answer ≡ 8 → BadRunIn n c b s (a .bad .row) (a .bad .filled) (a .bad .run)
+    a .answer ≡ 8 → Eight n c b s (a .bad)
 bad-run-told n c b s is =
-    let other : (k : ℕ) → eqb k 8 ≡ false → k ≡ 8 → BadRunIn n c b s 0 0 0 = λ k f e. absurd (eqb-false k 8 f e) in
-    character-answers n c b s is (λ (a : After). a .answer ≡ 8 → BadRunIn n c b s (a .bad .row) (a .bad .filled) (a .bad .run))
+    let other : (k : ℕ) → eqb k 8 ≡ false → k ≡ 8 → Eight n c b s noRun = λ k f e. absurd (eqb-false k 8 f e) in
+    character-answers n c b s is (λ (a : After). a .answer ≡ 8 → Eight n c b s (a .bad))
     (other 2 refl, other 3 refl, other 4 refl, other 5 refl, other 6 refl, other 7 refl, other 9 refl)
-    (λ row filled run x e. x) (λ st h d y v. other 0 refl) (λ st h d y v. other 10 refl)
+    (λ row filled run x r e. (x, r)) (λ st h d y v. other 0 refl) (λ st h d y v. other 10 refl)
 
 -- a block stands for one descriptor and one data
 sent-one : (n c : ℕ) (b : List ℕ) (st : Store) (h d h′ d′ : List ℕ) → Sent n c b st h d → Sent n c b st h′ d′ → (h ≡ h′) × (d ≡ d′)
@@ -94,7 +98,7 @@ pub bad-run-refused : (n c : ℕ) (b s : List ℕ) (row filled run : ℕ) → Ba
 bad-run-refused n c b s row filled run x =
     let other : (k : ℕ) → eqb k 0 ≡ false → eqb k 10 ≡ false → (k ≡ 0 → ⊥) × (k ≡ 10 → ⊥) = λ k f g. (eqb-false k 0 f, eqb-false k 10 g) in
     character-answers n c b s (store-is s (x .store) (x .is)) (λ (a : After). (a .answer ≡ 0 → ⊥) × (a .answer ≡ 10 → ⊥))
-    (other 2 refl refl, other 3 refl refl, other 4 refl refl, other 5 refl refl, other 6 refl refl, other 7 refl refl, other 9 refl refl) (λ row′ filled′ run′ z. other 8 refl refl)
+    (other 2 refl refl, other 3 refl refl, other 4 refl refl, other 5 refl refl, other 6 refl refl, other 7 refl refl, other 9 refl refl) (λ row′ filled′ run′ y z. other 8 refl refl)
     (λ st h d y v. absurd (brought-fits n c b s h d st row filled run x y)) (λ st h d y v. absurd (brought-fits n c b s h d st row filled run x y))
 
 -- ── and it is answered 8, where the block without its data is taken or answered 10
@@ -105,7 +109,7 @@ accepted-brings : (n c : ℕ) (b s : List ℕ) → isStore s ≡ true → (R : T
 accepted-brings n c b s is R f =
     let other : (k : ℕ) → eqb k 0 ≡ false → eqb k 10 ≡ false → (k ≡ 0) ⊎ (k ≡ 10) → R = λ k p q. either (eqb-false k 0 p) (eqb-false k 10 q) in
     character-answers n c b s is (λ (a : After). (a .answer ≡ 0) ⊎ (a .answer ≡ 10) → R)
-    (other 2 refl refl, other 3 refl refl, other 4 refl refl, other 5 refl refl, other 6 refl refl, other 7 refl refl, other 9 refl refl) (λ row filled run z. other 8 refl refl)
+    (other 2 refl refl, other 3 refl refl, other 4 refl refl, other 5 refl refl, other 6 refl refl, other 7 refl refl, other 9 refl refl) (λ row filled run y z. other 8 refl refl)
     (λ st h d y v z. f st h d y) (λ st h d y v z. f st h d y)
   where
     either : {A B : Type 0} → (A → ⊥) → (B → ⊥) → A ⊎ B → R

@@ -286,7 +286,7 @@ module _ (n c : ℕ) (b s : List ℕ) (w : Places) (x : Stands n (c + 1) s w) (l
   pub character-came : Came n c (downloadingCharacter n c b s .answer) (downloadingCharacter n c b s .bytes) w
   character-came = character-answers n c b s (store-is s (x .store) (x .is)) (λ (a : After). Came n c (a .answer) (a .bytes) w)
       (char-kept 2 refl refl, char-kept 3 refl refl, char-kept 4 refl refl, char-kept 5 refl refl, char-kept 6 refl refl, char-kept 7 refl refl, char-kept 9 refl refl)
-      (λ row f b y. char-kept 8 refl refl) (λ st h d y. char-put st h _ (y .guest)) (λ st h d y. char-gone st (y .guest .is) (y .guest .valid))
+      (λ row f b y z. char-kept 8 refl refl) (λ st h d y. char-put st h _ (y .guest)) (λ st h d y. char-gone st (y .guest .is) (y .guest .valid))
 
   -- behind the code's call
   pub character-behind : (t : List ℕ) (k : ℕ) → t ≡ downloadingCharacter n c b s .bytes → k ≡ downloadingCharacter n c b s .answer → Came n c k t w

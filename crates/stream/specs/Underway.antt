@@ -27,7 +27,7 @@ pub record Underway (n : ℕ) (s : List ℕ) (x : State) : Type 0 where
   pub counts : x .counts .done + x .counts .refused ≤ x .at
   pub points : Points s (x .cursor)
 
--- the state behind a command that was answered k, with the first bad run so far
+-- the state after a command that was answered k, with the first bad run so far
 abbrev pub stateBehind : State → ℕ → Target → ℕ → BadRun → Cursor → State
 stateBehind x next t k run c = record { at = next; target = t; counts = countAnswer k (x .counts); bad = run; cursor = c }
 

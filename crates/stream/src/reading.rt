@@ -36,7 +36,7 @@ pub enum Ending {
     BrokenAt(usize),
 }
 
-// The refusal, the commands done and refused, and the place of a 13.
+// The refusal, the commands done and refused, the place of a 13, and the run of the first refusal 8.
 #[repr(C)]
 pub struct StreamRead {
     pub refusal: u32,
@@ -86,7 +86,7 @@ fn count(x: CommandCounts, answer: u32) -> CommandCounts
     }
 }
 
-// The bad run of the first refusal 8, where there was one.
+// The run told so far or, if there is none, that of the new answer.
 fn first_run(x: BadRun, new: BadRun) -> BadRun
     ensures { λ r. ⌜ r ≡ firstRun x new ⌝ }
 {
@@ -260,7 +260,7 @@ fn end_answer(ending: Ending, x: CommandCounts, bad: BadRun) -> StreamRead
     }
 }
 
-// Reads a stream: answers how many commands were done and refused, or 13 with its place and the counts so far.
+// Reads a stream: answers how many commands were done and refused, or 13 with its place and the counts so far; either way the run of its first refusal 8.
 pub fn read_stream(s: &mut [u8], stream: &[u8]) -> StreamRead
     ensures { λ r. ⌜ r ≡ reading (now (stream .entry)) (now (s .entry)) .answer ⌝ }
     ensures { λ _. ⌜ now (s .exit) ≡ reading (now (stream .entry)) (now (s .entry)) .bytes ⌝ }
