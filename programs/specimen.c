@@ -128,19 +128,6 @@ static page draw_sheet(uint32_t number, const mf_font_fields *font, const field 
     return sheet;
 }
 
-static int tell_missing(uint32_t font)
-{
-    uint32_t code;
-    int status = COMPLETE;
-
-    for (code = 0; code <= MF_CODE_MAX; code++)
-        if (is_incomplete(font, code)) {
-            tell("code %u: incomplete, rows are missing", (unsigned)code);
-            status = INCOMPLETE;
-        }
-    return status;
-}
-
 /* Draws a font's sheet and writes it to a file, or to standard output, which stays open; the exit
  * status. */
 static int write_sheet(const char *name, uint32_t number, enum page_form form)
@@ -148,7 +135,7 @@ static int write_sheet(const char *name, uint32_t number, enum page_form form)
     field around = measure(number);
     uint32_t characters;
     mf_font_fields font = tell_font(number, &characters);
-    int status = tell_missing(number);
+    int status = tell_missing_rows(number);
     page sheet;
     FILE *to;
 

@@ -123,6 +123,19 @@ int is_incomplete(uint32_t font, uint32_t code)
     return kept.incomplete[code];
 }
 
+int tell_missing_rows(uint32_t font)
+{
+    uint32_t code;
+    int status = COMPLETE;
+
+    for (code = 0; code <= MF_CODE_MAX; code++)
+        if (is_incomplete(font, code)) {
+            tell("code %u: incomplete, rows are missing", (unsigned)code);
+            status = INCOMPLETE;
+        }
+    return status;
+}
+
 void name_symbol_set(char *to, size_t room, uint32_t set)
 {
     if (set % 32 >= 1 && set % 32 <= 26)

@@ -23,6 +23,9 @@ const uint8_t *picture_of(uint32_t font, uint32_t code);
 /* Whether rows are missing in it. */
 int is_incomplete(uint32_t font, uint32_t code);
 
+/* Tells each character of a font in which rows are missing; the exit status. */
+int tell_missing_rows(uint32_t font);
+
 /* What a kept font is, without an end of line. */
 void print_font(FILE *to, uint32_t number);
 

@@ -26,14 +26,23 @@ static const struct {
             {9, 'E', "CP1250"},      {9, 'R', "CP1251"},      {9, 'G', "CP1253"},
             {5, 'T', "CP1254"},      {19, 'L', "CP1257"}};
 
-static const char *encoding_of(uint32_t symbol_set)
+const char *encoding_name(uint32_t symbol_set)
 {
-    char name[16];
     size_t at;
 
     for (at = 0; at < sizeof sets / sizeof *sets; at++)
         if (MF_SYMBOL_SET(sets[at].number, sets[at].letter) == symbol_set)
             return sets[at].name;
+    return NULL;
+}
+
+static const char *encoding_of(uint32_t symbol_set)
+{
+    const char *known = encoding_name(symbol_set);
+    char name[16];
+
+    if (known)
+        return known;
     name_symbol_set(name, sizeof name, symbol_set);
     stop("symbol set %s has no name that is known here: --bytes takes the text's bytes as codes",
          name);

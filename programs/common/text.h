@@ -19,6 +19,9 @@ typedef struct {
     size_t count;
 } text;
 
+/* The name that iconv(3) has for a symbol set, as ISO-8859-1 for 0N; NULL if none is known here. */
+const char *encoding_name(uint32_t symbol_set);
+
 /* Each byte is a code. */
 text text_of_bytes(const char *words);
 
