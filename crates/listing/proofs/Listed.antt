@@ -22,11 +22,12 @@ use Rattle.form.specs.declared.kept_fonts.NextFont.the-variants.{Font as found,
 use Rattle.form.proofs.RecordBytes.{head-inv}
 use Rattle.form.proofs.RecordRuns.{Standing, at-end, at-record, stands-at, headed-size}
 use Rattle.form.proofs.KeptFonts.{fonts-begun}
-use Rattle.listing.specs.Wrote.{Wrote}
-use Rattle.listing.specs.Column.{column, signedColumn}
+use Rattle.text.specs.Wrote.{Wrote}
+use Rattle.text.specs.Column.{column}
+use Rattle.listing.specs.Column.{signedColumn}
 use Rattle.blocks.specs.Field.{byte}
 use Rattle.listing.specs.Line.{wordFrom, measures, looks, line, fontLine, lines}
-use Rattle.listing.proofs.Writes.{wrote-none, wrote-then}
+use Rattle.text.proofs.Writes.{wrote-none, wrote-then}
 
 -- ── a signed number
 pub signed-plain : (b x : ℕ) → b < 128 → signedColumn b x ≡ column b x

@@ -12,12 +12,12 @@ use Rattle.change.specs.Change.{withBytes}
 use Rattle.stream.specs.Reading.{reading}
 use Rattle.stream.specs.declared.reading.StreamRead.{StreamRead}
 use Rattle.stream.proofs.Decimals.{tens, decimal-short}
-use Rattle.listing.specs.Wrote.{Wrote}
-use Rattle.listing.specs.Column.{column}
+use Rattle.text.specs.Wrote.{Wrote}
+use Rattle.text.specs.Column.{column}
 use Rattle.listing.specs.Line.{lines}
 use Rattle.listing.specs.Summary.{doneWord, refusedWord, stoppedWord, counts, stopped, summary}
 use Rattle.listing.specs.Listing.{heading, tooLong, mostInput, storeBytes, freshStore, listingText, listing, textRoom}
-use Rattle.listing.proofs.Writes.{wrote-put, wrote-length, wrote-then}
+use Rattle.text.proofs.Writes.{wrote-put, wrote-length, wrote-then}
 
 -- a writer of the stream's says this
 abbrev pub Puts : List ℕ → ℕ → List ℕ → ℕ → List ℕ → Type 0

@@ -1,4 +1,3 @@
-pub mod Wrote
 pub mod Column
 pub mod Line
 pub mod Summary

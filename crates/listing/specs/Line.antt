@@ -7,14 +7,8 @@ use Rattle.blocks.specs.Header.{headerBytes, symbolSet, spacing, pitch, height,
 use Rattle.store.specs.Answer.{Telling}
 use Rattle.store.specs.Calls.{tellingFont}
 use Rattle.form.specs.Fonts.{Font}
-use Rattle.listing.specs.Column.{column, signedColumn}
-
--- ' ' and the end of a line
-abbrev pub space : ℕ
-space = 32
-
-abbrev pub newline : ℕ
-newline = 10
+use Rattle.text.specs.Column.{space, newline, column}
+use Rattle.listing.specs.Column.{signedColumn}
 
 -- the bytes at two places, high and low
 unfoldable pub wordFrom : List ℕ → ℕ → ℕ → ℕ

@@ -5,8 +5,7 @@ use mathlib.Core.Bool.{cond}
 use lib.Dec.{eqb}
 use Rattle.stream.specs.Digits.{decimal}
 use Rattle.stream.specs.declared.reading.StreamRead.{StreamRead}
-use Rattle.listing.specs.Column.{column}
-use Rattle.listing.specs.Line.{space, newline}
+use Rattle.text.specs.Column.{space, newline, column}
 
 -- "done "
 abbrev pub doneWord : List ℕ

@@ -2,16 +2,16 @@
 ghost use mathlib.Core.Path.{_≡_};
 ghost use Prim.Native.Nat.{_+_, _≤_, _<_};
 ghost use lib.ListN.{length};
-ghost use Rattle.listing.specs.Wrote.{Wrote};
+ghost use Rattle.text.specs.Wrote.{Wrote};
 ghost use Rattle.blocks.specs.Field.{byte as byteOf};
 ghost use Rattle.blocks.specs.Header.{headerBytes};
 ghost use Rattle.listing.specs.Line.{wordFrom, measures, looks, line, fontLine};
-use crate::column::write_column;
 use crate::column::write_short;
 use crate::column::write_signed;
 use blocks::header;
 use blocks::header::KEPT;
 use store::fonts;
+use text::column::write_column;
 
 fn wide(x: u8) -> usize
     ensures { λ r. ⌜ (r ≡ x) × (r < 256) ⌝ }

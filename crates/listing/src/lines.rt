@@ -3,7 +3,7 @@ ghost use Prim.Native.Nat.{_+_, _≤_};
 ghost use lib.ListN.{length};
 ghost use Rattle.form.specs.Records.{RecordPlace};
 ghost use Rattle.form.specs.Fonts.{fontsAt, fontsOf};
-ghost use Rattle.listing.specs.Wrote.{Wrote};
+ghost use Rattle.text.specs.Wrote.{Wrote};
 ghost use Rattle.listing.specs.Line.{lines};
 use crate::line::write_font;
 use form::kept_fonts;

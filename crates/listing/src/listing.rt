@@ -2,7 +2,7 @@
 ghost use Prim.Native.Nat.{_≤_};
 ghost use lib.ListN.{length};
 ghost use Rattle.io.specs.Counts.{Counts};
-ghost use Rattle.listing.specs.Wrote.{Wrote};
+ghost use Rattle.text.specs.Wrote.{Wrote};
 ghost use Rattle.listing.specs.Listing.{listing, textRoom};
 use crate::lines::write_lines;
 use crate::summary::write_summary;

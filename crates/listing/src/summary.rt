@@ -1,12 +1,12 @@
 // The last line: the commands done and refused, and where the stream broke.
 ghost use Prim.Native.Nat.{_+_, _≤_};
 ghost use lib.ListN.{length};
-ghost use Rattle.listing.specs.Wrote.{Wrote};
+ghost use Rattle.text.specs.Wrote.{Wrote};
 ghost use Rattle.listing.specs.Summary.{counts, stopped, summary};
-use crate::column::write_column;
 use stream::digits::write_digits;
 use stream::reading::StreamRead;
 use stream::writing::write_bytes;
+use text::column::write_column;
 
 fn write_counts(out: &mut [u8], at: usize, done: usize, refused: usize) -> usize
     requires { ⌜ at + 54 ≤ length (now out) ⌝ }

@@ -36,9 +36,10 @@ use Rattle.stream.specs.declared.reading.Ending.{Ending}
 use Rattle.stream.specs.declared.reading.Ending.the-variants.{AtEnd, BrokenAt}
 use Rattle.turning.specs.Turn.{turnable, turnedSize, turned, unturned, turningPicture}
 use Rattle.stream.specs.Written.{WriteOut, unwritten, written, writingFont}
+use Rattle.collection.specs.Figures.{Adding, notAdded, figuresTaken, addingFigures}
 use Rattle.profile.specs.Profile.{brokenIn, unchecked, meets, checkingProfile, writingProfiled}
 use Rattle.profile.specs.declared.check.ProfileChecked.{ProfileChecked}
-use Rattle.marlinfold.specs.Calls.{Call, make-fresh, download-font, download-character, remove-font, remove-character, choose-font, tell-font, tell-character, draw-row, draw-picture, write-font, read-stream, choose-sheet, turn-picture, check-profile, write-profiled, choose-from-two, outputOf, Outcome, answered, ofChange, ofDownload, ofChoice, ofTelling, ofDrawing, ofWriting, ofReading, ofTurning, ofSheet, ofCheck, ofRecord, outcome}
+use Rattle.marlinfold.specs.Calls.{Call, make-fresh, download-font, download-character, remove-font, remove-character, choose-font, tell-font, tell-character, draw-row, draw-picture, write-font, read-stream, choose-sheet, turn-picture, check-profile, write-profiled, choose-from-two, add-figures, outputOf, Outcome, answered, ofChange, ofDownload, ofChoice, ofTelling, ofDrawing, ofWriting, ofReading, ofTurning, ofSheet, ofCheck, ofRecord, ofAdding, outcome}
 use Rattle.marlinfold.specs.Demands.{listed, isIn, others, unchanged, carriedOut, Refusal, as-listed, no-room, past-width, broken, Demand1}
 use Rattle.marlinfold.proofs.BadRuns.{carried-first}
 
@@ -184,6 +185,12 @@ writes-profiled n out s =
     by-font w n _ (refl, refl, refl) (λ st r.
     by-check w (meets (brokenIn n (keptOf r) (st .recs))) 14 _ refl (by-check w (leb (length (written n (st .recs))) (length out)) 12 _ refl (inl refl)))
 
+adds-figures : (b s : List ℕ) → Claim (add-figures b) s
+unfolding listed outputOf others addingFigures
+adds-figures b s =
+    let w : Way (add-figures b) s Adding = record { of = ofAdding s; refuse = notAdded b; same = λ k. refl } in
+    by-store w (decode s) _ refl (λ st e. by-check w (figuresTaken b) 2 _ refl (inl refl))
+
 chooses-sheet : (rs : List Request) (out : List SheetAnswer) (s : List ℕ) → Claim (choose-sheet rs out) s
 unfolding listed outputOf others choosingSheet
 chooses-sheet rs out s =
@@ -262,3 +269,4 @@ demand1 (check-profile n) s = checks-profile n s
 demand1 (write-profiled n out) s = writes-profiled n out s
 demand1 (choose-from-two true t r) s = chooses-from-two true t r s s t (choosingFromTwo s t r)
 demand1 (choose-from-two false t r) s = chooses-from-two false t r s t s (choosingFromTwo t s r)
+demand1 (add-figures b) s = adds-figures b s

@@ -35,7 +35,7 @@ use Rattle.choice.proofs.Right.{claim}
 use Rattle.stream.specs.Reading.{Download, font-block, character-block, making}
 use Rattle.stream.specs.Downloads.{spelledDownloads, madeAll}
 use Rattle.stream.proofs.Readings.{downloads-made}
-use Rattle.marlinfold.specs.Calls.{Call, make-fresh, download-font, download-character, remove-font, remove-character, choose-font, tell-font, tell-character, draw-row, draw-picture, write-font, read-stream, choose-sheet, turn-picture, check-profile, write-profiled, choose-from-two, ofChoice, outcome, leaves, ran}
+use Rattle.marlinfold.specs.Calls.{Call, make-fresh, download-font, download-character, remove-font, remove-character, choose-font, tell-font, tell-character, draw-row, draw-picture, write-font, read-stream, choose-sheet, turn-picture, check-profile, write-profiled, choose-from-two, add-figures, ofChoice, outcome, leaves, ran}
 use Rattle.marlinfold.specs.Book.{noted, bookOf, callOf, callsOf, spelledCalls, single, singly, answersTo, bookAfter, StreamSingly}
 use Rattle.marlinfold.specs.Demands.{Removes, by-removal, by-no-room, Answers, Chooses, Demand3, HeldCounts}
 
@@ -81,6 +81,7 @@ single-ran (check-profile n) s = refl
 single-ran (write-profiled n out) s = refl
 single-ran (choose-from-two true t r) s = refl
 single-ran (choose-from-two false t r) s = refl
+single-ran (add-figures b) s = refl
 
 pub singly-ran : (cs : List Call) (s : List ℕ) → ran (singly cs) s ≡ ran cs s
 unfolding ran singly
@@ -140,6 +141,7 @@ call-kept (check-profile n) s book k = k
 call-kept (write-profiled n out) s book k = k
 call-kept (choose-from-two true t r) s book k = k
 call-kept (choose-from-two false t r) s book k = k
+call-kept (add-figures b) s book k = k
 
 pub calls-kept : (cs : List Call) (s : List ℕ) (book : List Font) → Kept s book → Kept (ran (singly cs) s) (bookOf (singly cs) (answersTo (singly cs) s) book)
 unfolding ran singly answersTo bookOf

@@ -9,3 +9,5 @@ pub mod Sheet
 pub mod Trials
 pub mod Computing
 pub mod Occurrences
+mod Seen
+pub mod Collection

@@ -8,7 +8,8 @@ use Rattle.turning.specs.Turn.{Turning}
 use Rattle.store.specs.Answer.{After, downloadedOf}
 use Rattle.store.specs.declared.download.Downloaded.{Downloaded}
 use Rattle.cartridge.specs.declared.RecordAnswer.{RecordAnswer}
-use Rattle.marlinfold.specs.Calls.{answered, ofDownload, ofChoice, ofTurning, ofRecord}
+use Rattle.collection.specs.Figures.{Adding}
+use Rattle.marlinfold.specs.Calls.{answered, ofDownload, ofChoice, ofTurning, ofRecord, ofAdding}
 
 pub downloaded-by : {r : Downloaded} {a : After} {t : List ℕ} → r ≡ downloadedOf a → t ≡ a .bytes → answered (r .refusal) (r .bad .row ∷ r .bad .filled ∷ r .bad .run ∷ []) t [] ≡ ofDownload a
 downloaded-by e f = rw (e, f)
@@ -21,3 +22,6 @@ turned-by a p q s = rw (p, q)
 
 pub record-by : {s : List ℕ} {x a : RecordAnswer} → x ≡ a → answered (x .refusal) (x .font ∷ x .which ∷ x .place ∷ []) s [] ≡ ofRecord s a
 record-by e = rw e
+
+pub added-by : (a : Adding) {k : ℕ} {s out : List ℕ} → k ≡ a .answer → out ≡ a .bytes → answered k [] s out ≡ ofAdding s a
+added-by a p q = rw (p, q)

@@ -8,7 +8,7 @@ use Rattle.blocks.specs.Header.{keptHeader}
 use Rattle.form.specs.Fonts.{Font, fontsAfter}
 use Rattle.stream.specs.Reading.{Download, font-block, character-block}
 use Rattle.stream.specs.Downloads.{spelledDownloads}
-use Rattle.marlinfold.specs.Calls.{Call, make-fresh, download-font, download-character, remove-font, remove-character, choose-font, tell-font, tell-character, draw-row, draw-picture, write-font, read-stream, choose-sheet, turn-picture, check-profile, write-profiled, choose-from-two, outcome, leaves, ran}
+use Rattle.marlinfold.specs.Calls.{Call, make-fresh, download-font, download-character, remove-font, remove-character, choose-font, tell-font, tell-character, draw-row, draw-picture, write-font, read-stream, choose-sheet, turn-picture, check-profile, write-profiled, choose-from-two, add-figures, outcome, leaves, ran}
 
 -- the book after one more call that was answered k
 unfoldable pub noted : Call → ℕ → List Font → List Font
@@ -33,6 +33,7 @@ noted (turn-picture t w h pic out) k book = book
 noted (check-profile n) k book = book
 noted (write-profiled n out) k book = book
 noted (choose-from-two p t r) k book = book
+noted (add-figures b) k book = book
 
 -- the book that calls with these answers make of a book
 unfoldable pub bookOf : List Call → List ℕ → List Font → List Font
@@ -71,6 +72,7 @@ single (turn-picture t w h pic out) = turn-picture t w h pic out ∷ []
 single (check-profile n) = check-profile n ∷ []
 single (write-profiled n out) = write-profiled n out ∷ []
 single (choose-from-two p t r) = choose-from-two p t r ∷ []
+single (add-figures b) = add-figures b ∷ []
 
 unfoldable pub singly : List Call → List Call
 singly [] = []

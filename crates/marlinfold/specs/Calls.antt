@@ -17,6 +17,7 @@ use Rattle.sheet.specs.declared.SheetAnswer.{SheetAnswer}
 use Rattle.turning.specs.Turn.{Turning, turningPicture}
 use Rattle.stream.specs.Reading.{Reading, reading}
 use Rattle.stream.specs.Written.{WriteOut, writingFont}
+use Rattle.collection.specs.Figures.{Adding, addingFigures}
 use Rattle.profile.specs.Profile.{checkingProfile, writingProfiled}
 use Rattle.profile.specs.declared.check.ProfileChecked.{ProfileChecked}
 
@@ -43,6 +44,8 @@ pub data Call : Type 0 where
   write-profiled : (n : ℕ) (out : List ℕ) → Call
   -- W-208: on the soft store (true) or on the cartridge (false), with the other of the two beside it
   choose-from-two : (soft : Bool) (other : List ℕ) (r : Request) → Call
+  -- W-210: the figures b, to which the store is added
+  add-figures : (b : List ℕ) → Call
 
 -- a sheet's answers as an output: the two numbers of each, one after the other
 unfoldable pub answerNumbers : List SheetAnswer → List ℕ
@@ -68,6 +71,7 @@ outputOf (turn-picture t w h pic out) = out
 outputOf (check-profile n) = []
 outputOf (write-profiled n out) = out
 outputOf (choose-from-two p t r) = []
+outputOf (add-figures b) = b
 
 -- ── what a call answers and leaves
 pub record Outcome : Type 0 where
@@ -127,6 +131,10 @@ ofCheck s a = answered (a .refusal) (a .rule ∷ a .code ∷ []) s []
 abbrev pub ofRecord : List ℕ → RecordAnswer → Outcome
 ofRecord s a = answered (a .refusal) (a .font ∷ a .which ∷ a .place ∷ []) s []
 
+-- adding a store to figures (W-210) no number; the figures are the output
+abbrev pub ofAdding : List ℕ → Adding → Outcome
+ofAdding s a = answered (a .answer) [] s (a .bytes)
+
 -- a call on the buffer s
 abbrev pub outcome : Call → List ℕ → Outcome
 outcome make-fresh s = ofChange (makingFresh s)
@@ -147,6 +155,7 @@ outcome (check-profile n) s = ofCheck s (checkingProfile n s)
 outcome (write-profiled n out) s = ofWriting s (writingProfiled n s out)
 outcome (choose-from-two true t r) s = ofRecord s (answeringFromTwo s t r)
 outcome (choose-from-two false t r) s = ofRecord s (answeringFromTwo t s r)
+outcome (add-figures b) s = ofAdding s (addingFigures s b)
 
 -- what a call leaves of the store
 abbrev pub leaves : Call → List ℕ → List ℕ

@@ -27,7 +27,7 @@ use Rattle.sheet.specs.declared.SheetAnswer.{SheetAnswer}
 use Rattle.stream.specs.Reading.{Progress, Ended, firstTarget, noneCounted, readFrom}
 use Rattle.stream.specs.declared.reading.Ending.the-variants.{BrokenAt}
 use Rattle.stream.specs.RoundTrip.{onlyFont}
-use Rattle.marlinfold.specs.Calls.{Call, make-fresh, download-font, download-character, remove-font, remove-character, choose-font, tell-font, tell-character, draw-row, draw-picture, write-font, read-stream, choose-sheet, turn-picture, check-profile, write-profiled, choose-from-two, outputOf, Outcome, answered, ofChoice, outcome, answer, leaves, ran}
+use Rattle.marlinfold.specs.Calls.{Call, make-fresh, download-font, download-character, remove-font, remove-character, choose-font, tell-font, tell-character, draw-row, draw-picture, write-font, read-stream, choose-sheet, turn-picture, check-profile, write-profiled, choose-from-two, add-figures, outputOf, Outcome, answered, ofChoice, outcome, answer, leaves, ran}
 use Rattle.marlinfold.specs.Book.{spelledCalls, bookFrom, bookAfter}
 
 -- ── demand 1: a call is done, or it refuses as the table says
@@ -64,6 +64,8 @@ listed (check-profile n) = 1 ∷ 2 ∷ 6 ∷ []
 listed (write-profiled n out) = 1 ∷ 2 ∷ 6 ∷ 14 ∷ 12 ∷ []
 -- W-208: "Refusals: 1 if either isn't a store, then 2, 11."
 listed (choose-from-two p t r) = 1 ∷ 2 ∷ 11 ∷ []
+-- W-210: "Refusals: 1, then 2 for figures of another length, the 65th store, or a count, dots or sum handed in above what the stores so far allow"
+listed (add-figures b) = 1 ∷ 2 ∷ []
 
 abbrev pub isIn : ℕ → List ℕ → Bool
 isIn k [] = false
@@ -88,6 +90,7 @@ others (turn-picture t w h pic out) = 0
 others (check-profile n) = 2
 others (write-profiled n out) = 1
 others (choose-from-two p t r) = 3
+others (add-figures b) = 0
 
 -- "unchanged", and "A refusal answers 0 for every other number"
 abbrev pub unchanged : Call → ℕ → List ℕ → Outcome

@@ -3,3 +3,4 @@ pub mod Book
 pub mod Demands
 pub mod Trials
 pub mod Occurrences
+pub mod Collection

@@ -8,7 +8,7 @@ use lib.Dec.{eqb}
 use lib.ListN.{replicate}
 use Rattle.form.specs.Layout.{leastStore, markRecord, fontRecord, characterRecord}
 use Rattle.stream.specs.Writing.{setFont, setCode, fontBlock, characterBlock}
-use Rattle.marlinfold.specs.Calls.{Call, make-fresh, download-font, download-character, remove-font, remove-character, choose-font, tell-font, tell-character, draw-row, draw-picture, write-font, read-stream, choose-sheet, turn-picture, check-profile, write-profiled, choose-from-two, Outcome, outcome}
+use Rattle.marlinfold.specs.Calls.{Call, make-fresh, download-font, download-character, remove-font, remove-character, choose-font, tell-font, tell-character, draw-row, draw-picture, write-font, read-stream, choose-sheet, turn-picture, check-profile, write-profiled, choose-from-two, add-figures, Outcome, outcome}
 use Rattle.marlinfold.specs.Demands.{listed}
 use Rattle.marlinfold.specs.Trials.{header, A, requestWith, asks, storeAfter}
 
@@ -31,6 +31,7 @@ kind (turn-picture t w h pic out) = 14
 kind (check-profile n) = 15
 kind (write-profiled n out) = 16
 kind (choose-from-two p t r) = 17
+kind (add-figures b) = 18
 
 -- a first block of class 2, w dots wide and h rows high, and one for font 5
 unfoldable pub firstBlock : ℕ → ℕ → List ℕ → List ℕ
@@ -133,6 +134,8 @@ occurrences =
     ∷ at 0 [] (choose-from-two true (storeAfter oneFont (A ∷ [])) (requestWith 277 1000 0 0)) 1
     ∷ at leastStore [] (choose-from-two true (storeAfter leastStore []) (requestWith 2048 1000 0 0)) 2
     ∷ at leastStore [] (choose-from-two false (storeAfter leastStore []) (requestWith 277 1000 0 0)) 11
+    ∷ at 0 [] (add-figures []) 1
+    ∷ at leastStore [] (add-figures []) 2
     ∷ []
 
 abbrev pub AllOccur : List Occurrence → Type 0

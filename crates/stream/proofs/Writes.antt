@@ -12,9 +12,7 @@ use Rattle.blocks.specs.Header.{blockLimit, headerBytes, ownBytes, ownHeader}
 use Rattle.blocks.specs.Character.{descriptorBytes, characterFormat}
 use Rattle.blocks.proofs.HeaderBytes.{own-length}
 use Rattle.form.specs.Model.{Rec, font, sizeOf}
-use Rattle.form.specs.Records.{recordsOf, recordsAt, MetAt, fontFrom, FontMet, characterFrom, CharacterMet, Meeting, Between}
-use Rattle.form.specs.declared.records.Met.{Met}
-use Rattle.form.specs.declared.records.Met.the-variants.{Font, Character, End}
+use Rattle.form.specs.Records.{recordsOf, MetAt, fontFrom, FontMet, characterFrom, CharacterMet, Between}
 use Rattle.store.specs.Calls.{onto}
 use Rattle.form.specs.declared.walk.Places.{Places}
 use Rattle.form.proofs.Seeks.{KeptFont, font-call}
@@ -163,16 +161,6 @@ pub character-length : (c x y : ℕ) (b : List ℕ) → x ≡ 4 + length (decima
 character-length c x y b p q = omega (arith, ap length (character-parts c b), length-append (setCode c) (blocks b), length-set-code c)
 
 -- ── what is met at a place of the run
-module _ (s : List ℕ) (at : ℕ) (v : Met) (h : Meeting s at v) where
-  pub met-font : (n kept next : ℕ) → v ≡ Font n kept next → FontMet s at n kept next
-  met-font n kept next e = rw e at h
-
-  pub met-character : (n c kept bytes next : ℕ) → v ≡ Character n c kept bytes next → CharacterMet s at n c kept bytes next
-  met-character n c kept bytes next e = rw e at h
-
-  pub met-end : v ≡ End → recordsAt s at ≡ []
-  met-end e = rw e at h
-
 module _ (s : List ℕ) (at n kept next : ℕ) (m : FontMet s at n kept next) where
   -- as the slice that the code lends
   abbrev bytesOfFont : List ℕ

@@ -1,6 +1,6 @@
 use Rattle.listing.proofs.Listed.{signed-plain, signed-minus}
-use Rattle.listing.proofs.Writes.{wrote-byte, wrote-then}
-use Rattle.listing.specs.Column.{column}
+use Rattle.text.proofs.Writes.{wrote-byte, wrote-then}
+use Rattle.text.specs.Column.{column}
 use Prim.Native.Nat.{_-_}
 use lib.ListN.{length-set}
 use mathlib.Core.List.{[], _∷_}
@@ -13,7 +13,7 @@ returns : tie.Need-returns
 returns c =
     let k4 = c .before .before .before .before in
     let k6 = k4 .before .before in
-    (rw (signed-plain (k6 .args .b) (k6 .args .behind) (k4 .if1 .taken)) (c .before .before .write-short .ensures .0), omega arith)
+    (rw (signed-plain (k6 .args .b) (k6 .args .after) (k4 .if1 .taken)) (c .before .before .write-short .ensures .0), omega arith)
 
 write-short-requires-2 : tie.Need-write-short-requires-2
 write-short-requires-2 c κs = simp length-set (omega arith)
@@ -25,7 +25,7 @@ returns-2 : tie.Need-returns-2
 returns-2 c =
     let k4 = c .before .before .before .before in
     let k6 = k4 .before .before in
-    (rw (signed-minus (k6 .args .b) (k6 .args .behind) (k4 .if1 .left)) (wrote-then _ (45 ∷ []) (column (256 - k6 .args .b) (k6 .args .behind)) _ _ _ _ _ (wrote-byte _ _ 45 (omega arith)) (c .before .before .write-short2 .ensures .0)), omega arith)
+    (rw (signed-minus (k6 .args .b) (k6 .args .after) (k4 .if1 .left)) (wrote-then _ (45 ∷ []) (column (256 - k6 .args .b) (k6 .args .after)) _ _ _ _ _ (wrote-byte _ _ 45 (omega arith)) (c .before .before .write-short2 .ensures .0)), omega arith)
 
 pub write-signed-spec : {M : Type 1} → statement M
 write-signed-spec =

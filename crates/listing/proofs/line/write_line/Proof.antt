@@ -1,7 +1,7 @@
 use native.Mathlib.Omega.{arith}
 use borrow.Author.Needs.{needs}
 use Rattle.listing.proofs.Listed.{wrote-line}
-use Rattle.listing.proofs.Writes.{column-short}
+use Rattle.text.proofs.Writes.{column-short}
 use Rattle.listing.proofs.line.write_line.Statement.{statement}
 use Rattle.listing.proofs.line.write_line.Tie as tie
 

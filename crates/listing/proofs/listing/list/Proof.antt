@@ -1,5 +1,5 @@
 use Rattle.listing.proofs.Texts.{wrote-long, is-fresh, wrote-listing}
-use Rattle.listing.proofs.Writes.{wrote-counts}
+use Rattle.text.proofs.Writes.{wrote-counts}
 use borrow.Author.Needs.{needs}
 use Rattle.listing.proofs.listing.list.Statement.{statement}
 use Rattle.listing.proofs.listing.list.Tie as tie

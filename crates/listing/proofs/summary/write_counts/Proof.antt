@@ -2,7 +2,7 @@ use native.Mathlib.Omega.{arith}
 use borrow.Author.Needs.{needs}
 use Rattle.stream.proofs.Decimals.{decimal-short}
 use Rattle.listing.proofs.Texts.{wrote-counts}
-use Rattle.listing.proofs.Writes.{column-short}
+use Rattle.text.proofs.Writes.{column-short}
 use Rattle.listing.proofs.summary.write_counts.Statement.{statement}
 use Rattle.listing.proofs.summary.write_counts.Tie as tie
 

@@ -1,5 +1,5 @@
 use Rattle.listing.proofs.Texts.{wrote-place}
-use Rattle.listing.proofs.Writes.{column-short}
+use Rattle.text.proofs.Writes.{column-short}
 use native.Mathlib.Omega.{arith}
 use borrow.Author.Needs.{needs}
 use Rattle.listing.proofs.summary.write_place.Statement.{statement}

@@ -4,7 +4,7 @@ use borrow.Author.Needs.{needs}
 use native.Mathlib.Omega.{arith}
 use Rattle.form.specs.Records.{FontMet}
 use Rattle.form.proofs.FontRecords.{between-some}
-use Rattle.stream.proofs.Writes.{met-font, met-character, met-end}
+use Rattle.form.proofs.Meetings.{met-font, met-character, met-end}
 use Rattle.profile.proofs.Fonts.{header-long, behind-font, among-font, among-character}
 use Rattle.profile.proofs.pass.broken_among.Statement.{statement}
 use Rattle.profile.proofs.pass.broken_among.Tie as tie

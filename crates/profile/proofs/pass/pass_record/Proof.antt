@@ -2,7 +2,7 @@ use denote.Ref.{now}
 use borrow.Author.Needs.{needs}
 use native.Mathlib.Omega.{arith}
 use Rattle.form.specs.Records.{CharacterMet}
-use Rattle.stream.proofs.Writes.{met-font, met-character, met-end}
+use Rattle.form.proofs.Meetings.{met-font, met-character, met-end}
 use Rattle.profile.proofs.Characters.{font-behind, descriptor-long, character-behind}
 use Rattle.profile.proofs.pass.pass_record.Statement.{statement}
 use Rattle.profile.proofs.pass.pass_record.Tie as tie

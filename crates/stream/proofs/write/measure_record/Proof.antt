@@ -1,6 +1,7 @@
 use denote.Ref.{now}
 use Rattle.form.specs.Records.{FontMet, CharacterMet}
-use Rattle.stream.proofs.Writes.{met-font, met-character, met-end, lent-length, font-measured, character-measured}
+use Rattle.form.proofs.Meetings.{met-font, met-character, met-end}
+use Rattle.stream.proofs.Writes.{lent-length, font-measured, character-measured}
 use borrow.Author.Needs.{needs}
 use native.Mathlib.Omega.{arith}
 use Rattle.stream.proofs.write.measure_record.Statement.{statement}

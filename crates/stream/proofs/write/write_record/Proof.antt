@@ -1,6 +1,7 @@
 use denote.Ref.{now}
 use Rattle.form.specs.Records.{FontMet, CharacterMet}
-use Rattle.stream.proofs.Writes.{met-font, met-character, met-end, lent-length, font-room, font-wrote, character-room, character-wrote}
+use Rattle.form.proofs.Meetings.{met-font, met-character, met-end}
+use Rattle.stream.proofs.Writes.{lent-length, font-room, font-wrote, character-room, character-wrote}
 use borrow.Author.Needs.{needs}
 use native.Mathlib.Omega.{arith}
 use Rattle.stream.proofs.write.write_record.Statement.{statement}

@@ -10,8 +10,8 @@ use Rattle.stream.specs.Digits.{decimal}
 use Rattle.change.specs.Change.{withBytes}
 use Rattle.stream.proofs.Decimals.{tens, decimal-short}
 use Rattle.stream.proofs.Putting.{length-put, put-none, put-byte, put-joined}
-use Rattle.listing.specs.Wrote.{Wrote}
-use Rattle.listing.specs.Column.{column}
+use Rattle.text.specs.Wrote.{Wrote}
+use Rattle.text.specs.Column.{column}
 
 pub wrote-none : (s : List ℕ) (at : ℕ) → at ≤ length s → Wrote s at [] at s
 wrote-none s at h = record { place = omega arith; within = h; bytes = sym (put-none s at) }
@@ -32,7 +32,7 @@ wrote-counts s b out end w =
     let l = wrote-length s b out 0 end w in
     (omega (arith, w .within), sym (length-take-le end out (omega (arith, w .within))))
 
--- text behind text
+-- text after text
 pub wrote-then : (s a b out last : List ℕ) (at from end : ℕ) → Wrote s at a from out → Wrote out from b end last → Wrote s at (a ++ b) end last
 wrote-then s a b out last at from end w v =
     let l = wrote-length s a out at from w in
@@ -49,7 +49,7 @@ pub column-length : (n x : ℕ) → length (column n x) ≡ length (decimal n) +
 unfolding column
 column-length n x = length-append (decimal n) (x ∷ [])
 
--- k + 1 digits, and the byte behind them
+-- k + 1 digits, and the byte after them
 pub column-short : (k n x : ℕ) → n < tens k * 10 → length (column n x) ≤ k + 2
 column-short k n x h = omega (arith, column-length n x, decimal-short k n h)
 

@@ -1,0 +1,4 @@
+pub mod Ones
+mod BitmapDots
+mod RunDots
+pub mod Drawn

@@ -1,0 +1,114 @@
+-- Laws of the ones of bytes. Assumes nothing.
+use Prim.Native.Nat.{ℕ, zero, suc, _+_, _*_, _-_, _%_, _^_, _<_, _≤_}
+use mathlib.Core.Path.{_≡_, refl, sym, ap, _∙_}
+use mathlib.Core.List.{List, [], _∷_, _++_}
+use native.Mathlib.Nat.{zero-add, add-zero, add-comm, mul-comm, add-mul, zero-mod, mod-one, lt-of-le-of-lt}
+use mathlib.Core.Bool.{Bool, true, false}
+use lib.Dec.{leb}
+use borrow.Author.Tests.{leb-true, leb-false}
+use lib.Bits.{bitAnd, and-mask, and-le-l}
+use native.Mathlib.Numerals.{add-one}
+use native.Mathlib.Omega.{arith}
+use lib.ListN.{length, take, drop, getD, replicate, drop-of-length-le}
+use lib.Seq.{drop-cons, drop-drop, take-nil}
+use lib.Count.{ones, ones-cat, ones-le}
+use Rattle.blackdots.specs.Black.{onesOf}
+use Rattle.blackdots.specs.Counting.{overhang}
+
+-- a list's ones are those of its front and of its rest
+pub ones-parts : (j : ℕ) (s : List ℕ) → onesOf s ≡ onesOf (take j s) + onesOf (drop j s)
+unfolding onesOf
+ones-parts zero s = omega arith
+ones-parts (suc j) [] = refl
+ones-parts (suc j) (b ∷ s) = omega (arith, ones-parts j s)
+
+pub ones-front : (j k : ℕ) (s : List ℕ) → onesOf (take (j + k) s) ≡ onesOf (take j s) + onesOf (take k (drop j s))
+unfolding onesOf
+ones-front zero k s = rw zero-add (omega arith)
+ones-front (suc j) k [] = rw (take-nil (suc j + k), take-nil k)
+ones-front (suc j) k (b ∷ s) = let e : suc j + k ≡ suc (j + k) = omega arith in rw e (omega (arith, ones-front j k s))
+
+pub ones-append : (xs ys : List ℕ) → onesOf (xs ++ ys) ≡ onesOf xs + onesOf ys
+unfolding onesOf
+ones-append [] ys = rw zero-add
+ones-append (x ∷ xs) ys = omega (arith, ones-append xs ys)
+
+-- bytes that are 0 have none
+pub ones-zeros : (n : ℕ) → onesOf (replicate n 0) ≡ 0
+unfolding onesOf ones
+ones-zeros zero = refl
+ones-zeros (suc n) = rw zero-add (ones-zeros n)
+
+-- two numbers as one: the low one has m bits
+pub ones-joined : (m k x y at : ℕ) (b : List ℕ) → ones x ≡ onesOf (take k (drop at b)) → ones y ≡ onesOf (take k (drop (at + k) b)) → x < 2 ^ m
+    → ones (x + 2 ^ m * y) ≡ onesOf (take (k + k) (drop at b))
+ones-joined m k x y at b ex ey l =
+    let form : x + 2 ^ m * y ≡ y * 2 ^ m + x = add-comm x (2 ^ m * y) ∙ ap (λ (z : ℕ). z + x) (mul-comm (2 ^ m) y) in
+    let e : ones (x + 2 ^ m * y) ≡ ones y + ones x = ap ones form ∙ ones-cat m y x l in
+    let r : onesOf (take k (drop k (drop at b))) ≡ onesOf (take k (drop (at + k) b)) = ap (λ (z : List ℕ). onesOf (take k z)) (drop-drop k at b) in
+    omega (arith, e, ex, ey, r, ones-front k k (drop at b))
+
+-- a byte's own
+pub ones-byte : (i : ℕ) (b : List ℕ) → i < length b → onesOf (take 1 (drop i b)) ≡ ones (getD b i 0)
+unfolding onesOf
+ones-byte i b l = ap (λ (z : List ℕ). onesOf (take 1 z)) (drop-cons b i 0 l) ∙ omega arith
+
+-- k more bytes counted, by a number x that has their ones; m are the ones of all
+pub ones-next : (k n m i x : ℕ) (b : List ℕ) → n + onesOf (drop i b) ≡ m → ones x ≡ onesOf (take k (drop i b)) → n + ones x + onesOf (drop (i + k) b) ≡ m
+ones-next k n m i x b e p =
+    let r : onesOf (drop k (drop i b)) ≡ onesOf (drop (i + k) b) = ap onesOf (drop-drop k i b) in
+    omega (arith, e, p, r, ones-parts k (drop i b))
+
+-- none left
+pub ones-end : (n m i : ℕ) (b : List ℕ) → n + onesOf (drop i b) ≡ m → length b ≤ i → n ≡ m
+unfolding onesOf
+ones-end n m i b e l =
+    let s : onesOf (drop i b) ≡ 0 = ap onesOf (drop-of-length-le b {i = i} l) in
+    omega (arith, e, s)
+
+-- ── the last bytes of rows
+past : (b : List ℕ) (i : ℕ) → length b ≤ i → getD b i 0 ≡ 0
+past [] i l = refl
+past (x ∷ b) zero l = absurd (omega arith)
+past (x ∷ b) (suc i) l = past b i (omega arith)
+
+ones-zero : (k : ℕ) → ones (0 % k) ≡ 0
+unfolding ones
+ones-zero k = rw zero-mod
+
+-- rows from t on have no last byte
+overhang-none : (n pad : ℕ) (b : List ℕ) (t j : ℕ) → length b ≤ t * n + (n - 1) → overhang n pad b (t + j) ≡ overhang n pad b t
+unfolding overhang
+overhang-none n pad b t zero l = rw add-zero
+overhang-none n pad b t (suc j) l =
+    let e : t + suc j ≡ suc (t + j) = omega arith in
+    let g : getD b ((t + j) * n + (n - 1)) 0 ≡ 0 = past b ((t + j) * n + (n - 1)) (omega (arith, add-mul t j n)) in
+    rw (e, g) (omega (arith, ones-zero (2 ^ pad), overhang-none n pad b t j l))
+
+pub overhang-rest : (n pad : ℕ) (b : List ℕ) (t h : ℕ) → length b ≤ t * n + (n - 1) → length b ≤ h * n → overhang n pad b t ≡ overhang n pad b h
+overhang-rest n pad b t h l m = go (leb t h) refl
+  where
+    go : (x : Bool) → leb t h ≡ x → overhang n pad b t ≡ overhang n pad b h
+    go true w =
+        let g : t ≤ h = leb-true t h w in
+        let e : h ≡ t + (h - t) = omega arith in
+        sym (ap (overhang n pad b) e ∙ overhang-none n pad b t (h - t) l)
+    go false w =
+        let g : h < t = leb-false t h w in
+        let e : t ≡ h + (t - h) = omega arith in
+        ap (overhang n pad b) e ∙ overhang-none n pad b h (t - h) (omega arith)
+
+pub overhang-next : (n pad mask k at t : ℕ) (b : List ℕ) → mask ≡ 2 ^ pad - 1 → at ≡ t * n + (n - 1) → k ≡ overhang n pad b t
+    → k + ones (bitAnd (getD b at 0) mask) ≡ overhang n pad b (t + 1)
+unfolding overhang
+overhang-next n pad mask k at t b e p q =
+    rw (add-one, e, and-mask (getD b at 0) pad, p, q)
+
+pub ones-masked : (x mask : ℕ) → x < 256 → ones (bitAnd x mask) ≤ 8
+ones-masked x mask l = ones-le 8 (bitAnd x mask) (lt-of-le-of-lt (and-le-l x mask) l)
+
+-- where no bits lie beyond the width
+pub overhang-zero : (n : ℕ) (b : List ℕ) (t : ℕ) → overhang n 0 b t ≡ 0
+unfolding overhang ones
+overhang-zero n b zero = refl
+overhang-zero n b (suc t) = rw (mod-one (getD b (t * n + (n - 1)) 0), overhang-zero n b t)

@@ -1,0 +1,24 @@
+-- For the code alone: black dots by the ones of bytes and by the runs of rows.
+use Prim.Native.Nat.{ℕ, zero, suc, _+_, _*_, _-_, _%_, _^_}
+use mathlib.Core.List.{List}
+use lib.Count.{ones}
+use lib.ListN.{getD}
+use mathlib.Core.Bool.{Bool, true, false}
+use Rattle.pictures.specs.Drawing.{Read, none, whole}
+use Rattle.blackdots.specs.Black.{blackIn}
+use Rattle.blackdots.specs.declared.compressed.BlackLine.{BlackLine}
+use Rattle.blackdots.specs.declared.compressed.BlackLine.the-variants.{Ends, Unfinished}
+
+-- the ones among the pad lowest bits of the last byte of each of h rows of n bytes
+unfoldable pub overhang : ℕ → ℕ → List ℕ → ℕ → ℕ
+overhang n pad d zero = 0
+overhang n pad d (suc h) = overhang n pad d h + ones (getD d (h * n + (n - 1)) 0 % 2 ^ pad)
+
+-- what reading a row of class 2 data counts
+abbrev pub endsAt : Bool → ℕ → ℕ → BlackLine
+endsAt true k n = Ends k n
+endsAt false k n = Unfinished
+
+abbrev pub blackLineOf : Read → BlackLine
+blackLineOf none = Unfinished
+blackLineOf (whole ds k) = Ends k (blackIn ds)

@@ -1,0 +1,4 @@
+pub mod Figures
+pub mod Handed
+pub mod Together
+pub mod ByRecord

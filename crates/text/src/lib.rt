@@ -1,0 +1,2 @@
+// What the programs write: text put over bytes, and numbers in its lines.
+pub mod column;
