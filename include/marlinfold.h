@@ -98,7 +98,8 @@
  * What a call costs
  *   Each call on a store checks all of it first: 1 to 40 microseconds for 65,536 bytes, by what
  *   they hold, up to 80 if they are narrow rows of class 2, and most calls take little more.
- *   mf_choose_from_two checks both of its stores. mf_choose_sheet and mf_read_stream check theirs
+ *   mf_choose_from_two checks both of its stores. mf_add_figures also goes through all picture
+ *   data and takes up to 200 microseconds. mf_choose_sheet and mf_read_stream check theirs
  *   once, so they are faster than calls for each request or block; but each continuation of a
  *   class 2 character goes through all of that character's data, so that a megabyte of tiny ones
  *   takes seconds. Figures: bench/README.md of the sources.
@@ -107,7 +108,7 @@
  *   A store may be saved, copied and taken up again as plain bytes, by the same version on any
  *   machine. The first number of MF_VERSION rises when the form of a call or of the store
  *   changes: versions that have it in common take up each other's stores, and so do those of
- *   2.0.0 to 3.0.0, whose calls alone differ. A store with fonts that a version before 2.0.0 made
+ *   2.0.0 to 3.1.0, whose calls alone differ. A store with fonts that a version before 2.0.0 made
  *   is not a store any more (MF_NOT_A_STORE), since its font records have 72 or 78 bytes and not
  *   82: have that version write its fonts out, and read the streams into a fresh store, in which
  *   each font takes 10 or 4 bytes more.
@@ -125,8 +126,8 @@
 extern "C" {
 #endif
 
-#define MF_VERSION "3.0.0"
-#define MF_VERSION_NUMBER 30000 /* 10000 x first + 100 x second + third number */
+#define MF_VERSION "3.1.0"
+#define MF_VERSION_NUMBER 30100 /* 10000 x first + 100 x second + third number */
 
 enum mf_refusal {
     MF_DONE = 0,           /* done */
@@ -150,6 +151,7 @@ enum mf_refusal {
 #define MF_FONT_MAX 32767      /* font numbers are 0..32767 */
 #define MF_CODE_MAX 255        /* character codes are 0..255 */
 #define MF_SHEET_MAX 64        /* the most requests that one sheet has */
+#define MF_COLLECTION_MAX 64   /* the most stores that figures add up */
 /* A symbol set by the number and the capital letter of its name: MF_SYMBOL_SET(8, 'U'). */
 #define MF_SYMBOL_SET(number, letter) ((uint32_t)(number) * 32 + (uint32_t)(letter) - 64)
 #define MF_ROMAN_8 277         /* 8U */
@@ -192,6 +194,7 @@ enum mf_which { MF_SOFT = 1, MF_CARTRIDGE = 2 };
 #define MF_PICTURE_MAX 32768   /* the largest drawn picture: any output so long takes any */
 #define MF_ROW_MAX 2048        /* the longest row: any output so long takes any row */
 #define MF_SIDE_MAX 16384      /* the greatest width and height, in dots */
+#define MF_FIGURES_BYTES 14344 /* the figures of mf_add_figures: 8 and 256 x 56 */
 
 /* A font's record in a store: its length (4 bytes), its kind (2 bytes; a font's is 2), the font's
  * number (2), the count of its characters (2) and the sum of their data bytes (4), low bytes first;
@@ -852,6 +855,81 @@ mf_written mf_write_profiled(const uint8_t *store, size_t store_len,
  *                     stands before it stays done */
 mf_stream_read mf_read_stream(uint8_t *store, size_t store_len,
                               const uint8_t *stream, size_t stream_len);
+
+/* The numbers that figures have of each code, in their order. */
+enum mf_figure_number {
+    MF_FIGURE_COUNT = 0,    /* the characters of this code, in all fonts of all stores */
+    MF_FIGURE_DOTS = 1,     /* the black dots of their pictures */
+    MF_FIGURE_LEAST = 2,    /* the least of their widths, in dots */
+    MF_FIGURE_GREATEST = 3, /* the greatest of their widths */
+    MF_FIGURE_SUM = 4,      /* the sum of their delta X, in quarter-dots */
+    MF_FIGURE_MEAN = 5,     /* that sum divided by the count, rounded down */
+    MF_FIGURE_REST = 6      /* what the division leaves over, below the count */
+};
+
+/* Adds the characters of a store to figures, for a report on a collection of up to
+ * MF_COLLECTION_MAX stores, which are handed in one by one, in any order.
+ * figures are MF_FIGURES_BYTES bytes of yours. Make all of them 0 before the first store, and let
+ * nothing but this call write there. Then they are at any time the figures of the characters of
+ * all stores so far together:
+ *   bytes 0 to 7  how many stores there are so far: mf_figures_stores reads it
+ *   from byte 8   for each code 0..255 the seven numbers of mf_figure_number: mf_figure reads one.
+ *                 Those of a code begin at byte 8 + 56 x code.
+ * Each number has 8 bytes, low byte first. A code that no character has is 0 in all seven.
+ * Black dots are those that mf_draw_picture draws, so that bits beyond the width and repeats below
+ * the last row do not count. An incomplete character counts too, with its missing rows white. A
+ * store without characters counts as a store, and one that is handed in twice counts twice. Widths
+ * and delta X are those that are kept, in each font's own dots: fonts of 300 and of 600 dots to
+ * the inch are added up as they are.
+ * The figures may be saved after any store, and taken up again as plain bytes on any machine. With
+ * use a function of yours:
+ *
+ *     static uint8_t figures[MF_FIGURES_BYTES];
+ *     uint32_t code;
+ *     for (at = 0; at < count; at++)
+ *         if (mf_add_figures(stores[at], lengths[at], figures, sizeof figures) != MF_DONE)
+ *             return 0;
+ *     for (code = 0; code <= MF_CODE_MAX; code++)
+ *         if (mf_figure(figures, code, MF_FIGURE_COUNT) != 0)
+ *             use(code, mf_figure(figures, code, MF_FIGURE_MEAN));
+ *
+ * If something else wrote there and the call is done, then the codes that the store lacks keep
+ * their bytes. To the numbers of the others its characters are added, a least width of 0 counting
+ * as none, and their mean and rest become those of the new sum and count, whatever they were. A
+ * refusal leaves the figures as they were.
+ * Refuses, in this order:
+ *   MF_NOT_A_STORE   not a store
+ *   MF_OUT_OF_RANGE  figures_len is not MF_FIGURES_BYTES; or there are MF_COLLECTION_MAX stores
+ *                    or more so far; or of one of the 256 codes, also one that the store lacks,
+ *                    count, dots or sum is above what so many stores can have: 606 characters for
+ *                    each store so far, and for each of these 262144 dots and a delta X of 32767 */
+uint32_t mf_add_figures(const uint8_t *store, size_t store_len,
+                        uint8_t *figures, size_t figures_len);
+
+/* The number that begins at a byte of figures. */
+static inline uint64_t mf_figure_at(const uint8_t *figures, size_t at)
+{
+    uint64_t number = 0;
+    size_t left;
+    for (left = 8; left > 0; left--)
+        number = number << 8 | figures[at + left - 1];
+    return number;
+}
+
+/* How many stores were added to figures so far. */
+static inline uint64_t mf_figures_stores(const uint8_t *figures)
+{
+    return mf_figure_at(figures, 0);
+}
+
+/* A number of a code: which is MF_FIGURE_COUNT .. MF_FIGURE_REST. For another number, and for a
+ * code above MF_CODE_MAX, it is 0. */
+static inline uint64_t mf_figure(const uint8_t *figures, uint32_t code, uint32_t which)
+{
+    if (code > MF_CODE_MAX || which > MF_FIGURE_REST)
+        return 0;
+    return mf_figure_at(figures, 8 + 56 * (size_t)code + 8 * (size_t)which);
+}
 
 /* ---- along a store ---- */
 
