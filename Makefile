@@ -21,6 +21,7 @@ $(if $(VERSION),,$(error include/marlinfold.h has no MF_VERSION))
 
 archive = target/staticlib/libmarlinfold.a
 listing = target/bin/listing
+figures = target/bin/figures
 programs = $(patsubst programs/%.c,target/programs/marlinfold-%,$(wildcard programs/*.c))
 modules = $(patsubst programs/common/%.c,target/objects/%.o,$(wildcard programs/common/*.c))
 common = target/objects/common.a
@@ -48,7 +49,7 @@ all: build
 	$(label) --proportional --weight 3 "$(TEXT)" samples/*.pcl >target/label-bold.pbm
 	$(label) --mode 600 "$(TEXT)" samples/*.pcl >target/label-600.pbm
 
-build: $(archive) $(listing) $(shared) $(programs) $(examples)
+build: $(archive) $(listing) $(figures) $(shared) $(programs) $(examples)
 
 # $(call prove,COMMAND,LOG): what the prover says goes to a file; its last lines are shown
 # if it fails. rt proves again only what has changed, and then leaves a file as old as it was.
@@ -63,9 +64,12 @@ endef
 $(archive): $(crates)
 	$(call prove,rt staticlib marlinfold,target/prover-marlinfold.log)
 
-# Not at the same time as the archive: both write to target/.
+# One after the other: all of them write to target/.
 $(listing): $(crates) | $(archive)
 	$(call prove,rt check listing,target/prover-listing.log)
+
+$(figures): $(crates) | $(archive) $(listing)
+	$(call prove,rt check figures,target/prover-figures.log)
 
 # Only the header's calls are to be seen from outside.
 $(shared): $(archive)
@@ -99,7 +103,7 @@ check:
 	@:$(call needs,rt,the Rattle toolchain)
 	.ci/run
 
-install: $(archive) $(listing) $(shared) $(programs)
+install: $(archive) $(listing) $(figures) $(shared) $(programs)
 	install -d "$(DESTDIR)$(INCLUDEDIR)" "$(DESTDIR)$(LIBDIR)/pkgconfig" "$(DESTDIR)$(BINDIR)" \
 	    "$(DESTDIR)$(MANDIR)/man1" "$(DESTDIR)$(MANDIR)/man3" "$(DESTDIR)$(DOCDIR)"
 	install -m 644 include/marlinfold.h "$(DESTDIR)$(INCLUDEDIR)/"
@@ -112,6 +116,7 @@ install: $(archive) $(listing) $(shared) $(programs)
 	    >"$(DESTDIR)$(LIBDIR)/pkgconfig/marlinfold.pc"
 	chmod 644 "$(DESTDIR)$(LIBDIR)/pkgconfig/marlinfold.pc"
 	install -m 755 $(listing) "$(DESTDIR)$(BINDIR)/marlinfold-listing"
+	install -m 755 $(figures) "$(DESTDIR)$(BINDIR)/marlinfold-figures"
 	install -m 755 $(programs) "$(DESTDIR)$(BINDIR)/"
 	install -m 644 docs/*.1 "$(DESTDIR)$(MANDIR)/man1/"
 	install -m 644 docs/*.3 "$(DESTDIR)$(MANDIR)/man3/"
@@ -121,7 +126,8 @@ uninstall:
 	rm -f "$(DESTDIR)$(INCLUDEDIR)/marlinfold.h" \
 	    $(addprefix "$(DESTDIR)$(LIBDIR)"/,libmarlinfold.a $(notdir $(shared)) $(links)) \
 	    "$(DESTDIR)$(LIBDIR)/pkgconfig/marlinfold.pc" \
-	    $(addprefix "$(DESTDIR)$(BINDIR)"/,marlinfold-listing $(notdir $(programs))) \
+	    $(addprefix "$(DESTDIR)$(BINDIR)"/,marlinfold-listing marlinfold-figures) \
+	    $(addprefix "$(DESTDIR)$(BINDIR)"/,$(notdir $(programs))) \
 	    $(addprefix "$(DESTDIR)$(MANDIR)"/man1/,$(notdir $(wildcard docs/*.1))) \
 	    $(addprefix "$(DESTDIR)$(MANDIR)"/man3/,$(notdir $(wildcard docs/*.3))) \
 	    $(addprefix "$(DESTDIR)$(DOCDIR)"/,README.md CHANGELOG.md LICENSE)
