@@ -59,6 +59,7 @@ def main(path, fonts):
     tell = declared(library, "mf_tell_character", Told, None, U32, U32)
     draw_row = declared(library, "mf_draw_row", U32, None, U32, U32, U32)
     check_profile = declared(library, "mf_check_profile", Profile, U32)
+    add_figures = declared(library, "mf_add_figures", U32, None)
 
     stream = open(fonts, "rb").read()
     store = ctypes.create_string_buffer(65536)
@@ -96,11 +97,24 @@ def main(path, fonts):
     must_be("told", told.refusal, 0)
     width, height = (int.from_bytes(kept.raw[at:at + 2], "big") for at in (10, 12))
     row = ctypes.create_string_buffer((width + 7) // 8)
+    black = 0
     for number in range(height):
         must_be("a row", draw_row(store, len(store), row, len(row), chosen.font, 65, number), 0)
         dots = "".join(f"{byte:08b}" for byte in row.raw)[:width]
+        black += dots.count("1")
         print(dots.replace("0", ".").replace("1", "#"))
     must_be("no row", draw_row(store, len(store), row, len(row), chosen.font, 65, height), 2)
+
+    # the store twice: the same A two times
+    figures = ctypes.create_string_buffer(14344)
+    for _ in range(2):
+        must_be("figures", add_figures(store, len(store), figures, len(figures)), 0)
+    must_be("figures too short", add_figures(store, len(store), figures, len(figures) - 1), 2)
+    delta = int.from_bytes(kept.raw[14:16], "big")
+    numbers = [int.from_bytes(figures.raw[at:at + 8], "little") for at in range(0, 14344, 8)]
+    must_be("stores", numbers[0], 2)
+    must_be("figures of A", numbers[1 + 7 * 65:8 + 7 * 65],
+            [2, 2 * black, width, width, 2 * delta, delta, 0])
 
     # with the font's type (3) and spacing (13) made 0, the profile lacks code 32
     changed = bytearray(stream)

@@ -128,6 +128,12 @@ static int choose_from_two(void)
                .refusal == MF_DONE;
 }
 
+static int add_figures(void)
+{
+    static uint8_t figures[MF_FIGURES_BYTES];
+    return mf_add_figures(store, sizeof store, figures, sizeof figures) == MF_DONE;
+}
+
 /* The stream that stands ready. */
 static int read_stream(void)
 {
@@ -163,6 +169,8 @@ int main(int argc, char **argv)
         call = choose_sheet;
     else if (strcmp(name, "two") == 0)
         call = choose_from_two;
+    else if (strcmp(name, "figures") == 0)
+        call = add_figures;
     else if (strcmp(name, "codes") == 0)
         while (times--)
             add_command("*c", 65, 'E');
