@@ -869,9 +869,9 @@ enum mf_figure_number {
 
 /* Adds the characters of a store to figures, for a report on a collection of up to
  * MF_COLLECTION_MAX stores, which are handed in one by one, in any order.
- * figures are MF_FIGURES_BYTES bytes of yours. Make all of them 0 before the first store, and let
- * nothing but this call write there. Then they are at any time the figures of the characters of
- * all stores so far together:
+ * figures are MF_FIGURES_BYTES bytes of yours, apart from the store. Make all of them 0 before the
+ * first store, and let nothing but this call write there. Then they are at any time the figures of
+ * the characters of all stores so far together:
  *   bytes 0 to 7  how many stores there are so far: mf_figures_stores reads it
  *   from byte 8   for each code 0..255 the seven numbers of mf_figure_number: mf_figure reads one.
  *                 Those of a code begin at byte 8 + 56 x code.
