@@ -99,7 +99,7 @@
  *   Each call on a store checks all of it first: 1 to 40 microseconds for 65,536 bytes, by what
  *   they hold, up to 80 if they are narrow rows of class 2, and most calls take little more.
  *   mf_choose_from_two checks both of its stores. mf_add_figures also goes through all picture
- *   data and takes up to 200 microseconds. mf_choose_sheet and mf_read_stream check theirs
+ *   data and takes up to 250 microseconds. mf_choose_sheet and mf_read_stream check theirs
  *   once, so they are faster than calls for each request or block; but each continuation of a
  *   class 2 character goes through all of that character's data, so that a megabyte of tiny ones
  *   takes seconds. Figures: bench/README.md of the sources.
