@@ -1,4 +1,5 @@
--- For the proofs of W-210's claims: what records add to the figures of a code, and the figures of several buffers handed in one by one.
+-- For the code alone: what records add to the figures of a code, and the figures of several buffers handed in one by one. No claim names anything of
+-- this file.
 use Prim.Native.Nat.{ℕ, zero, suc, _+_, _<_}
 use mathlib.Core.Path.{_≡_}
 use mathlib.Core.List.{List, [], _∷_, _++_}
