@@ -14,6 +14,8 @@
 
 mod block;
 mod choice;
+mod dots;
+mod figures;
 mod profile;
 mod runs;
 mod store;
@@ -315,6 +317,10 @@ pub fn read_stream(store: &mut [u8], stream: &[u8]) -> StreamRead {
             ..StreamRead::default()
         },
     }
+}
+
+pub fn add_figures(store: &[u8], figures: &mut [u8]) -> u32 {
+    number(View::of(store).and_then(|view| figures::add_figures(&view, figures)))
 }
 
 pub fn turn_picture(picture: &[u8], out: &mut [u8], width: u32, height: u32, turn: u32) -> u32 {

@@ -21,7 +21,7 @@ impl Shape {
     }
 
     /// The dots of a row's last byte that are within the width.
-    fn last_byte_mask(self) -> u8 {
+    pub fn last_byte_mask(self) -> u8 {
         match self.width % 8 {
             0 => 0xFF,
             dots => 0xFF << (8 - dots),

@@ -407,6 +407,22 @@ impl<'a> View<'a> {
         })
     }
 
+    /// Every font's characters, by rising number and code.
+    pub fn characters(&self) -> impl Iterator<Item = Character<'a>> {
+        let records = self.records;
+        let mut at = MARK_RECORD;
+        std::iter::from_fn(move || {
+            while at < records.len() {
+                let record = at;
+                at += length_at(records, at);
+                if kind_at(records, record) == CHARACTER_KIND {
+                    return Some(character_at(records, record));
+                }
+            }
+            None
+        })
+    }
+
     /// Where a font stands, else 6. The number is in range.
     fn font(&self, font: u32) -> Result<usize, Refusal> {
         find_font(self.records, MARK_RECORD, font).map_err(|_| Refusal::NoFont)

@@ -213,6 +213,31 @@ fn stream(chance: &mut Chance, model: &Model) -> Vec<u8> {
     stream
 }
 
+/// Figures to be handed in (W-210): of few stores or of as many as may be, zeros save for
+/// some numbers at and beside what is allowed; rarely of another length.
+fn figures(chance: &mut Chance) -> Vec<u8> {
+    let stores = chance.of(&[0, 1, 1, 2, 63, 63, 64, u64::MAX]);
+    let mut numbers = vec![0; 1793];
+    numbers[0] = stores;
+    for _ in 0..chance.below(5) {
+        let code = some_code(chance) as usize % 256;
+        let which = chance.below(7);
+        let most = match which {
+            0 => 606 * stores.min(64),
+            1 => 606 * 262_144 * stores.min(64),
+            4 => 606 * 32_767 * stores.min(64),
+            _ => chance.of(&[0, 1, 9, 40, u64::MAX - 1]),
+        };
+        let one_more = u64::from(chance.once_in(12));
+        numbers[1 + 7 * code + which] = most + one_more;
+    }
+    let mut bytes: Vec<u8> = numbers.into_iter().flat_map(u64::to_le_bytes).collect();
+    if chance.once_in(12) {
+        bytes.resize(chance.of(&[0, 8, 14343, 14345]), 0);
+    }
+    bytes
+}
+
 /// One chance call on both; `met` counts the answers.
 fn call(chance: &mut Chance, store: &mut [u8], model: &mut Model, met: &mut [u32; 15]) {
     let before = store.to_vec();
@@ -222,7 +247,7 @@ fn call(chance: &mut Chance, store: &mut [u8], model: &mut Model, met: &mut [u32
     let mut out = vec![0xAA; length];
     let mut expected = out.clone();
     let mut font_struck = false;
-    let refusal = match chance.below(27) {
+    let refusal = match chance.below(28) {
         0 if chance.once_in(20) => {
             *model = Model::fresh(store.len());
             make_fresh(store)
@@ -303,6 +328,15 @@ fn call(chance: &mut Chance, store: &mut [u8], model: &mut Model, met: &mut [u32
             let answer = model.write_profiled(&mut expected, font);
             assert_eq!(written, model::written(answer));
             written.refusal
+        }
+        27 => {
+            let mut ours = figures(chance);
+            let mut expected = ours.clone();
+            let refusal = add_figures(store, &mut ours);
+            let answer = model.add_figures(&mut expected);
+            assert_eq!(refusal, model::number(answer));
+            assert!(ours == expected, "other figures");
+            refusal
         }
         22 => {
             let written = write_font(store, &mut out, font);
@@ -549,6 +583,9 @@ fn refuses_all(bytes: &mut [u8], chance: &mut Chance) {
     let before = bytes.to_vec();
     let mut out = [0xAA; 100];
     let mut answers = [UNWRITTEN; 64];
+    // Of a length that is refused too, with 2.
+    let mut short = [0xAA; 14343];
+    let mut figures = [0; 14344];
     let (font, code) = (some_font(chance), some_code(chance));
     let refusals = [
         download_font(bytes, &header(chance), font),
@@ -568,9 +605,12 @@ fn refuses_all(bytes: &mut [u8], chance: &mut Chance) {
         check_profile(bytes, font).refusal,
         write_profiled(bytes, &mut out, font).refusal,
         read_stream(bytes, b"?").refusal,
+        add_figures(bytes, &mut figures),
+        add_figures(bytes, &mut short),
     ];
-    assert_eq!(refusals, [1; 17]);
+    assert_eq!(refusals, [1; 19]);
     assert_eq!(bytes, before);
     assert_eq!(out, [0xAA; 100]);
     assert_eq!(answers, [UNWRITTEN; 64]);
+    assert!(figures == [0; 14344] && short == [0xAA; 14343]);
 }

@@ -537,6 +537,33 @@ impl Model {
         self.write_font(out, font)
     }
 
+    /// W-210: code by code, each number by itself from the list of the code's characters.
+    pub fn add_figures(&self, figures: &mut [u8]) -> Result<(), u32> {
+        if figures.len() != 14344 {
+            return Err(2);
+        }
+        let before: Vec<u64> = figures.chunks(8).map(low_first).collect();
+        if before[0] > 63 {
+            return Err(2);
+        }
+        let mut after = before.clone();
+        after[0] += 1;
+        for code in 0..256 {
+            let at = 1 + 7 * code as usize;
+            let old: [u64; 7] = before[at..at + 7].try_into().unwrap();
+            if above(&old, before[0]) {
+                return Err(2);
+            }
+            let fonts = self.fonts.values();
+            let of_code: Vec<&Character> = fonts.filter_map(|f| f.characters.get(&code)).collect();
+            if !of_code.is_empty() {
+                after[at..at + 7].copy_from_slice(&joined(&old, &of_code));
+            }
+        }
+        let bytes: Vec<u8> = after.iter().flat_map(|n| n.to_le_bytes()).collect();
+        write(figures, &bytes)
+    }
+
     pub fn read_stream(&mut self, stream: &[u8]) -> StreamRead {
         let (mut font, mut code) = (0, 0);
         let mut answers = Vec::new();
@@ -572,6 +599,36 @@ impl Model {
         }
         read(&answers, None)
     }
+}
+
+fn low_first(bytes: &[u8]) -> u64 {
+    bytes.iter().rev().fold(0, |n, &b| 256 * n + u64::from(b))
+}
+
+/// W-210: "a count, dots or sum handed in above what the stores so far allow at 65,536
+/// bytes"; 65,524 / 108 is 606 and 76 over.
+fn above(figures: &[u64; 7], stores: u64) -> bool {
+    let [count, dots, _, _, sum, ..] = *figures;
+    count > 606 * stores || dots > 606 * 262_144 * stores || sum > 606 * 32_767 * stores
+}
+
+/// A code's seven numbers with these characters as well.
+fn joined(old: &[u64; 7], characters: &[&Character]) -> [u64; 7] {
+    let field = |at: usize| characters.iter().map(move |c| be(&c.kept, at) as u64);
+    let black = |c: &&Character| {
+        let (rows, ..) = rows(&c.kept, &c.data).unwrap();
+        rows.concat().into_iter().filter(|&dot| dot).count() as u64
+    };
+    let count = old[0] + characters.len() as u64;
+    let dots = old[1] + characters.iter().map(black).sum::<u64>();
+    let mut widths: Vec<u64> = field(10).collect();
+    let greatest = old[3].max(*widths.iter().max().unwrap());
+    if old[2] > 0 {
+        widths.push(old[2]);
+    }
+    let least = *widths.iter().min().unwrap();
+    let sum = old[4] + field(14).sum::<u64>();
+    [count, dots, least, greatest, sum, sum / count, sum % count]
 }
 
 /// What a stream answers of which the commands got these answers, and that is broken
