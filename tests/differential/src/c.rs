@@ -162,6 +162,12 @@ extern "C" {
         stream: *const u8,
         stream_len: usize,
     ) -> StreamRead;
+    pub fn mf_add_figures(
+        store: *const u8,
+        store_len: usize,
+        figures: *mut u8,
+        figures_len: usize,
+    ) -> u32;
     pub fn mf_turn_picture(
         picture: *const u8,
         picture_len: usize,

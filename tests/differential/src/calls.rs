@@ -3,6 +3,7 @@
 
 use crate::c;
 use crate::chance::Chance;
+use crate::figures;
 use marlinfold_reference as reference;
 pub use reference::Request;
 use std::fmt;
@@ -72,6 +73,9 @@ pub enum Call {
         request: Request,
         other: Other,
     },
+    AddFigures {
+        figures: Vec<u8>,
+    },
 }
 
 /// W-208: what stands beside the store that a choice from two is made on.
@@ -88,7 +92,7 @@ pub enum Other {
 /// "an answer is the font number, then the refusal number; all of 32 bits"
 pub const ANSWER: usize = 8;
 
-pub const CALLS: usize = 16;
+pub const CALLS: usize = 17;
 
 pub const NAMES: [&str; CALLS] = [
     "make_fresh",
@@ -107,6 +111,7 @@ pub const NAMES: [&str; CALLS] = [
     "check_profile",
     "write_profiled",
     "choose_from_two",
+    "add_figures",
 ];
 
 /// The refusals that documents 01 and 02 list for each call, 0 among them.
@@ -127,6 +132,7 @@ pub const POSSIBLE: [&[usize]; CALLS] = [
     &[0, 1, 2, 6],
     &[0, 1, 2, 6, 12, 14],
     &[0, 1, 2, 11],
+    &[0, 1, 2],
 ];
 
 impl Call {
@@ -149,6 +155,7 @@ impl Call {
             Call::CheckProfile { .. } => 13,
             Call::WriteProfiled { .. } => 14,
             Call::ChooseFromTwo { .. } => 15,
+            Call::AddFigures { .. } => 16,
         }
     }
 
@@ -161,7 +168,8 @@ impl Call {
             | Call::DrawRow { out, .. }
             | Call::DrawPicture { out, .. }
             | Call::WriteFont { out, .. }
-            | Call::WriteProfiled { out, .. } => out,
+            | Call::WriteProfiled { out, .. }
+            | Call::AddFigures { figures: out } => out,
             _ => &[],
         }
     }
@@ -220,6 +228,7 @@ impl fmt::Display for Call {
                 out.len()
             ),
             Call::ReadStream { stream } => write!(f, " {}", Shown(stream)),
+            Call::AddFigures { figures } => write!(f, " {}", figures::Shown(figures)),
             Call::ChooseFromTwo { request, other } => {
                 write!(f, " {request:?}, ")?;
                 match other {
@@ -460,7 +469,8 @@ pub fn ours(
         | Call::DrawRow { out: before, .. }
         | Call::DrawPicture { out: before, .. }
         | Call::WriteFont { out: before, .. }
-        | Call::WriteProfiled { out: before, .. } => out = Some(lending.lend(before, chance)),
+        | Call::WriteProfiled { out: before, .. }
+        | Call::AddFigures { figures: before } => out = Some(lending.lend(before, chance)),
         _ => {}
     }
     let (block, block_len) = match &mut read {
@@ -555,6 +565,7 @@ pub fn ours(
                 let (font, which) = (u64::from(chosen.font), u64::from(chosen.which));
                 Answer::of(chosen.refusal, [font, which, chosen.place])
             }
+            Call::AddFigures { .. } => Answer::bare(c::mf_add_figures(at, len, to, to_len)),
             Call::ReadStream { .. } => {
                 let read = c::mf_read_stream(at, len, block, block_len);
                 Answer::of(read.refusal, [read.done, read.refused, read.place]).with_run(
@@ -653,6 +664,7 @@ pub fn theirs(call: &Call, store: &mut [u8]) -> Outcome {
             let (font, which) = (u64::from(chosen.font), u64::from(chosen.which));
             Answer::of(chosen.refusal, [font, which, chosen.place])
         }
+        Call::AddFigures { .. } => Answer::bare(reference::add_figures(store, &mut output)),
         Call::ReadStream { stream } => {
             let read = reference::read_stream(store, stream);
             Answer::of(read.refusal, [read.done, read.refused, read.place]).with_run(

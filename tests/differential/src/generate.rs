@@ -4,6 +4,7 @@
 
 use crate::calls::{Call, Request, ANSWER};
 use crate::chance::Chance;
+use crate::figures::Figures;
 use marlinfold_reference as reference;
 
 /// A record of a store, its own place and, for a character, its code.
@@ -136,15 +137,20 @@ pub fn character<'a>(store: &'a [u8], font: u32, code: u32) -> Option<Kept<'a>> 
     let record = records(store)
         .into_iter()
         .find(|record| record.font == font && record.code == Some(code))?;
+    Some(kept(store, &record))
+}
+
+/// The character of a record.
+pub fn kept<'a>(store: &'a [u8], record: &Record) -> Kept<'a> {
     let bytes = &store[record.at..record.at + record.length];
-    Some(Kept {
+    Kept {
         class: bytes[13],
         left: signed16(bytes, 16),
         delta_x: signed16(bytes, 24),
         width: high16(bytes, 20),
         height: high16(bytes, 22),
         data: &bytes[CHARACTER_RECORD..],
-    })
+    }
 }
 
 /// Bytes behind the last record.
@@ -444,7 +450,7 @@ impl Generator<'_> {
 
     /// Class 2 data that goes on from where a reading is, up to the last row
     /// unless `most` bytes are reached.
-    fn runs(&mut self, width: usize, mut reading: Reading, most: usize) -> Vec<u8> {
+    pub fn runs(&mut self, width: usize, mut reading: Reading, most: usize) -> Vec<u8> {
         let chance = &mut *self.chance;
         let mut data = Vec::new();
         // Some data is made of the fewest bytes, some has zero runs anywhere.
@@ -1073,7 +1079,7 @@ impl Generator<'_> {
             return self.profile_call(store, shown, font, code);
         }
         let needs = |of: fn(&Kept) -> usize| character(shown, font, code).map_or(40, |c| of(&c));
-        match self.chance.below(37) {
+        match self.chance.below(38) {
             0 if self.chance.once_in(6) => Call::MakeFresh,
             0..=5 => Call::DownloadFont {
                 block: self.header(),
@@ -1128,6 +1134,9 @@ impl Generator<'_> {
             30 | 31 => self.sheet(shown),
             35 => Call::CheckProfile { font },
             36 => self.write_profiled(store, font),
+            37 => Call::AddFigures {
+                figures: self.figures(&Figures::zero(), shown),
+            },
             _ => Call::ReadStream {
                 stream: self.stream(shown),
             },
@@ -1328,7 +1337,7 @@ pub struct Reading {
 }
 
 impl Reading {
-    fn new(height: usize) -> Reading {
+    pub fn new(height: usize) -> Reading {
         Reading {
             rows_left: height,
             row: None,

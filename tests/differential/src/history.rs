@@ -4,6 +4,7 @@
 use crate::book::{self, Book, Font, Spelled, SOFT};
 use crate::calls::{entries, ours, theirs, Answer, Call, Lending, Lent, Request, ANSWER};
 use crate::chance::Chance;
+use crate::figures::{Added, FIGURES};
 use crate::generate::{self, Generator, Reading, Theme, CHARACTER_RECORD, FONT_KEPT, KEPT};
 use crate::met::Met;
 use crate::profile;
@@ -152,7 +153,7 @@ impl History<'_> {
         Ok(self.both_with_output(pair, call)?.0)
     }
 
-    fn both_with_output(&mut self, pair: &mut Pair, call: &Call) -> Found<(Answer, Vec<u8>)> {
+    pub fn both_with_output(&mut self, pair: &mut Pair, call: &Call) -> Found<(Answer, Vec<u8>)> {
         let before = pair.theirs.clone();
         let (answer, out) = self.only_ours(&mut pair.ours, call)?;
         let expected = theirs(call, &mut pair.theirs);
@@ -192,6 +193,7 @@ impl History<'_> {
             return complain(format!("answered {answer:?}, numbers not 0"));
         }
         self.rows_by_their_rules(&before, call, &answer)?;
+        self.figures_by_their_words(pair, call, &answer, &out)?;
         self.met.count(call, &answer)?;
         self.situations(call, &answer, &before, &pair.theirs);
         Ok((answer, out))
@@ -218,6 +220,47 @@ impl History<'_> {
         if let Some(sent) = sent {
             sent.met(answer, self.met);
         }
+        Ok(())
+    }
+
+    /// W-210: figures are refused by the request's list alone, 1 where another call says
+    /// that there is no store; otherwise they are what they were with those of the store, as
+    /// it gives them when it is added to zeros.
+    fn figures_by_their_words(
+        &mut self,
+        pair: &mut Pair,
+        call: &Call,
+        answer: &Answer,
+        out: &[u8],
+    ) -> Found<()> {
+        let Call::AddFigures { figures } = call else {
+            return Ok(());
+        };
+        let out_of_range = Call::RemoveFont { font: 32_768 };
+        let (removal, _) = self.only_ours(&mut pair.ours, &out_of_range)?;
+        if (removal.refusal == 1) != (answer.refusal == 1) {
+            return Err(format!(
+                "{call}\n  answered {answer:?}, a removal {removal:?}"
+            ));
+        }
+        let mut alone = Vec::new();
+        if answer.refusal == 0 {
+            let figures = vec![0; FIGURES];
+            let from_zeros = Call::AddFigures { figures };
+            (_, alone) = self.only_ours(&mut pair.ours, &from_zeros)?;
+        }
+        let added = Added {
+            store: &pair.theirs,
+            before: figures,
+            answer,
+            after: out,
+        };
+        if answer.refusal != 1 {
+            added
+                .check(&alone)
+                .map_err(|what| format!("{call}\n  answered {answer:?}, {what}"))?;
+        }
+        added.met(self.met);
         Ok(())
     }
 

@@ -14,6 +14,8 @@ mod c;
 mod calls;
 mod cartridge;
 mod chance;
+mod collection;
+mod figures;
 mod generate;
 mod history;
 mod met;
@@ -32,8 +34,8 @@ const DEFAULT_SEED: u64 = 1;
 const DEFAULT_COUNT: u64 = 40_000;
 /// Fewer histories than these need not meet everything possible.
 const ENOUGH: u64 = 10_000;
-/// Nor fewer than these what W-209 is about.
-const ENOUGH_FOR_BAD_RUNS: u64 = 2_000;
+/// Nor fewer than these what W-209 and W-210 are about.
+const ENOUGH_FOR_LATER: u64 = 2_000;
 /// Later differences mostly repeat the first.
 const DIFFERENCES_SHOWN: u64 = 5;
 /// Seconds that no history takes, even under a memory checker.
@@ -167,6 +169,16 @@ fn run(given: &Arguments, first: u64) -> Met {
                 &mut met,
             )
         })
+        .and_then(|()| {
+            collection::run(
+                given.seed,
+                number,
+                lending,
+                given.small,
+                given.trace,
+                &mut met,
+            )
+        })
         .and_then(|()| turning::run(given.seed, number, lending, given.trace));
         if let Err(difference) = found {
             println!("seed {} history {number}: {difference}", given.seed);
@@ -205,7 +217,7 @@ fn main() -> ExitCode {
     let never = match given.count {
         _ if given.small => 0,
         ENOUGH.. => of_calls.all + of_turning,
-        ENOUGH_FOR_BAD_RUNS.. => of_calls.bad_runs,
+        ENOUGH_FOR_LATER.. => of_calls.later,
         _ => 0,
     };
     let mut differences = DIFFERENCES.load(Ordering::Relaxed);

@@ -184,26 +184,80 @@ const BAD_RUNS: [&str; 22] = [
     "the same, and the first in row 0 with no dot filled",
 ];
 
+/// Those of W-210, of which the same holds.
+const FIGURES: [&str; 47] = [
+    "figures of a store of class 1",
+    "figures of a store of class 2",
+    "figures of a store of both classes",
+    "figures of a store without characters",
+    "figures of an incomplete class 1 character",
+    "figures of an incomplete class 2 character",
+    "figures, padding bits set in class 1 data",
+    "figures, black dots in an unfinished row",
+    "figures, black dots repeated below the last row",
+    "figures, two widths of a code in one store",
+    "figures, several characters of a code in one store",
+    "figures, a least width of 0 beside a count",
+    "figures, a least width without a count",
+    "figures, a least width lowered",
+    "figures, a least width that stays",
+    "figures, a greatest width raised",
+    "figures, a greatest width that stays",
+    "figures, a width that no character has",
+    "figures, a sum without a count",
+    "figures, a mean without a count",
+    "figures, a mean changed by a store",
+    "figures, a mean with a rest",
+    "figures, a count raised by its bound",
+    "figures, a sum raised by its bound",
+    "figures, a count handed in at the bound",
+    "figures, dots handed in at the bound",
+    "figures, a sum handed in at the bound",
+    "figures, numbers of a code that the store lacks",
+    "figures, the 64th store",
+    "figures, 1 beside figures of another length",
+    "figures, 1 beside numbers above their bounds",
+    "figures, 2 for a shorter length",
+    "figures, 2 for a longer length",
+    "figures, 2 for the 65th store alone",
+    "figures, 2 for more than 64 stores so far",
+    "figures, 2 for a number above 0 before the first store",
+    "figures, 2 for a count one above the bound",
+    "figures, 2 for dots one above the bound",
+    "figures, 2 for a sum one above the bound",
+    "figures, 2 for a count in a code that the store lacks",
+    "figures, 2 for dots in a code that the store lacks",
+    "figures, 2 for a sum in a code that the store lacks",
+    "collection of several stores",
+    "collection, two widths of a code in two stores",
+    "collection in another order",
+    "collection of 64 stores",
+    "collection, a 65th store refused",
+];
+
 fn situations() -> impl Iterator<Item = &'static str> {
-    SITUATIONS.iter().chain(&BAD_RUNS).copied()
+    SITUATIONS.iter().chain(&BAD_RUNS).chain(&FIGURES).copied()
 }
+
+const ALL_SITUATIONS: usize = SITUATIONS.len() + BAD_RUNS.len() + FIGURES.len();
 
 pub struct Met {
     answers: [[u64; REFUSALS]; CALLS],
-    situations: [u64; SITUATIONS.len() + BAD_RUNS.len()],
+    situations: [u64; ALL_SITUATIONS],
 }
 
-/// How many possible answers and situations were never met: of all, and of W-209's.
+/// How many possible answers and situations were never met: of all, and of W-209's and
+/// W-210's.
 pub struct Never {
     pub all: usize,
-    pub bad_runs: usize,
+    pub later: usize,
 }
 
 impl Met {
     pub fn new() -> Met {
         Met {
             answers: [[0; REFUSALS]; CALLS],
-            situations: [0; SITUATIONS.len() + BAD_RUNS.len()],
+            situations: [0; ALL_SITUATIONS],
         }
     }
 
@@ -263,10 +317,10 @@ impl Met {
             println!("{times:>8}  {name}");
             never += usize::from(times == 0);
         }
-        let bad_runs = &self.situations[SITUATIONS.len()..];
+        let later = &self.situations[SITUATIONS.len()..];
         Never {
             all: never,
-            bad_runs: bad_runs.iter().filter(|&&times| times == 0).count(),
+            later: later.iter().filter(|&&times| times == 0).count(),
         }
     }
 }

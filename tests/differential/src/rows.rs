@@ -6,19 +6,27 @@ use crate::generate::{character, high16};
 use crate::met::Met;
 
 /// A row of class 2 data: its repeat count, and its runs as far as the data goes.
-struct Row<'a> {
-    repeats: usize,
-    runs: &'a [u8],
+pub struct Row<'a> {
+    pub repeats: usize,
+    pub runs: &'a [u8],
 }
 
-fn sum(runs: &[u8]) -> usize {
+impl Row<'_> {
+    /// "white and black runs in turn, white first"
+    pub fn black(&self) -> usize {
+        let black = self.runs.iter().skip(1).step_by(2);
+        black.map(|&run| usize::from(run)).sum()
+    }
+}
+
+pub fn sum(runs: &[u8]) -> usize {
     runs.iter().map(|&run| usize::from(run)).sum()
 }
 
 /// "a repeat count, then white and black runs in turn, white first, each one byte, until
 /// they sum to the width; the row is drawn once and then as often again as the count
 /// says", up to the height. The last row may be unfinished, or pass the width.
-fn spelled(width: usize, height: usize, data: &[u8]) -> Vec<Row<'_>> {
+pub fn spelled(width: usize, height: usize, data: &[u8]) -> Vec<Row<'_>> {
     let mut rows = Vec::new();
     let mut drawn = 0;
     let mut rest = data;
