@@ -2,7 +2,7 @@
 
 use crate::block::Descriptor;
 use crate::dots::black_dots;
-use crate::store::{Character, View};
+use crate::store::View;
 use crate::Refusal;
 
 /// "the stores so far, then for codes 0 to 255 these seven in order, 8 bytes each, low
@@ -56,11 +56,11 @@ pub fn add_figures(view: &View, figures: &mut [u8]) -> Result<(), Refusal> {
         return Err(Refusal::OutOfRange);
     }
     let mut met = [false; CODES];
-    view.characters().for_each(|character| {
-        let code = character.code as usize;
+    for (code, kept_and_data) in view.characters() {
+        let code = code as usize;
         met[code] = true;
-        add_character(&mut codes[code], &character);
-    });
+        add_character(&mut codes[code], kept_and_data);
+    }
     // "Codes a store lacks keep their bytes".
     let has = codes.iter_mut().zip(met).filter(|(_, met)| *met);
     has.for_each(|(figures, _)| put_mean(figures));
@@ -87,10 +87,11 @@ fn any_above(codes: &[OfACode; CODES], stores: u64) -> bool {
 
 /// All but the mean. The numbers handed in are within bounds, or only compared: none
 /// passes 64 bits.
-fn add_character(figures: &mut OfACode, character: &Character) {
-    let descriptor = Descriptor(character.kept);
+fn add_character(figures: &mut OfACode, kept_and_data: &[u8]) {
+    let kept = kept_and_data.first_chunk();
+    let descriptor = Descriptor(kept.expect("a character has its kept bytes"));
     let width = u64::from(descriptor.width());
-    let dots = black_dots(descriptor.shape(), character.data);
+    let dots = black_dots(descriptor.shape(), kept_and_data);
     put(figures, COUNT, number(figures, COUNT) + 1);
     put(figures, DOTS, number(figures, DOTS) + dots);
     // "a least width of 0 handed in counts as none"

@@ -407,16 +407,16 @@ impl<'a> View<'a> {
         })
     }
 
-    /// Every font's characters, by rising number and code.
-    pub fn characters(&self) -> impl Iterator<Item = Character<'a>> {
-        let records = self.records;
-        let mut at = MARK_RECORD;
+    /// Every font's characters, by rising number and code: their codes, and their kept
+    /// bytes and data as one part.
+    pub fn characters(&self) -> impl Iterator<Item = (u32, &'a [u8])> {
+        let mut rest = &self.records[MARK_RECORD..];
         std::iter::from_fn(move || {
-            while at < records.len() {
-                let record = at;
-                at += length_at(records, at);
-                if kind_at(records, record) == CHARACTER_KIND {
-                    return Some(character_at(records, record));
+            while let Some(head) = rest.first_chunk::<CHARACTER_KEPT>() {
+                let record;
+                (record, rest) = rest.split_at(low32(head, 0) as usize);
+                if low16(head, 4) == CHARACTER_KIND {
+                    return Some((u32::from(low16(head, 8)), &record[CHARACTER_KEPT..]));
                 }
             }
             None
