@@ -215,10 +215,9 @@ impl Added<'_> {
         if after.stores != before.stores + 1 || alone.stores != 1 {
             return Err(format!("but there are {} stores", after.stores));
         }
-        let counts = counts_of(self.store);
-        for code in 0..CODES {
+        for (code, count) in counts_of(self.store).into_iter().enumerate() {
             let numbers = [&before, &after, &alone].map(|figures| &figures.codes[code]);
-            self.check_code(counts[code], numbers)
+            self.check_code(count, numbers)
                 .map_err(|what| format!("but code {code} {what}: {numbers:?}"))?;
         }
         Ok(())
