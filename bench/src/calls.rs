@@ -63,6 +63,8 @@ pub enum Call {
         font: u32,
     },
     ReadStream,
+    /// The figures are the output.
+    AddFigures,
     TurnPicture {
         width: u32,
         height: u32,
@@ -243,6 +245,7 @@ pub fn ours(call: Call, store: &mut [u8], input: &[u8], out: &mut [u8]) -> Answe
                 let numbers = [r.done, r.refused, r.place];
                 stream_read(r.refusal, numbers, [r.row, r.filled, r.run])
             }
+            Call::AddFigures => bare(c::mf_add_figures(at, len, to, to_len)),
             Call::TurnPicture {
                 width,
                 height,
@@ -310,6 +313,7 @@ pub fn theirs(call: Call, store: &mut [u8], input: &[u8], out: &mut [u8]) -> Ans
             let numbers = [r.done, r.refused, r.place];
             stream_read(r.refusal, numbers, [r.row, r.filled, r.run])
         }
+        Call::AddFigures => bare(reference::add_figures(store, out)),
         Call::TurnPicture {
             width,
             height,

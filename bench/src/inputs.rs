@@ -17,7 +17,7 @@ pub struct Input {
 /// A name, and its input for a store of a length.
 pub type Named = (&'static str, fn(usize) -> Input);
 
-pub const INPUTS: [Named; 46] = [
+pub const INPUTS: [Named; 52] = [
     ("choose, store full of fonts", choose_among_fonts),
     ("choose in mode 600, 600 dpi fonts", choose_among_fine_fonts),
     ("choose in mode 600, both mixed", choose_among_mixed_fonts),
@@ -71,6 +71,24 @@ pub const INPUTS: [Named; 46] = [
     ("read a stream of characters, half bad", read_half_bad),
     ("read a stream of falling fonts", read_falling_fonts),
     ("read a stream of continuations", read_continuations),
+    ("figures, many small of class 1", |length| {
+        figures(many(length, 1, 5, 2))
+    }),
+    ("figures, 20 x 25 of class 1", |length| {
+        figures(many(length, 1, 20, 25))
+    }),
+    ("figures, two large of class 1", |length| {
+        figures(two_large(length, 1))
+    }),
+    ("figures, many small of class 2", |length| {
+        figures(many(length, 2, 5, 2))
+    }),
+    ("figures, 20 x 25 of class 2", |length| {
+        figures(many(length, 2, 20, 25))
+    }),
+    ("figures, two large of class 2", |length| {
+        figures(two_large(length, 2))
+    }),
     ("turn 1024 x 256 dots by a quarter", |length| {
         turn(1024, 256, 1, length)
     }),
@@ -697,6 +715,98 @@ fn read_continuations(length: usize) -> Input {
         given: stream,
         ..input(fresh(length), Call::ReadStream)
     }
+}
+
+/// "14,344 lent bytes" (W-210)
+const FIGURES: usize = 14_344;
+
+fn figures(store: Vec<u8>) -> Input {
+    Input {
+        out: FIGURES,
+        ..input(store, Call::AddFigures)
+    }
+}
+
+/// Numbers that look like chance, the same each time, so that characters differ.
+struct Varied(u32);
+
+impl Varied {
+    fn byte(&mut self) -> u8 {
+        self.0 = self.0.wrapping_mul(1_664_525).wrapping_add(1_013_904_223);
+        (self.0 >> 24) as u8
+    }
+
+    /// Data of a complete picture: of class 1 with any padding bits, of class 2 with strokes
+    /// of 1 to 7 dots and no repeats.
+    fn data(&mut self, class: u8, width: usize, height: usize) -> Vec<u8> {
+        match class {
+            1 => (0..width.div_ceil(8) * height)
+                .map(|_| self.byte())
+                .collect(),
+            _ => (0..height).flat_map(|_| self.row(width)).collect(),
+        }
+    }
+
+    fn row(&mut self, width: usize) -> Vec<u8> {
+        let mut row = vec![0];
+        let mut left = width;
+        while left > 0 {
+            let run = usize::from(1 + self.byte() % 7).min(left);
+            row.push(run as u8);
+            left -= run;
+        }
+        row
+    }
+}
+
+/// Fonts of codes 0 to 255, of characters of this size, that fill the store.
+fn many(length: usize, class: u8, width: usize, height: usize) -> Vec<u8> {
+    let mut store = fresh(length);
+    let mut varied = Varied(210);
+    let mut left = length - MARK_RECORD;
+    for at in 0.. {
+        let (font, code) = (at / 256, at % 256);
+        let header_bytes = if code == 0 { FONT_RECORD } else { 0 };
+        let block = first_block(class, width, height, &varied.data(class, width, height));
+        let record = header_bytes + CHARACTER_RECORD + block.len() - 16;
+        if record > left {
+            break;
+        }
+        left -= record;
+        if code == 0 {
+            let header = header(font as usize);
+            assert_eq!(reference::download_font(&mut store, &header, font), 0);
+        }
+        put_character(&mut store, &block, font, code);
+    }
+    store
+}
+
+/// Two characters that fill the store, rows of 1017 dots, so that there is padding.
+fn two_large(length: usize, class: u8) -> Vec<u8> {
+    let most = (length - MARK_RECORD - FONT_RECORD) / 2 - CHARACTER_RECORD;
+    let mut store = fresh(length);
+    let mut varied = Varied(210);
+    assert_eq!(reference::download_font(&mut store, &header(1), 5), 0);
+    for code in [65, 66] {
+        let mut height = 0;
+        let mut data = Vec::new();
+        while height < 255 {
+            let row = varied.data(class, 1017, 1);
+            if data.len() + row.len() > most.min(32_751) {
+                break;
+            }
+            data.extend(row);
+            height += 1;
+        }
+        put_character(
+            &mut store,
+            &first_block(class, 1017, height, &data),
+            5,
+            code,
+        );
+    }
+    store
 }
 
 /// A picture of that height at 64 KiB, and of so much fewer rows at less.

@@ -33,6 +33,10 @@ impl Bench {
     /// One call on the store as it is given.
     fn time(&mut self, side: Side) -> (Duration, Answer) {
         self.store.copy_from_slice(&self.input.store);
+        if let Call::AddFigures = self.input.call {
+            // Each time the first store.
+            self.out.fill(0);
+        }
         let (call, given) = (black_box(self.input.call), &self.input.given);
         let start = Instant::now();
         let answer = side(call, &mut self.store, given, &mut self.out);
@@ -88,6 +92,42 @@ fn sheets(measured: &[(&str, f64)]) {
     }
 }
 
+/// The ones in a store's bytes, eight bytes at a time.
+fn popcount(store: &[u8]) -> u32 {
+    let (words, rest) = store.as_chunks();
+    let ones = words
+        .iter()
+        .map(|&word| u64::from_le_bytes(word).count_ones());
+    ones.sum::<u32>() + rest.iter().map(|byte| byte.count_ones()).sum::<u32>()
+}
+
+/// Beside the time of each call on figures (W-210), at 64 KiB, that of a plain count of the
+/// ones in all bytes of its store.
+fn limits(measured: &[(&str, f64)]) {
+    for (name, make) in INPUTS
+        .iter()
+        .filter(|(name, _)| name.starts_with("figures, "))
+    {
+        let Some((_, ours)) = measured.iter().find(|(other, _)| other == name) else {
+            continue;
+        };
+        let store = make(SIZES[2]).store;
+        let time = |_| {
+            let start = Instant::now();
+            black_box(popcount(black_box(&store)));
+            start.elapsed()
+        };
+        let best = (0..TURNS / 8).map(time).min().unwrap_or_default();
+        let plain = best.as_nanos() as f64;
+        println!(
+            "{name:38} {:8.2}, popcount of the store {:6.2}, ratio {:5.2}",
+            ours / 1000.0,
+            plain / 1000.0,
+            ours / plain
+        );
+    }
+}
+
 fn main() {
     let part = std::env::args().nth(1).unwrap_or_default();
     println!(
@@ -125,6 +165,7 @@ fn main() {
     }
     worst.sort_by(|a, b| b.0.total_cmp(&a.0));
     sheets(&measured);
+    limits(&measured);
     println!(
         "bench: {} of {} ratios above 1.00",
         worst.len(),
