@@ -16,7 +16,7 @@ use Rattle.pictures.specs.Dots.{bit, bits, pack, dotsIn, unpack}
 use Rattle.pictures.specs.Rows.{bitmapRow, rowDots, rowBytes, picture}
 use Rattle.blackdots.specs.Black.{blackIn, blackDots, onesOf}
 use Rattle.blackdots.specs.Counting.{overhang}
-use Rattle.blackdots.proofs.Ones.{ones-front}
+use Rattle.blackdots.proofs.ByteOnes.{ones-front}
 
 -- ── the dots of a number
 pub length-dots : (k x : ℕ) → length (dotsIn k x) ≡ k

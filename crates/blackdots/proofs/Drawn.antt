@@ -10,7 +10,7 @@ use Rattle.pictures.specs.Dots.{bits, pack, dotsIn, unpack}
 use Rattle.pictures.specs.Rows.{rowDots, rowBytes, picture}
 use Rattle.pictures.proofs.Pictures.{length-picture}
 use Rattle.blackdots.specs.Black.{blackIn, blackDots, onesOf}
-use Rattle.blackdots.proofs.Ones.{ones-append}
+use Rattle.blackdots.proofs.ByteOnes.{ones-append}
 use Rattle.blackdots.proofs.BitmapDots.{length-dots, black-append, unpack-append, black-most, bits-below, black-byte}
 
 ones-packed : (n : ℕ) (ds : List Bool) → onesOf (pack n ds) ≡ blackIn (unpack (pack n ds))

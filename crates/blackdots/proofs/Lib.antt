@@ -1,4 +1,5 @@
-pub mod Ones
+pub mod ByteOnes
+mod Adding
 mod BitmapDots
 mod RunDots
 pub mod Drawn

@@ -1,11 +1,13 @@
 -- For the code alone: black dots by the ones of bytes and by the runs of rows.
 use Prim.Native.Nat.{ℕ, zero, suc, _+_, _*_, _-_, _%_, _^_}
 use mathlib.Core.List.{List}
+use lib.Bits.{bitAnd}
 use lib.Count.{ones}
 use lib.ListN.{getD}
 use mathlib.Core.Bool.{Bool, true, false}
 use Rattle.pictures.specs.Drawing.{Read, none, whole}
 use Rattle.blackdots.specs.Black.{blackIn}
+use Rattle.blackdots.specs.declared.ones.Tallied.{Tallied}
 use Rattle.blackdots.specs.declared.compressed.BlackLine.{BlackLine}
 use Rattle.blackdots.specs.declared.compressed.BlackLine.the-variants.{Ends, Unfinished}
 
@@ -13,6 +15,15 @@ use Rattle.blackdots.specs.declared.compressed.BlackLine.the-variants.{E
 unfoldable pub overhang : ℕ → ℕ → List ℕ → ℕ → ℕ
 overhang n pad d zero = 0
 overhang n pad d (suc h) = overhang n pad d h + ones (getD d (h * n + (n - 1)) 0 % 2 ^ pad)
+
+-- the ones of k bytes that stand n apart from a place on, masked
+unfoldable pub onesApart : ℕ → ℕ → List ℕ → ℕ → ℕ → ℕ
+onesApart n mask d at zero = 0
+onesApart n mask d at (suc k) = onesApart n mask d at k + ones (bitAnd (getD d (at + k * n) 0) mask)
+
+-- what ones by places, and eights of them, come to
+unfoldable pub onesSaid : Tallied → ℕ
+onesSaid t = ones (t .ones) + 2 * ones (t .twos) + 4 * ones (t .fours) + 8 * t .eights
 
 -- what reading a row of class 2 data counts
 abbrev pub endsAt : Bool → ℕ → ℕ → BlackLine

@@ -1,4 +1,6 @@
 // The black dots of a picture, counted without drawing it.
-pub mod bitmap;
+mod beyond;
+mod bitmap;
 pub mod compressed;
+mod ones;
 pub mod picture;

@@ -23,7 +23,7 @@ use Rattle.form.proofs.RecordRuns.{decoded}
 use Rattle.store.specs.Calls.{onto, tellingCharacter}
 use Rattle.store.specs.Drawing.{pictureOf, drawingPicture}
 use Rattle.blackdots.specs.Black.{blackDots, onesOf}
-use Rattle.blackdots.proofs.Ones.{ones-append, ones-parts, ones-zeros}
+use Rattle.blackdots.proofs.ByteOnes.{ones-append, ones-parts, ones-zeros}
 use Rattle.blackdots.proofs.Drawn.{ones-drawn}
 use Rattle.collection.proofs.Bounds.{kept-picture, kept-wide}
 use Rattle.collection.proofs.Passing.{records-are}

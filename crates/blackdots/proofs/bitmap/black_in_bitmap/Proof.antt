@@ -1,5 +1,5 @@
 use Rattle.blackdots.proofs.BitmapDots.{black-bitmap}
-use Rattle.blackdots.proofs.Ones.{overhang-zero}
+use Rattle.blackdots.proofs.ByteOnes.{overhang-zero}
 use Rattle.blackdots.specs.Counting.{overhang}
 use Rattle.blackdots.specs.Black.{blackDots, onesOf}
 use Rattle.pictures.specs.Size.{rowSize}

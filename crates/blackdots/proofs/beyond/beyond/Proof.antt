@@ -3,8 +3,8 @@ use Prim.Native.Nat.{_+_, _-_, _%_}
 use lib.Pow.{pow-pos, pow-mono}
 use Rattle.pictures.proofs.Packing.{shifted}
 use borrow.Author.Needs.{needs}
-use Rattle.blackdots.proofs.bitmap.beyond.Statement.{statement}
-use Rattle.blackdots.proofs.bitmap.beyond.Tie as tie
+use Rattle.blackdots.proofs.beyond.beyond.Statement.{statement}
+use Rattle.blackdots.proofs.beyond.beyond.Tie as tie
 
 sub-result-2 : tie.Need-sub-result-2
 sub-result-2 c = rw (shifted ((c .args .width - 1) % 8 + 1) (omega arith)) (pow-pos (8 - ((c .args .width - 1) % 8 + 1)))

@@ -2,7 +2,7 @@
 use Prim.Native.Nat.{ℕ, zero, suc, _+_, _*_, _-_, _%_, _^_, _<_, _≤_}
 use mathlib.Core.Path.{_≡_, refl, sym, ap, _∙_}
 use mathlib.Core.List.{List, [], _∷_, _++_}
-use native.Mathlib.Nat.{zero-add, add-zero, add-comm, mul-comm, add-mul, zero-mod, mod-one, lt-of-le-of-lt}
+use native.Mathlib.Nat.{zero-add, add-zero, zero-mul, add-comm, mul-comm, add-mul, zero-mod, mod-one, lt-of-le-of-lt}
 use mathlib.Core.Bool.{Bool, true, false}
 use lib.Dec.{leb}
 use borrow.Author.Tests.{leb-true, leb-false}
@@ -13,7 +13,7 @@ use lib.ListN.{length, take, drop, getD, replicate, drop-of-length-le}
 use lib.Seq.{drop-cons, drop-drop, take-nil}
 use lib.Count.{ones, ones-cat, ones-le}
 use Rattle.blackdots.specs.Black.{onesOf}
-use Rattle.blackdots.specs.Counting.{overhang}
+use Rattle.blackdots.specs.Counting.{overhang, onesApart, onesSaid}
 
 -- a list's ones are those of its front and of its rest
 pub ones-parts : (j : ℕ) (s : List ℕ) → onesOf s ≡ onesOf (take j s) + onesOf (drop j s)
@@ -38,6 +38,19 @@ pub ones-zeros : (n : ℕ) → onesOf (replicate n 0) ≡ 0
 unfolding onesOf ones
 ones-zeros zero = refl
 ones-zeros (suc n) = rw zero-add (ones-zeros n)
+
+pub ones-split : (j k at : ℕ) (b : List ℕ) → onesOf (take (j + k) (drop at b)) ≡ onesOf (take j (drop at b)) + onesOf (take k (drop (at + j) b))
+ones-split j k at b = ones-front j k (drop at b) ∙ ap (λ (z : List ℕ). onesOf (take j (drop at b)) + onesOf (take k z)) (drop-drop j at b)
+
+-- four parts of 16 bytes
+pub block-ones : (at : ℕ) (b : List ℕ)
+    → onesOf (take 64 (drop at b)) ≡ onesOf (take 16 (drop at b)) + onesOf (take 16 (drop (at + 16) b)) + onesOf (take 16 (drop (at + 32) b)) + onesOf (take 16 (drop (at + 48) b))
+block-ones at b =
+    let p : at + 32 + 16 ≡ at + 48 = omega arith in
+    let q : at + 16 + 16 ≡ at + 32 = omega arith in
+    let e : onesOf (take 16 (drop (at + 32 + 16) b)) ≡ onesOf (take 16 (drop (at + 48) b)) = ap (λ (k : ℕ). onesOf (take 16 (drop k b))) p in
+    let f : onesOf (take 16 (drop (at + 16 + 16) b)) ≡ onesOf (take 16 (drop (at + 32) b)) = ap (λ (k : ℕ). onesOf (take 16 (drop k b))) q in
+    omega (arith, ones-split 32 32 at b, ones-split 16 16 at b, ones-split 16 16 (at + 32) b, e)
 
 -- two numbers as one: the low one has m bits
 pub ones-joined : (m k x y at : ℕ) (b : List ℕ) → ones x ≡ onesOf (take k (drop at b)) → ones y ≡ onesOf (take k (drop (at + k) b)) → x < 2 ^ m
@@ -66,6 +79,11 @@ ones-end n m i b e l =
     let s : onesOf (drop i b) ≡ 0 = ap onesOf (drop-of-length-le b {i = i} l) in
     omega (arith, e, s)
 
+-- before the first block
+pub said-none : (b : List ℕ) → onesSaid (record { ones = 0; twos = 0; fours = 0; eights = 0 }) ≡ onesOf (take 0 b)
+unfolding onesSaid onesOf ones
+said-none b = refl
+
 -- ── the last bytes of rows
 past : (b : List ℕ) (i : ℕ) → length b ≤ i → getD b i 0 ≡ 0
 past [] i l = refl
@@ -75,6 +93,10 @@ past (x ∷ b) (suc i) l = past b i (omega arith)
 ones-zero : (k : ℕ) → ones (0 % k) ≡ 0
 unfolding ones
 ones-zero k = rw zero-mod
+
+pub overhang-start : (n pad : ℕ) (b : List ℕ) → 0 ≡ overhang n pad b 0
+unfolding overhang
+overhang-start n pad b = refl
 
 -- rows from t on have no last byte
 overhang-none : (n pad : ℕ) (b : List ℕ) (t j : ℕ) → length b ≤ t * n + (n - 1) → overhang n pad b (t + j) ≡ overhang n pad b t
@@ -104,6 +126,14 @@ unfolding overhang
 overhang-next n pad mask k at t b e p q =
     rw (add-one, e, and-mask (getD b at 0) pad, p, q)
 
+-- the row after j more
+pub overhang-more : (n pad mask k from at t j : ℕ) (b : List ℕ) → mask ≡ 2 ^ pad - 1 → from ≡ t * n + (n - 1) → at ≡ from + j * n → overhang n pad b t + k ≡ overhang n pad b (t + j)
+    → overhang n pad b t + (k + ones (bitAnd (getD b at 0) mask)) ≡ overhang n pad b (t + (j + 1))
+overhang-more n pad mask k from at t j b e p q r =
+    let z : t + (j + 1) ≡ t + j + 1 = omega arith in
+    let s = overhang-next n pad mask (overhang n pad b (t + j)) at (t + j) b e (omega (arith, p, q, add-mul t j n)) refl in
+    rw z (omega (arith, r, s))
+
 pub ones-masked : (x mask : ℕ) → x < 256 → ones (bitAnd x mask) ≤ 8
 ones-masked x mask l = ones-le 8 (bitAnd x mask) (lt-of-le-of-lt (and-le-l x mask) l)
 
@@ -112,3 +142,33 @@ pub overhang-zero : (n : ℕ) (b : List ℕ) (t : ℕ) → overhang n 0 b t ≡ 
 unfolding overhang ones
 overhang-zero n b zero = refl
 overhang-zero n b (suc t) = rw (mod-one (getD b (t * n + (n - 1)) 0), overhang-zero n b t)
+
+-- ── bytes that stand apart
+apart-add : (n mask at j k : ℕ) (b : List ℕ) → onesApart n mask b at (j + k) ≡ onesApart n mask b at j + onesApart n mask b (at + j * n) k
+unfolding onesApart
+apart-add n mask at j zero b = rw add-zero (omega arith)
+apart-add n mask at j (suc k) b =
+    let e : j + suc k ≡ suc (j + k) = omega arith in
+    let p : at + (j + k) * n ≡ at + j * n + k * n = omega (arith, add-mul j k n) in
+    rw (e, p) (omega (arith, apart-add n mask at j k b))
+
+pub apart-joined : (m j n mask x y at : ℕ) (b : List ℕ) → ones x ≡ onesApart n mask b at j → ones y ≡ onesApart n mask b (at + j * n) j → x < 2 ^ m
+    → ones (x + 2 ^ m * y) ≡ onesApart n mask b at (j + j)
+apart-joined m j n mask x y at b ex ey l =
+    let form : x + 2 ^ m * y ≡ y * 2 ^ m + x = add-comm x (2 ^ m * y) ∙ ap (λ (z : ℕ). z + x) (mul-comm (2 ^ m) y) in
+    let e : ones (x + 2 ^ m * y) ≡ ones y + ones x = ap ones form ∙ ones-cat m y x l in
+    omega (arith, e, ex, ey, apart-add n mask at j j b)
+
+pub apart-one : (n mask at : ℕ) (b : List ℕ) → ones (bitAnd (getD b at 0) mask) ≡ onesApart n mask b at 1
+unfolding onesApart
+apart-one n mask at b = let z : at + 0 * n ≡ at = omega (arith, zero-mul n) in rw z (omega arith)
+
+-- k rows more, of which the first has its last byte at a place
+pub apart-overhang : (n pad mask at t k : ℕ) (b : List ℕ) → mask ≡ 2 ^ pad - 1 → at ≡ t * n + (n - 1) → overhang n pad b (t + k) ≡ overhang n pad b t + onesApart n mask b at k
+unfolding onesApart
+apart-overhang n pad mask at t zero b e p = rw add-zero (omega arith)
+apart-overhang n pad mask at t (suc k) b e p =
+    let z : t + suc k ≡ t + k + 1 = omega arith in
+    let q : at + k * n ≡ (t + k) * n + (n - 1) = omega (arith, p, add-mul t k n) in
+    let i = apart-overhang n pad mask at t k b e p in
+    rw z (omega (arith, i, overhang-next n pad mask (overhang n pad b (t + k)) (at + k * n) (t + k) b e q refl))

@@ -1,5 +1,5 @@
 use mathlib.Core.List.{List}
-use Rattle.blackdots.proofs.Ones.{ones-joined, ones-byte}
+use Rattle.blackdots.proofs.ByteOnes.{ones-joined, ones-byte}
 use Rattle.blackdots.specs.Black.{onesOf}
 use Prim.Native.Nat.{ℕ, _+_, _-_, _≤_}
 use mathlib.Core.Path.{_≡_, sym, ap, _∙_}
@@ -8,8 +8,8 @@ use lib.ListN.{length, take, drop}
 use native.Mathlib.Omega.{arith}
 use denote.Ref.{now}
 use borrow.Author.Needs.{needs}
-use Rattle.blackdots.proofs.bitmap.two_at.Statement.{statement}
-use Rattle.blackdots.proofs.bitmap.two_at.Tie as tie
+use Rattle.blackdots.proofs.ones.two_at.Statement.{statement}
+use Rattle.blackdots.proofs.ones.two_at.Tie as tie
 
 returns : tie.Need-returns
 returns c =

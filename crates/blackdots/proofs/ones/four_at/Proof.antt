@@ -1,10 +1,10 @@
-use Rattle.blackdots.proofs.Ones.{ones-joined}
+use Rattle.blackdots.proofs.ByteOnes.{ones-joined}
 use Prim.Native.Nat.{_-_}
 use native.Mathlib.Omega.{arith}
 use denote.Ref.{now}
 use borrow.Author.Needs.{needs}
-use Rattle.blackdots.proofs.bitmap.four_at.Statement.{statement}
-use Rattle.blackdots.proofs.bitmap.four_at.Tie as tie
+use Rattle.blackdots.proofs.ones.four_at.Statement.{statement}
+use Rattle.blackdots.proofs.ones.four_at.Tie as tie
 
 returns : tie.Need-returns
 returns c =

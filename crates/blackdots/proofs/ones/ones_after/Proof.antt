@@ -1,4 +1,4 @@
-use Rattle.blackdots.proofs.Ones.{ones-byte, ones-next, ones-end}
+use Rattle.blackdots.proofs.ByteOnes.{ones-byte, ones-next, ones-end}
 use Rattle.blackdots.specs.Black.{onesOf}
 use Prim.Native.Nat.{ℕ, _+_, _*_, _-_, _≤_}
 use mathlib.Core.Path.{_≡_, sym}
@@ -8,8 +8,8 @@ use lib.ListN.{length, drop, getD}
 use borrow.Author.Needs.{needs}
 use native.Mathlib.Omega.{arith}
 use denote.Ref.{now}
-use Rattle.blackdots.proofs.bitmap.ones_from.Statement.{statement}
-use Rattle.blackdots.proofs.bitmap.ones_from.Tie as tie
+use Rattle.blackdots.proofs.ones.ones_after.Statement.{statement}
+use Rattle.blackdots.proofs.ones.ones_after.Tie as tie
 
 abbrev Inv-loop : tie.InvT-loop
 Inv-loop b from n₀ i₀ n i = (from ≤ i) × (i ≤ length b) × (n ≤ 8 * (i - from)) × (n + onesOf (drop i b) ≡ onesOf (drop from b))
@@ -40,8 +40,8 @@ returns c =
     let k = c .before in
     (ones-end (k .loop .n) _ (k .loop .i) (now (k .before .args .b)) (k .loop .inv .3) (omega arith), omega arith)
 
-pub ones-from-spec : {M : Type 1} → statement M
-ones-from-spec =
+pub ones-after-spec : {M : Type 1} → statement M
+ones-after-spec =
     tie.close
     (tie.spec
     Inv-loop

@@ -1,0 +1,25 @@
+use Rattle.blackdots.proofs.ByteOnes.{apart-joined}
+use native.Mathlib.Omega.{arith}
+use denote.Ref.{now}
+use borrow.Author.Needs.{needs}
+use Rattle.blackdots.proofs.beyond.eight_apart.Statement.{statement}
+use Rattle.blackdots.proofs.beyond.eight_apart.Tie as tie
+
+returns : tie.Need-returns
+returns c =
+    let v = c .four-apart2 in
+    let w = c .before .four-apart in
+    let a = c .before .before .before .args in
+    (apart-joined 32 4 (a .n) (a .mask) (w .result) (v .result) (a .at) (now (a .b)) (w .ensures .0) (v .ensures .0) (w .ensures .1), omega (arith, w .ensures .1, v .ensures .1))
+
+pub eight-apart-spec : {M : Type 1} → statement M
+eight-apart-spec =
+    tie.close
+    (tie.spec
+    (λ c κs. search needs)
+    (λ c. search needs)
+    (λ c. search needs)
+    (λ c κs. search needs)
+    (λ c. search needs)
+    (λ c. search needs)
+    returns)
