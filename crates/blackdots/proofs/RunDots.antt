@@ -129,7 +129,7 @@ module _ (w : ℕ) (src : List ℕ) (from at filled black : ℕ) (k : Counting w
 
 -- ── the loop over rows
 -- m rows that have the same dots
-pub black-rows : (k w : ℕ) (d : List ℕ) (m t : ℕ) (ds : List Bool) → length ds ≤ rowSize w * 8 → ((j : ℕ) → j < m → rowDots k w d (t + j) ≡ ds)
+black-rows : (k w : ℕ) (d : List ℕ) (m t : ℕ) (ds : List Bool) → length ds ≤ rowSize w * 8 → ((j : ℕ) → j < m → rowDots k w d (t + j) ≡ ds)
     → blackDots k w (t + m) d ≡ blackDots k w t d + m * blackIn ds
 unfolding blackDots picture rowBytes
 black-rows k w d zero t ds l e = rw (add-zero, zero-mul) (omega arith)
@@ -172,14 +172,14 @@ line-uncounted w src n e = go (lineFrom w src n) refl e
     go (whole ds j) p e = let z : _≡_ {A = ℕ} 0 1 = cc in absurd (omega arith)
 
 -- no more rows are drawn
-pub black-rest : (w : ℕ) (d : List ℕ) (top h : ℕ) → top ≤ h → ((j : ℕ) → j < h - top → runsRow w d (top + j) ≡ []) → blackDots 2 w top d ≡ blackDots 2 w h d
+black-rest : (w : ℕ) (d : List ℕ) (top h : ℕ) → top ≤ h → ((j : ℕ) → j < h - top → runsRow w d (top + j) ≡ []) → blackDots 2 w top d ≡ blackDots 2 w h d
 unfolding rowDots blackIn
 black-rest w d top h l e =
     let z : top + (h - top) ≡ h = omega arith in
     let r : blackDots 2 w (top + (h - top)) d ≡ blackDots 2 w top d + (h - top) * blackIn [] = black-rows 2 w d (h - top) top [] (omega arith) e in
     omega (arith, ap (λ (x : ℕ). blackDots 2 w x d) z, r)
 
-pub black-more : (w : ℕ) (d : List ℕ) (top m : ℕ) (ds : List Bool) (n black : ℕ) → length ds ≡ w → blackIn ds ≡ black → n ≡ blackDots 2 w top d
+black-more : (w : ℕ) (d : List ℕ) (top m : ℕ) (ds : List Bool) (n black : ℕ) → length ds ≡ w → blackIn ds ≡ black → n ≡ blackDots 2 w top d
     → ((j : ℕ) → j < m → runsRow w d (top + j) ≡ ds) → n + m * black ≡ blackDots 2 w (top + m) d
 unfolding rowDots
 black-more w d top m ds n black l b p e =

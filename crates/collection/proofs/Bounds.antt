@@ -54,7 +54,7 @@ module _ (k : List ℕ) (o : ℕ) (e : isKeptFirst k o ≡ true) where
       let z = both (leb 1 (width k)) (leb (width k) 16384) (q .1) in
       (leb-true 1 (width k) (z .0), leb-true (width k) 16384 (z .1))
 
-  pub kept-delta : deltaX k < 65536 → deltaX k ≤ mostDelta
+  kept-delta : deltaX k < 65536 → deltaX k ≤ mostDelta
   kept-delta l =
       let f : Bool = eqb (format k) characterFormat && eqb (continued k) 0 && eqb (descriptorSize k) sizeTaken && eqb (byte k 5) 0 in
       let n : negative 16 (deltaX k) ≡ false = not-true (negative 16 (deltaX k)) (both f (not (negative 16 (deltaX k))) (kept-parts .0) .1) in

@@ -45,7 +45,7 @@ module _ (b : List ℕ) (m : ℕ) where
       here : codesWithin b m (suc c) ≡ false
       here = unfold codesWithin in rw e (and-false (codesWithin b m c))
 
-  pub codes-all : (n c : ℕ) → c < n → codesWithin b m n ≡ true → withinBound m (figureAt b c) ≡ true
+  codes-all : (n c : ℕ) → c < n → codesWithin b m n ≡ true → withinBound m (figureAt b c) ≡ true
   unfolding codesWithin
   codes-all zero c l e = absurd (omega arith)
   codes-all (suc n) c l e = go (eqb c n) refl (both (codesWithin b m n) (withinBound m (figureAt b n)) e) (codes-all n c)
@@ -113,7 +113,7 @@ num-below zero s B = omega arith
 num-below (suc k) [] B = let h : num (take k []) < 256 ^ k = num-below k [] B in omega arith
 num-below (suc k) (x ∷ s) B = let h : num (take k s) < 256 ^ k = num-below k s (λ i. B (suc i)) in omega (arith, h, B 0)
 
-pub eight-below : (i : ℕ) (s : List ℕ) → Bytes s → field 8 i s < 2 ^ 64
+eight-below : (i : ℕ) (s : List ℕ) → Bytes s → field 8 i s < 2 ^ 64
 eight-below i s B = num-below 8 (drop i s) (bytes-drop i s B)
 
 -- ── figures that pass have room for the records of a store

@@ -34,7 +34,7 @@ part-after q p b x h l =
     let y : p + length x + (q - length P) ≡ q = omega arith in
     ap (drop q) (sym (append-assoc (take p b) x D)) ∙ ap (λ (k : ℕ). drop k (P ++ D)) z ∙ drop-append-add P D (q - length P) ∙ drop-drop (q - length P) (p + length x) b ∙ ap (λ (k : ℕ). drop k b) y
 
-pub part-here : (p n : ℕ) (b x : List ℕ) → length x ≡ n → p ≤ length b → take n (drop p (withBytes b p x)) ≡ x
+part-here : (p n : ℕ) (b x : List ℕ) → length x ≡ n → p ≤ length b → take n (drop p (withBytes b p x)) ≡ x
 unfolding withBytes
 part-here p n b x h l =
     ap (take n) (drop-at (take p b) (x ++ drop (p + length x) b) p (length-take-le p b l)) ∙ take-at x (drop (p + length x) b) n h

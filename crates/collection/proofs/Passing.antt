@@ -37,7 +37,7 @@ pub dots-are : (k d : List ℕ) (a w y n : ℕ) → n ≡ blackDots a w y d → 
 dots-are k d a w y n e p q r = e ∙ rw (p, q, r)
 
 pub draw-by : (k d : List ℕ) (a w y : ℕ) → Drawable k d → a ≡ class k → w ≡ width k → y ≡ height k → (0 < w) × (a ≡ bitmapClass → length d ≤ pictureSize w y) × (length d ≤ dataLimit)
-draw-by k d a w y D p q r = (rw q (D .wide), λ e. rw (q, r) (D .least (sym p ∙ e)), D .small)
+draw-by k d a w y D p q r = (rw q (D .wide), λ e. rw (q, r) (D .most (sym p ∙ e)), D .small)
 
 pub room-by : (b k d : List ℕ) (c n x : ℕ) (f : Figure) → RoomFor b c k d → f ≡ figureAt b c → n ≡ blackDots (class k) (width k) (height k) d → x ≡ deltaX k
     → (f .count + 1 < 2 ^ 64) × (f .dots + n < 2 ^ 64) × (f .sum + x < 2 ^ 64)
@@ -62,7 +62,7 @@ module _ (s : List ℕ) (at n c kept bytes next : ℕ) (m : CharacterMet s at n 
       let e = same-part s kept descriptorBytes in
       let h : List ℕ = take descriptorBytes (drop kept s) in
       subst (λ (z : List ℕ). Drawable z d) (sym e)
-      (record { wide = m .wide; least = kept-least (class h) (width h) (height h) d (m .held); small = kept-small (class h) (width h) (height h) d (m .held) })
+      (record { wide = m .wide; most = kept-least (class h) (width h) (height h) d (m .held); small = kept-small (class h) (width h) (height h) d (m .held) })
 
   pub character-room : (b : List ℕ) → Roomy b (recordsAt s at) → RoomFor b c k d
   character-room b r =
@@ -127,7 +127,7 @@ pub records-are : (s : List ℕ) (st : Store) → decode s ≡ some st → recor
 unfolding recordsIn
 records-are s st e = rw e
 
-pub added-roomy : (s b : List ℕ) → Bytes s → Bytes b → isStore s ≡ true → figuresTaken b ≡ true → Roomy b (recordsIn s)
+added-roomy : (s b : List ℕ) → Bytes s → Bytes b → isStore s ≡ true → figuresTaken b ≡ true → Roomy b (recordsIn s)
 added-roomy s b S B e t =
     let x = is-store s e in
     subst (Roomy b) (sym (records-are s (x .0) (x .1))) (roomy-start s b (x .0 .recs) (store-bounds s (x .0) S (x .1)) B t)

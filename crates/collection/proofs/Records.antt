@@ -21,7 +21,7 @@ use Rattle.collection.proofs.Bytes.{length-eight}
 use Rattle.collection.proofs.Joining.{joined-assoc, joined-comm, joined-none}
 use Rattle.collection.proofs.Parts.{part-before, part-other, Spelled, length-figure, put-part-here, put-long, put-at, put-other-at}
 
-pub same-test : (c : ℕ) → eqb c c ≡ true
+same-test : (c : ℕ) → eqb c c ≡ true
 same-test c = go (eqb c c) refl
   where
     go : (t : Bool) → eqb c c ≡ t → eqb c c ≡ true
@@ -29,11 +29,11 @@ same-test c = go (eqb c c) refl
     go false e = absurd (eqb-false c c e refl)
 
 -- ── the figure of one record more
-pub figure-same : (n c : ℕ) (h d : List ℕ) (rs : List Rec) → figureIn (character n c h d ∷ rs) c ≡ joined (figureOf h d) (figureIn rs c)
+figure-same : (n c : ℕ) (h d : List ℕ) (rs : List Rec) → figureIn (character n c h d ∷ rs) c ≡ joined (figureOf h d) (figureIn rs c)
 unfolding figureIn
 figure-same n c h d rs = rw (same-test c)
 
-pub figure-other : (n k c : ℕ) (h d : List ℕ) (rs : List Rec) → (k ≡ c → ⊥) → figureIn (character n k h d ∷ rs) c ≡ figureIn rs c
+figure-other : (n k c : ℕ) (h d : List ℕ) (rs : List Rec) → (k ≡ c → ⊥) → figureIn (character n k h d ∷ rs) c ≡ figureIn rs c
 unfolding figureIn
 figure-other n k c h d rs ne = rw (ne-eqb k c ne)
 
@@ -141,9 +141,6 @@ module _ (b : List ℕ) (n k : ℕ) (h d : List ℕ) (rs : List Rec) (r : Roomy 
       }
 
   -- ── what it leaves of each code
-  abbrev byCount : ℕ → List ℕ → Figure → Figure → List ℕ
-  byCount m p f g = cond (eqb m 0) p (bytesOfFigure (joined f g))
-
   code-next : (c : ℕ) → c ≤ lastCode → codeAfter after rs c ≡ codeAfter b (character n k h d ∷ rs) c
   unfolding codeAfter
   code-next c lc = go (eqb k c) refl

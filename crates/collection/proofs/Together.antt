@@ -19,7 +19,7 @@ use Rattle.form.proofs.Locates.{is-store}
 use Rattle.form.proofs.Numbers.{num-le, less-or}
 use Rattle.collection.specs.declared.figure.Figure.{Figure}
 use Rattle.collection.specs.Figures.{noFigure, joined, figureIn, codeBytes, figuresBytes, codePlace, storesIn, figureFrom, figureAt, bytesOfFigure, codeAfter, codesAfter, figuresAfter, mostOfCode, mostDots, mostDelta, mostStores, figuresTaken, Adding, addingFigures}
-use Rattle.collection.specs.Handed.{storeBefore, storesAmong, AllBytes, Rearranged, same, later, swapped, twice}
+use Rattle.collection.specs.Handed.{storeBefore, storesAmong, AllBytes, Rearranged, same, later, swapped, andThen}
 use Rattle.collection.specs.Together.{codeBytesIn, Adds, handedIn, allRecords, codesOf, figuresOf}
 use Rattle.collection.proofs.Bytes.{length-eight}
 use Rattle.collection.proofs.Joining.{joined-assoc, joined-comm, joined-none, figure-append}
@@ -245,6 +245,13 @@ module _ (bs : List (List ℕ)) (B : AllBytes bs) where
       subst (Adds rs c zeros) (sym (f .0))
       (adds-by rs c zeros (figuresOf (length ss) rs) (ap length zeros-are ∙ length-figures 0 []) (length-figures (length ss) rs) lc p (subst Spelled (sym z) (spelled (length ss) rs (f .1) (f .2) c)))
 
+  -- byte by byte
+  pub together-front : take 8 (handedIn bs zeros) ≡ le 8 (length ss)
+  together-front = ap (take 8) (from-zeros .0) ∙ take-at (le 8 (length ss)) (codesOf (allRecords ss) (lastCode + 1)) 8 (length-eight (length ss))
+
+  pub together-bytes : (c : ℕ) → c ≤ lastCode → codeBytesIn (handedIn bs zeros) c ≡ bytesOfFigure (figureIn (allRecords ss) c)
+  together-bytes c lc = ap (λ (x : List ℕ). codeBytesIn x c) (from-zeros .0) ∙ part-figures (length ss) (allRecords ss) c lc
+
   -- what the next call answers: a store is taken up to the 64th
   pub next-taken : (s : List ℕ) → isStore s ≡ true → length (storesAmong bs) < mostStores → addingFigures s (handedIn bs zeros) .answer ≡ 0
   next-taken s e l =
@@ -318,7 +325,7 @@ alike bs cs (swapped s t us) =
           let r : Figure = figureIn (allRecords (storesAmong us)) c in
           all-cons s (t ∷ us) c ∙ ap (joined a) (all-cons t us c) ∙ sym (joined-assoc a b r) ∙ ap (λ (f : Figure). joined f r) (joined-comm a b) ∙ joined-assoc b a r ∙ sym (all-cons t (s ∷ us) c ∙ ap (joined b) (all-cons s us c));
     }
-alike bs cs (twice us vs ws p q) =
+alike bs cs (andThen us vs ws p q) =
     let i = alike us vs p in
     let j = alike vs ws q in
     record { long = i .long ∙ j .long; bytes = λ x. j .bytes (i .bytes x); figures = λ c. i .figures c ∙ j .figures c }

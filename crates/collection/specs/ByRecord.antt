@@ -17,7 +17,7 @@ use Rattle.collection.specs.declared.adding.NextRecord.the-variants.{At,
 -- a character's data, as a store holds it
 pub record Drawable (k d : List ℕ) : Type 0 where
   pub wide : 0 < width k
-  pub least : class k ≡ bitmapClass → length d ≤ pictureSize (width k) (height k)
+  pub most : class k ≡ bitmapClass → length d ≤ pictureSize (width k) (height k)
   pub small : length d ≤ dataLimit
 
 -- a character's figures may be added to those of its code

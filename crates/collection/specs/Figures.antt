@@ -92,7 +92,7 @@ codesAfter b rs (suc c) = codesAfter b rs c ++ codeAfter b rs c
 unfoldable pub figuresAfter : List ℕ → List Rec → List ℕ
 figuresAfter b rs = le 8 (storesIn b + 1) ++ codesAfter b rs (lastCode + 1)
 
--- "at most (length - 12) / 108, rounded down": a character of a code stands in a font of its own
+-- "at most (length - 12) / 108, rounded down": a font has at most one character of a code
 abbrev pub mostOfCode : ℕ → ℕ
 mostOfCode n = (n - markRecord) / (fontRecord + characterRecord)
 
@@ -114,7 +114,7 @@ codesWithin b m (suc c) = codesWithin b m c && withinBound m (figureAt b c)
 abbrev pub mostStores : ℕ
 mostStores = 64
 
--- the most characters of a code that so many stores have, each of 65,536 bytes
+-- the most characters of a code that 64 stores have, each of 65,536 bytes
 abbrev pub mostInStores : ℕ
 mostInStores = mostStores * mostOfCode mostStore
 

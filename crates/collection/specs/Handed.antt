@@ -19,9 +19,9 @@ abbrev pub AllBytes : List (List ℕ) → Type 0
 AllBytes [] = Unit {0}
 AllBytes (s ∷ ss) = Bytes s × AllBytes ss
 
--- the same buffers in another order: two neighbours the other way round, and so on
+-- the same buffers in another order: two neighbours the other way round, any number of times
 pub data Rearranged : List (List ℕ) → List (List ℕ) → Type 0 where
   same : (ss : List (List ℕ)) → Rearranged ss ss
   later : (s : List ℕ) (ss ts : List (List ℕ)) → Rearranged ss ts → Rearranged (s ∷ ss) (s ∷ ts)
   swapped : (s t : List ℕ) (ss : List (List ℕ)) → Rearranged (s ∷ t ∷ ss) (t ∷ s ∷ ss)
-  twice : (ss ts us : List (List ℕ)) → Rearranged ss ts → Rearranged ts us → Rearranged ss us
+  andThen : (ss ts us : List (List ℕ)) → Rearranged ss ts → Rearranged ts us → Rearranged ss us

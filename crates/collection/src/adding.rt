@@ -20,7 +20,7 @@ fn add_character(k: &[u8], d: &[u8], b: &mut [u8], code: u32)
     requires { ⌜ (length (now k) ≡ descriptorBytes) × Drawable (now k) (now d) × (code ≤ lastCode) × (length (now b) ≡ figuresBytes) × RoomFor (now b) code (now k) (now d) ⌝ }
     ensures { λ _. ⌜ now (b .exit) ≡ figuresWith (now (b .entry)) code (now (k .entry)) (now (d .entry)) ⌝ }
 {
-    let at = figure::NUMBER_BYTES + (code as usize) * figure::CODE_BYTES;
+    let at = figure::code_place(code as usize);
     let width = character::width(k);
     let dots = picture::black_dots(character::class(k), width, character::height(k), d);
     let delta = character::delta_x(k);

@@ -17,7 +17,7 @@ const MOST_DOTS: usize = 262144;
 
 const MOST_DELTA: usize = 32767;
 
-// A code has at most so many characters, and what these may have.
+// Whether a code's count, dots and sum are at most those of so many characters.
 fn code_within(b: &[u8], code: usize, most: usize) -> bool
     requires { ⌜ (length (now b) ≡ figuresBytes) × (code ≤ lastCode) × (most ≤ mostInStores) ⌝ }
     ensures { λ r. ⌜ r ≡ withinBound most (figureAt (now (b .entry)) code) ⌝ }

@@ -5,7 +5,7 @@ ghost use lib.ListN.{length};
 ghost use Rattle.form.specs.Layout.{lastCode};
 ghost use Rattle.form.specs.Num.{doubleEnd, le, field};
 ghost use Rattle.change.specs.Change.{withBytes};
-ghost use Rattle.collection.specs.Figures.{lesserWidth, joined, mean, rest, codeBytes, figuresBytes, figureFrom, figureAt, bytesOfFigure};
+ghost use Rattle.collection.specs.Figures.{lesserWidth, joined, mean, rest, codeBytes, figuresBytes, codePlace, figureFrom, figureAt, bytesOfFigure};
 use change;
 use form::layout::WORD_END;
 use form::number;
@@ -20,27 +20,27 @@ pub struct Figure {
 }
 
 // The stores so far, and for each code seven numbers, all of 8 bytes.
-pub(crate) const NUMBER_BYTES: usize = 8;
+const NUMBER_BYTES: usize = 8;
 
-pub(crate) const CODE_BYTES: usize = 56;
+const CODE_BYTES: usize = 7 * NUMBER_BYTES;
 
 pub const FIGURES_BYTES: usize = 14344;
 
 // Four bytes spell the numbers below this one.
 const DOUBLE_END: usize = 4294967296;
 
-// The five numbers of a code that its mean and rest come from, and those two, each 8 bytes.
-const DOTS_AT: usize = 8;
+// Where the numbers of a code stand after its count, each of 8 bytes.
+const DOTS_AT: usize = NUMBER_BYTES;
 
-const LEAST_AT: usize = 16;
+const LEAST_AT: usize = 2 * NUMBER_BYTES;
 
-const GREATEST_AT: usize = 24;
+const GREATEST_AT: usize = 3 * NUMBER_BYTES;
 
-const SUM_AT: usize = 32;
+const SUM_AT: usize = 4 * NUMBER_BYTES;
 
-const MEAN_AT: usize = 40;
+const MEAN_AT: usize = 5 * NUMBER_BYTES;
 
-const REST_AT: usize = 48;
+const REST_AT: usize = 6 * NUMBER_BYTES;
 
 fn half_at(b: &[u8], at: usize) -> usize
     requires { ⌜ at + 4 ≤ length (now b) ⌝ }
@@ -93,12 +93,20 @@ pub(crate) fn figure_at(b: &[u8], at: usize) -> Figure
     }
 }
 
+// Where the numbers of a code stand.
+pub(crate) fn code_place(code: usize) -> usize
+    requires { ⌜ code ≤ lastCode ⌝ }
+    ensures { λ r. ⌜ r ≡ codePlace code ⌝ }
+{
+    NUMBER_BYTES + code * CODE_BYTES
+}
+
 // The figure of a code.
 pub fn figure_of(b: &[u8], code: usize) -> Figure
     requires { ⌜ (length (now b) ≡ figuresBytes) × (code ≤ lastCode) ⌝ }
     ensures { λ r. ⌜ r ≡ figureAt (now (b .entry)) code ⌝ }
 {
-    figure_at(b, NUMBER_BYTES + code * CODE_BYTES)
+    figure_at(b, code_place(code))
 }
 
 // The lesser of two widths, of which 0 counts as none.

@@ -19,7 +19,7 @@ use Rattle.collection.proofs.Together.{one-store}
 use Rattle.text.specs.Wrote.{Wrote}
 use Rattle.text.specs.Column.{column}
 use Rattle.text.proofs.Writes.{wrote-none, wrote-put, wrote-length, wrote-then}
-use Rattle.figures.specs.Table.{figuresHeading, notStore, firstColumns, lastColumns, figureLine, codeLine, figureLines, figuresTable, tableRoom}
+use Rattle.figures.specs.Table.{figuresHeading, notStore, firstColumns, lastColumns, figureLine, codeLine, figureLines, figuresTable, lineRoom, tableRoom}
 use Rattle.figures.specs.Lines.{linesIn}
 
 -- ── a line
@@ -49,7 +49,7 @@ wrote-held s out at end code f g e z w = rw (← e, ne-eqb (f .count) 0 z) w
 -- ── the lines below a code are written
 pub record Going (b s : List ℕ) (at code to : ℕ) (out : List ℕ) : Type 0 where
   pub below : code ≤ lastCode + 1
-  pub room : to ≤ at + 168 * code
+  pub room : to ≤ at + lineRoom * code
   pub long : length out ≡ length s
   pub wrote : Wrote s at (linesIn b code) to out
 
@@ -58,7 +58,7 @@ unfolding linesIn
 going-starts b s at l = record { below = omega arith; room = omega arith; long = refl; wrote = wrote-none s at l }
 
 pub going-next : (b s : List ℕ) (at code to : ℕ) (out : List ℕ) → Going b s at code to out → code ≤ lastCode → (end : ℕ) (last : List ℕ)
-    → Wrote out to (codeLine code (figureAt b code)) end last → end ≤ to + 168 → Going b s at (code + 1) end last
+    → Wrote out to (codeLine code (figureAt b code)) end last → end ≤ to + lineRoom → Going b s at (code + 1) end last
 unfolding linesIn
 going-next b s at code to out g l end last w r =
     record {

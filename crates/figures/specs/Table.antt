@@ -7,7 +7,7 @@ use lib.Dec.{eqb}
 use Rattle.form.specs.Layout.{lastCode}
 use Rattle.form.specs.Model.{Rec}
 use Rattle.form.specs.Records.{isStore, recordsIn}
-use Rattle.text.specs.Column.{space, newline, column}
+use Rattle.text.specs.Column.{space, newline, numberRoom, column}
 use Rattle.collection.specs.Figures.{figureIn, mean, rest}
 use Rattle.collection.specs.declared.figure.Figure.{Figure}
 
@@ -50,6 +50,9 @@ figureLines rs (suc c) = figureLines rs c ++ codeLine c (figureIn rs c)
 unfoldable pub figuresTable : List ℕ → List ℕ
 figuresTable input = cond (isStore input) (figuresHeading ++ figureLines (recordsIn input) (lastCode + 1)) notStore
 
--- room for every text: the heading, and for each code a line of eight numbers of 20 digits, each with the byte after it
+-- room for a line of eight numbers, and for every text: the heading, and a line for each code
+abbrev pub lineRoom : ℕ
+lineRoom = 8 * numberRoom
+
 abbrev pub tableRoom : ℕ
-tableRoom = 256 + 168 * (lastCode + 1)
+tableRoom = 256 + lineRoom * (lastCode + 1)

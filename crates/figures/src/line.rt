@@ -1,8 +1,9 @@
 // The line of a code.
-ghost use Prim.Native.Nat.{_+_, _≤_};
+ghost use Prim.Native.Nat.{_+_, _*_, _≤_};
 ghost use lib.ListN.{length};
 ghost use Rattle.text.specs.Wrote.{Wrote};
-ghost use Rattle.figures.specs.Table.{firstColumns, lastColumns, figureLine};
+ghost use Rattle.text.specs.Column.{numberRoom};
+ghost use Rattle.figures.specs.Table.{firstColumns, lastColumns, figureLine, lineRoom};
 use collection::figure;
 use collection::figure::Figure;
 use text::column::write_number;
@@ -16,9 +17,9 @@ fn write_first(
     dots: usize,
     least: usize,
 ) -> usize
-    requires { ⌜ at + 84 ≤ length (now out) ⌝ }
+    requires { ⌜ at + 4 * numberRoom ≤ length (now out) ⌝ }
     ensures { λ r. ⌜ Wrote (now (out .entry)) at (firstColumns code count dots least) r (now (out .exit)) ⌝ }
-    ensures { λ r. ⌜ r ≤ at + 84 ⌝ }
+    ensures { λ r. ⌜ r ≤ at + 4 * numberRoom ⌝ }
 {
     let second = write_number(out, at, code, b' ');
     let third = write_number(out, second, count, b' ');
@@ -35,9 +36,9 @@ fn write_last(
     mean: usize,
     rest: usize,
 ) -> usize
-    requires { ⌜ at + 84 ≤ length (now out) ⌝ }
+    requires { ⌜ at + 4 * numberRoom ≤ length (now out) ⌝ }
     ensures { λ r. ⌜ Wrote (now (out .entry)) at (lastColumns greatest sum mean rest) r (now (out .exit)) ⌝ }
-    ensures { λ r. ⌜ r ≤ at + 84 ⌝ }
+    ensures { λ r. ⌜ r ≤ at + 4 * numberRoom ⌝ }
 {
     let second = write_number(out, at, greatest, b' ');
     let third = write_number(out, second, sum, b' ');
@@ -46,9 +47,9 @@ fn write_last(
 }
 
 pub fn write_line(out: &mut [u8], at: usize, code: usize, f: Figure) -> usize
-    requires { ⌜ at + 168 ≤ length (now out) ⌝ }
+    requires { ⌜ at + lineRoom ≤ length (now out) ⌝ }
     ensures { λ r. ⌜ Wrote (now (out .entry)) at (figureLine code f) r (now (out .exit)) ⌝ }
-    ensures { λ r. ⌜ r ≤ at + 168 ⌝ }
+    ensures { λ r. ⌜ r ≤ at + lineRoom ⌝ }
 {
     let middle = write_first(out, at, code, f.count, f.dots, f.least);
     write_last(

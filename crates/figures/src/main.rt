@@ -4,7 +4,7 @@ mod lines;
 mod table;
 
 // A byte more than a store has at most, so that longer input shows.
-const INPUT: usize = table::MOST + 1;
+const INPUT: usize = form::layout::MOST_STORE + 1;
 
 fn main() {
     if 1 < os::arg_count() {

@@ -9,9 +9,6 @@ use collection::adding;
 use collection::figure;
 use stream::writing::write_bytes;
 
-// The longest store.
-pub const MOST: usize = 65536;
-
 // Room for every text: the heading, and for each code a line of eight numbers.
 pub const TEXT: usize = 43264;
 

@@ -8,9 +8,10 @@ use native.Mathlib.Omega.{arith}
 use native.Mathlib.Nat.{mod-lt, div-add-mod'}
 use borrow.Author.Tests.{eqb-true, ne-eqb, leb-true, leb-false, ltb-true}
 use lib.Dec.{eqb, leb, ltb}
-use lib.ListN.{length, take}
+use lib.ListN.{length, take, drop}
 use Rattle.blocks.specs.Character.{width, deltaX}
-use Rattle.form.specs.Num.{field, Bytes}
+use Rattle.form.specs.Layout.{lastCode}
+use Rattle.form.specs.Num.{le, field, Bytes}
 use Rattle.form.specs.Model.{Rec, font, character}
 use Rattle.form.specs.Records.{isStore, recordsIn}
 use Rattle.pictures.specs.Dots.{dotsIn, unpack}
@@ -19,17 +20,17 @@ use Rattle.pictures.proofs.Tests.{both}
 use Rattle.choice.specs.Lists.{In, every}
 use Rattle.blackdots.specs.Black.{blackIn, blackDots}
 use Rattle.collection.specs.declared.figure.Figure.{Figure}
-use Rattle.collection.specs.Figures.{noFigure, lesserWidth, joined, figureOf, figureIn, mean, rest, figureFrom, figureAt, figuresTaken, Adding, addingFigures}
+use Rattle.collection.specs.Figures.{noFigure, lesserWidth, joined, figureOf, figureIn, mean, rest, figureFrom, figureAt, bytesOfFigure, figuresTaken, Adding, addingFigures}
 use Rattle.collection.specs.Handed.{storeBefore, storesAmong, AllBytes}
 use Rattle.collection.specs.Together.{Adds, handedIn, allRecords}
 use Rattle.collection.proofs.Checking.{Taken, taken, taken-back}
 use Rattle.form.proofs.Locates.{is-store}
 use Rattle.collection.proofs.Passing.{not-store, not-taken, was-taken}
 use Rattle.collection.proofs.Added.{done, adds, one-store-more, length-after}
-use Rattle.collection.proofs.Together.{together-stores, together-long, zeros-figure, together, next-taken, any-order}
-use Rattle.marlinfold.specs.Collection.{storesSoFar, figureNumber, noFigures, Seen, seenAt, seenBefore, seenAmong, seenIn, seenInAll, sumOf, blackOf, widthOf, deltaOf, handedWidth, withHanded, Least, Greatest, Counted, Allowed, FiguresRefused, FiguresAdded, FiguresBounded, collected, takenAmong, FiguresTogether, FiguresAnyOrder, FiguresTaken, wideLetter, narrowLetter, lettersStore, twoStores, FiguresRow}
+use Rattle.collection.proofs.Together.{together-stores, together-long, together, together-front, together-bytes, next-taken, any-order}
+use Rattle.marlinfold.specs.Collection.{storesSoFar, figureNumber, noFigures, Seen, seenAt, seenBefore, seenIn, seenInAll, sumOf, blackOf, widthOf, deltaOf, handedWidth, withHanded, Least, Greatest, Counted, Allowed, FiguresRefused, FiguresAdded, FiguresBounded, collected, takenAmong, FiguresTogether, FiguresAnyOrder, FiguresTaken, wideLetter, narrowLetter, lettersStore, twoStores, FiguresRow}
 use Rattle.marlinfold.proofs.Computing.{computing}
-use Rattle.marlinfold.proofs.Seen.{Shown, AllShown, all-shown}
+use Rattle.marlinfold.proofs.Seen.{Shown, AllShown, all-shown, seenAmong, seen-are}
 
 -- ── the least and the greatest of widths, with one more
 lesser-is : (w m : ℕ) → 0 < w → (lesserWidth w m ≤ w) × (0 < m → lesserWidth w m ≤ m) × ((lesserWidth w m ≡ w) ⊎ ((lesserWidth w m ≡ m) × (0 < m)))
@@ -136,20 +137,24 @@ none-sums : (c : ℕ) → Sums [] (figureIn [] c)
 unfolding figureIn
 none-sums c = sums-none
 
-sums-in : (s : List ℕ) (c : ℕ) → isStore s ≡ true → Sums (seenIn c s) (figureIn (recordsIn s) c)
-sums-in s c i =
+sums-store : (s : List ℕ) (c : ℕ) (ts : List Rec) (m : List Seen) → isStore s ≡ true → c ≤ lastCode → Sums m (figureIn ts c) → Sums (seenIn c s ++ m) (figureIn (recordsIn s ++ ts) c)
+sums-store s c ts m i lc g =
+    subst (λ (l : List Seen). Sums (l ++ m) (figureIn (recordsIn s ++ ts) c)) (sym (seen-are s i c lc)) (sums-among s c (recordsIn s) ts m (all-shown s i) g)
+
+sums-in : (s : List ℕ) (c : ℕ) → isStore s ≡ true → c ≤ lastCode → Sums (seenIn c s) (figureIn (recordsIn s) c)
+sums-in s c i lc =
     subst (λ (l : List Seen). Sums l (figureIn (recordsIn s) c)) (append-nil (seenIn c s))
-    (subst (λ (rs : List Rec). Sums (seenIn c s ++ []) (figureIn rs c)) (append-nil (recordsIn s)) (sums-among s c (recordsIn s) [] [] (all-shown s i) (none-sums c)))
+    (subst (λ (rs : List Rec). Sums (seenIn c s ++ []) (figureIn rs c)) (append-nil (recordsIn s)) (sums-store s c [] [] i lc (none-sums c)))
 
 -- each is a store
 abbrev AllStores : List (List ℕ) → Type 0
 AllStores [] = Unit {0}
 AllStores (s ∷ ss) = (isStore s ≡ true) × AllStores ss
 
-sums-all : (ss : List (List ℕ)) (c : ℕ) → AllStores ss → Sums (seenInAll c ss) (figureIn (allRecords ss) c)
+sums-all : (ss : List (List ℕ)) (c : ℕ) → AllStores ss → c ≤ lastCode → Sums (seenInAll c ss) (figureIn (allRecords ss) c)
 unfolding seenInAll allRecords
-sums-all [] c a = none-sums c
-sums-all (s ∷ ss) c a = sums-among s c (recordsIn s) (allRecords ss) (seenInAll c ss) (all-shown s (a .0)) (sums-all ss c (a .1))
+sums-all [] c a lc = none-sums c
+sums-all (s ∷ ss) c a lc = sums-store s c (allRecords ss) (seenInAll c ss) (a .0) lc (sums-all ss c (a .1) lc)
 
 taken-stores : (k : ℕ) (ss : List (List ℕ)) → AllStores ss → AllStores (take k ss)
 taken-stores zero ss a = tt
@@ -274,7 +279,7 @@ figures-refused s b = go (isStore s) refl (figuresTaken b) refl
 pub figures-added : FiguresAdded
 figures-added s b S B e =
     let x = done s b S B e in
-    (ap length (x .bytes) ∙ length-after (recordsIn s) b (x .roomy), one-store-more s b S B e, λ c l. counted (recordsIn s) (seenIn c s) c b (addingFigures s b .bytes) (adds s b S B e c l) (sums-in s c (x .store)))
+    (ap length (x .bytes) ∙ length-after (recordsIn s) b (x .roomy), one-store-more s b S B e, λ c l. counted (recordsIn s) (seenIn c s) c b (addingFigures s b .bytes) (adds s b S B e c l) (sums-in s c (x .store) l))
 
 pub figures-bounded : FiguresBounded
 unfolding joined
@@ -299,7 +304,7 @@ figures-together ss B =
       ap storesSoFar e ∙ together-stores ss B,
       λ c l. counted (allRecords (takenAmong ss)) (seenInAll c (takenAmong ss)) c noFigures (collected ss noFigures)
           (subst (Adds (allRecords (takenAmong ss)) c noFigures) (sym e) (together ss B c l))
-          (sums-all (takenAmong ss) c (taken-stores 64 (storesAmong ss) (among-stores ss))),
+          (sums-all (takenAmong ss) c (taken-stores 64 (storesAmong ss) (among-stores ss)) l),
     )
 
 pub figures-any-order : FiguresAnyOrder
@@ -328,24 +333,20 @@ unfolding twoStores
 two-bytes = (bytes-by (lettersStore wideLetter) wide-bytes, (bytes-by (lettersStore narrowLetter) narrow-bytes, tt))
 
 abbrev rowFigure : Figure
-rowFigure = record { count = 2; dots = 13; least = 3; greatest = 8; sum = 127 }
+rowFigure = record { count = 2; dots = 263; least = 3; greatest = 258; sum = 307 }
 
 two-figure : figureIn (allRecords (takenAmong twoStores)) 65 ≡ rowFigure
 unfolding computing twoStores lettersStore wideLetter narrowLetter storesAmong storeBefore allRecords figureIn joined blackDots blackIn unpack dotsIn bitmapRow
 two-figure = refl
 
+two-taken : length (takenAmong twoStores) ≡ 2
+unfolding computing twoStores lettersStore wideLetter narrowLetter storesAmong storeBefore
+two-taken = refl
+
 pub figures-row : FiguresRow
-unfolding joined
+unfolding le bytesOfFigure
 figures-row =
-    let after : List ℕ = collected twoStores noFigures in
-    let a = subst (Adds (allRecords (takenAmong twoStores)) 65 noFigures) (sym (as-handed-in twoStores noFigures)) (together twoStores two-bytes 65 (omega arith)) in
-    let f : figureAt after 65 ≡ rowFigure = a .figure ∙ ap₂ joined (zeros-figure 65 (omega arith)) two-figure in
-    let p : 0 < figureIn (allRecords (takenAmong twoStores)) 65 .count = omega (arith, ap (λ (x : Figure). x .count) two-figure) in
-    let m : figureNumber 65 5 after ≡ 63 = a .mean p ∙ ap (λ (x : Figure). mean (x .sum) (x .count)) f in
-    let r : figureNumber 65 6 after ≡ 1 = a .rest p ∙ ap (λ (x : Figure). rest (x .sum) (x .count)) f in
-    let e0 : figureNumber 65 0 after ≡ 2 = count-at 65 after ∙ ap (λ (x : Figure). x .count) f in
-    let e1 : figureNumber 65 1 after ≡ 13 = dots-at 65 after ∙ ap (λ (x : Figure). x .dots) f in
-    let e2 : figureNumber 65 2 after ≡ 3 = least-at 65 after ∙ ap (λ (x : Figure). x .least) f in
-    let e3 : figureNumber 65 3 after ≡ 8 = greatest-at 65 after ∙ ap (λ (x : Figure). x .greatest) f in
-    let e4 : figureNumber 65 4 after ≡ 127 = sum-at 65 after ∙ ap (λ (x : Figure). x .sum) f in
-    λ i. e0 i ∷ e1 i ∷ e2 i ∷ e3 i ∷ e4 i ∷ m i ∷ r i ∷ []
+    let e = as-handed-in twoStores noFigures in (
+      ap (take 8) e ∙ together-front twoStores two-bytes ∙ ap (le 8) two-taken,
+      ap (λ (b : List ℕ). take 56 (drop 3648 b)) e ∙ together-bytes twoStores two-bytes 65 (omega arith) ∙ ap bytesOfFigure two-figure,
+    )

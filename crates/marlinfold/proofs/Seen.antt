@@ -1,11 +1,12 @@
 -- W-210: what is told and drawn of each character of a store. Assumes nothing.
-use Prim.Native.Nat.{ℕ, _+_, _-_, _<_, _≤_}
-use mathlib.Core.Path.{_≡_, refl, sym, ap, _∙_, subst}
-use mathlib.Core.List.{List, [], _∷_, _++_, append-nil}
-use mathlib.Core.Bool.{true}
-use mathlib.Core.Option.{some}
+use Prim.Native.Nat.{ℕ, zero, suc, _+_, _-_, _<_, _≤_}
+use mathlib.Core.Path.{_≡_, refl, sym, ap, ap₂, _∙_, subst}
+use mathlib.Core.List.{List, [], _∷_, _++_, map, append-nil}
+use mathlib.Core.Bool.{Bool, true, false}
+use mathlib.Core.Option.{Option, none, some}
 use native.Mathlib.Omega.{arith}
-use borrow.Author.Tests.{le-leb}
+use lib.Dec.{eqb}
+use borrow.Author.Tests.{le-leb, eqb-true, eqb-false}
 use lib.ListN.{length, drop, replicate, length-replicate, drop-of-length-le}
 use Rattle.pictures.specs.Size.{dataLimit, pictureSize}
 use Rattle.pictures.specs.Rows.{picture}
@@ -13,13 +14,14 @@ use Rattle.blocks.specs.Character.{descriptorBytes, class, width, height, isKep
 use Rattle.form.specs.Layout.{lastFont, lastCode, keyOf}
 use Rattle.form.specs.Model.{Rec, font, character, Store, Under, alone, under, sorted, number, place, key, decode}
 use Rattle.form.specs.Order.{find}
-use Rattle.form.specs.Checks.{onStore, finding, onCharacter}
+use Rattle.form.specs.Checks.{checked, numbered, onStore, finding, onCharacter}
 use Rattle.form.specs.Records.{isStore, recordsIn}
-use Rattle.form.proofs.Codec.{sorted-inv}
+use Rattle.form.proofs.Codec.{Sorted, sorted-inv}
 use Rattle.form.proofs.Locates.{is-store}
-use Rattle.form.proofs.Lookup.{find-here, find-other}
+use Rattle.form.proofs.Lookup.{find-here, find-other, find-behind}
 use Rattle.form.proofs.RecordBytes.{allowed-char, shaped}
 use Rattle.form.proofs.RecordRuns.{decoded}
+use Rattle.store.specs.Answer.{untold}
 use Rattle.store.specs.Calls.{onto, tellingCharacter}
 use Rattle.store.specs.Drawing.{pictureOf, drawingPicture}
 use Rattle.blackdots.specs.Black.{blackDots, onesOf}
@@ -27,7 +29,8 @@ use Rattle.blackdots.proofs.ByteOnes.{ones-append, ones-parts, ones-zeros}
 use Rattle.blackdots.proofs.Drawn.{ones-drawn}
 use Rattle.collection.proofs.Bounds.{kept-picture, kept-wide}
 use Rattle.collection.proofs.Passing.{records-are}
-use Rattle.marlinfold.specs.Collection.{seenAt, blackOf}
+use lib.Count.{ones}
+use Rattle.marlinfold.specs.Collection.{Seen, seenAt, seenBefore, seenFrom, seenIn, sumOf, blackOf}
 
 -- ── a character among sorted records is found by its numbers, and so is its font
 record Kept (all : List Rec) (n c : ℕ) (h d : List ℕ) : Type 0 where
@@ -45,7 +48,7 @@ AllKept all [] = Unit {0}
 AllKept all (font n h ∷ rs) = AllKept all rs
 AllKept all (character n c h d ∷ rs) = Kept all n c h d × AllKept all rs
 
--- records whose keys are from k on, of which the font u has been found
+-- the records of `all` with keys from k on; u is the font that they stand under
 record Looked (all : List Rec) (k : ℕ) (u : Under) (rs : List Rec) : Type 0 where
   order : sorted k u rs ≡ true
   rest : (j : ℕ) → k ≤ j → find j all ≡ find j rs
@@ -110,28 +113,34 @@ pub record Shown (s : List ℕ) (n c : ℕ) (h d : List ℕ) : Type 0 where
   pub black : blackOf (seenAt s n c) ≡ blackDots (class h) (width h) (height h) d
   pub wide : 0 < width h
 
--- the outputs, of zeros
-abbrev few : List ℕ
-few = replicate descriptorBytes 0
+-- the ones of all bytes
+ones-sum : (l : List ℕ) → sumOf (map ones l) ≡ onesOf l
+unfolding sumOf onesOf
+ones-sum [] = refl
+ones-sum (b ∷ l) = omega (arith, ones-sum l)
 
-abbrev many : List ℕ
-many = replicate dataLimit 0
+-- the outputs, of zeros
+abbrev toldOut : List ℕ
+toldOut = replicate descriptorBytes 0
+
+abbrev drawnOut : List ℕ
+drawnOut = replicate dataLimit 0
 
 module _ (s : List ℕ) (st : Store) (e : decode s ≡ some st) (n c : ℕ) (h d : List ℕ) (x : Kept (st .recs) n c h d) where
-  told-is : tellingCharacter n c s few .out ≡ onto h few
+  told-is : tellingCharacter n c s toldOut .out ≡ onto h toldOut
   unfolding tellingCharacter onCharacter onStore finding
   told-is = rw (e, le-leb n lastFont (x .low), le-leb c lastCode (x .code), x .font-there, x .there)
 
-  drawn-is : drawingPicture n c s many .bytes ≡ onto (picture (class h) (width h) d (height h)) many
+  drawn-is : drawingPicture n c s drawnOut .bytes ≡ onto (picture (class h) (width h) d (height h)) drawnOut
   unfolding drawingPicture onCharacter onStore finding pictureOf
   drawn-is =
-      let p : pictureSize (width h) (height h) ≤ length many = rw (length-replicate {A = ℕ} dataLimit 0) (kept-picture h (x .orientation) (x .kept)) in
+      let p : pictureSize (width h) (height h) ≤ length drawnOut = rw (length-replicate {A = ℕ} dataLimit 0) (kept-picture h (x .orientation) (x .kept)) in
       rw (e, le-leb n lastFont (x .low), le-leb c lastCode (x .code), x .font-there, x .there, le-leb _ _ p)
 
   -- the whole of an output of 16 bytes, and the ones of a larger one of zeros
-  onto-all : onto h few ≡ h
+  onto-all : onto h toldOut ≡ h
   onto-all =
-      let z : drop (length h) few ≡ [] = drop-of-length-le few {i = length h} (omega (arith, x .long, length-replicate {A = ℕ} descriptorBytes 0)) in
+      let z : drop (length h) toldOut ≡ [] = drop-of-length-le toldOut {i = length h} (omega (arith, x .long, length-replicate {A = ℕ} descriptorBytes 0)) in
       ap (λ (l : List ℕ). h ++ l) z ∙ append-nil h
 
   shown : Shown s n c h d
@@ -139,7 +148,7 @@ module _ (s : List ℕ) (st : Store) (e : decode s ≡ some st) (n c : ℕ) (h d
       let pic : List ℕ = picture (class h) (width h) d (height h) in
       record {
         told = told-is ∙ onto-all;
-        black = ap onesOf drawn-is ∙ omega (arith, ones-append pic (drop (length pic) many), ones-parts (length pic) many, ones-zeros dataLimit, ones-drawn (class h) (width h) (height h) d);
+        black = ones-sum (seenAt s n c .drawn) ∙ ap onesOf drawn-is ∙ omega (arith, ones-append pic (drop (length pic) drawnOut), ones-parts (length pic) drawnOut, ones-zeros dataLimit, ones-drawn (class h) (width h) (height h) d);
         wide = kept-wide h (x .orientation) (x .kept) .0;
       }
 
@@ -160,3 +169,78 @@ all-shown s i =
     let st : Store = x .0 in
     let l : Looked (st .recs) 0 alone (st .recs) = record { order = decoded s st (x .1) .2; rest = λ j g. refl; owner = λ n e. absurd (omega (arith, e)) } in
     subst (AllShown s) (sym (records-are s st (x .1))) (shown-by s st (x .1) (st .recs) (all-kept (st .recs) 0 alone (st .recs) l))
+
+-- ── those that telling finds are those of the records
+unfoldable pub seenAmong : List ℕ → ℕ → List Rec → List Seen
+seenAmong s c [] = []
+seenAmong s c (font n h ∷ rs) = seenAmong s c rs
+seenAmong s c (character n k h d ∷ rs) = seenBefore (eqb k c) (seenAt s n c) (seenAmong s c rs)
+
+module _ (s : List ℕ) (st : Store) (e : decode s ≡ some st) (c : ℕ) (lc : c ≤ lastCode) where
+  abbrev finds : ℕ → Bool
+  finds n = eqb (tellingCharacter n c s toldOut .refusal) 0
+
+  tells-kept : (n : ℕ) (h d : List ℕ) → Kept (st .recs) n c h d → finds n ≡ true
+  unfolding tellingCharacter onCharacter onStore finding
+  tells-kept n h d x = rw (e, le-leb n lastFont (x .low), le-leb c lastCode (x .code), x .font-there, x .there)
+
+  tells-none : (n : ℕ) → find (keyOf n (c + 1)) (st .recs) ≡ none → finds n ≡ false
+  unfolding tellingCharacter onCharacter onStore finding
+  tells-none n q = rw (e, q) (go (numbered n c) (find (keyOf n 0) (st .recs)))
+    where
+      go : (t : Bool) (o : Option Rec) → eqb (checked (untold toldOut) t 2 (finding (untold toldOut) o 6 (λ r. untold toldOut 7)) .refusal) 0 ≡ false
+      go false o = refl
+      go true none = unfold finding in refl
+      go true (some r) = unfold finding in refl
+
+  -- numbers of fonts without such a character
+  passed : (g n m n' m' : ℕ) → n + g ≡ n' → g + m' ≡ m → ((j : ℕ) → n ≤ j → j < n' → find (keyOf j (c + 1)) (st .recs) ≡ none) → seenFrom s c n m ≡ seenFrom s c n' m'
+  unfolding seenFrom seenBefore
+  passed zero n m n' m' p q f = let x : n ≡ n' = omega arith in let y : m ≡ m' = omega arith in ap₂ (seenFrom s c) x y
+  passed (suc g) n zero n' m' p q f = absurd (omega arith)
+  passed (suc g) n (suc m) n' m' p q f =
+      rw (tells-none n (f n (omega arith) (omega arith))) (passed g (n + 1) m n' m' (omega arith) (omega arith) (λ j a b. f j (omega arith) b))
+
+  found-next : (n m : ℕ) (h d : List ℕ) → Kept (st .recs) n c h d → seenFrom s c n (suc m) ≡ seenAt s n c ∷ seenFrom s c (n + 1) m
+  unfolding seenFrom seenBefore
+  found-next n m h d x = rw (tells-kept n h d x)
+
+  are-among : (rs : List Rec) (k : ℕ) (u : Under) (n m : ℕ) → sorted k u rs ≡ true → AllKept (st .recs) rs → n + m ≡ 32768
+      → ((j : ℕ) → n ≤ j → find (keyOf j (c + 1)) (st .recs) ≡ find (keyOf j (c + 1)) rs) → ((j : ℕ) → k ≤ keyOf j (c + 1) → n ≤ j) → seenFrom s c n m ≡ seenAmong s c rs
+  unfolding seenAmong seenBefore
+  are-among [] k u n m o a p f b = passed m n m (n + m) 0 refl (omega arith) (λ j l i. f j l ∙ (unfold find in refl)) ∙ (unfold seenFrom in refl)
+  are-among (font i h ∷ rs) k u n m o a p f b =
+      let w = sorted-inv k u (font i h) rs o in
+      are-among rs (key (font i h) + 1) (under u (font i h)) n m (w .rest) a p
+      (λ j l. f j l ∙ find-other (keyOf j (c + 1)) (font i h) rs (λ z. omega (arith, z, font-key i h)))
+      (λ j l. b j (omega (arith, l, w .least)))
+  are-among (character i q h d ∷ rs) k u n m o a p f b =
+      let w = sorted-inv k u (character i q h d) rs o in
+      go w (eqb q c) refl (λ n' m' p' f' b'. are-among rs (key (character i q h d) + 1) (under u (character i q h d)) n' m' (w .rest) (a .1) p' f' b')
+    where
+      go : Sorted k u (character i q h d) rs → (t : Bool) → eqb q c ≡ t
+          → ((n' m' : ℕ) → n' + m' ≡ 32768 → ((j : ℕ) → n' ≤ j → find (keyOf j (c + 1)) (st .recs) ≡ find (keyOf j (c + 1)) rs) → ((j : ℕ) → key (character i q h d) + 1 ≤ keyOf j (c + 1) → n' ≤ j) → seenFrom s c n' m' ≡ seenAmong s c rs)
+          → seenFrom s c n m ≡ seenBefore t (seenAt s i c) (seenAmong s c rs)
+      go w false z next =
+          next n m p
+          (λ j l. f j l ∙ find-other (keyOf j (c + 1)) (character i q h d) rs (λ y. eqb-false q c z (omega (arith, y, character-key i q h d, a .0 .code, lc))))
+          (λ j l. b j (omega (arith, l, w .least)))
+      go w true z next =
+          let x : Kept (st .recs) i c h d = subst (λ (v : ℕ). Kept (st .recs) i v h d) (eqb-true q c z) (a .0) in
+          let y : key (character i q h d) ≡ keyOf i (c + 1) = character-key i q h d ∙ ap (λ (v : ℕ). keyOf i (v + 1)) (eqb-true q c z) in
+          let g : n ≤ i = b i (omega (arith, y, w .least)) in
+          let low : i ≤ 32767 = x .low in
+          (passed (i - n) n m i (suc (32767 - i)) (omega (arith, g)) (omega (arith, g, low, p))
+          (λ j l v. f j l ∙ find-other (keyOf j (c + 1)) (character i q h d) rs (λ t. omega (arith, t, y, v)) ∙ find-behind (keyOf j (c + 1)) (key (character i q h d) + 1) (under u (character i q h d)) rs (w .rest) (omega (arith, y, v)))
+          ∙ found-next i (32767 - i) h d x
+          ∙ ap (λ (l : List Seen). seenAt s i c ∷ l)
+          (next (i + 1) (32767 - i) (omega (arith, low)) (λ j l. f j (omega (arith, l, g)) ∙ find-other (keyOf j (c + 1)) (character i q h d) rs (λ t. omega (arith, t, y, l))) (λ j l. omega (arith, l, y))))
+
+pub seen-are : (s : List ℕ) → isStore s ≡ true → (c : ℕ) → c ≤ lastCode → seenIn c s ≡ seenAmong s c (recordsIn s)
+seen-are s i c lc =
+    let x = is-store s i in
+    let st : Store = x .0 in
+    let o = decoded s st (x .1) .2 in
+    let l : Looked (st .recs) 0 alone (st .recs) = record { order = o; rest = λ j g. refl; owner = λ n e. absurd (omega (arith, e)) } in
+    are-among s st (x .1) c lc (st .recs) 0 alone 0 32768 o (all-kept (st .recs) 0 alone (st .recs) l) (omega arith) (λ j g. refl) (λ j g. omega arith)
+    ∙ ap (seenAmong s c) (sym (records-are s st (x .1)))

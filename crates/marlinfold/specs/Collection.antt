@@ -1,19 +1,16 @@
 -- W-210, "Figures for the collection": what the calls make of the figures, by what the calls that tell and draw answer of the characters.
-use Prim.Native.Nat.{ℕ, _+_, _*_, _-_, _/_, _<_, _≤_}
+use Prim.Native.Nat.{ℕ, zero, suc, _+_, _*_, _-_, _/_, _<_, _≤_}
 use mathlib.Core.Path.{_≡_}
 use mathlib.Core.Logic.{_⊎_, _↔_}
 use mathlib.Core.List.{List, [], _∷_, _++_, map}
 use mathlib.Core.Bool.{Bool, true, false}
 use lib.Dec.{eqb}
+use lib.Count.{ones}
 use lib.ListN.{length, take, drop, replicate}
-use Rattle.pictures.specs.Size.{dataLimit}
-use Rattle.blocks.specs.Character.{descriptorBytes, width, deltaX}
-use Rattle.form.specs.Layout.{lastCode}
+use Rattle.blocks.specs.Character.{width, deltaX}
 use Rattle.form.specs.Num.{field, Bytes}
-use Rattle.form.specs.Model.{Rec, font, character}
-use Rattle.form.specs.Records.{isStore, recordsIn}
+use Rattle.form.specs.Records.{isStore}
 use Rattle.choice.specs.Lists.{In}
-use Rattle.blackdots.specs.Black.{onesOf}
 use Rattle.collection.specs.Handed.{storesAmong, AllBytes, Rearranged}
 use Rattle.marlinfold.specs.Calls.{download-character, tell-character, draw-picture, add-figures, outcome}
 use Rattle.marlinfold.specs.Trials.{A, storeAfter}
@@ -46,21 +43,20 @@ pub record Seen : Type 0 where
 
 -- the character of code c of font n of the store s
 abbrev pub seenAt : List ℕ → ℕ → ℕ → Seen
-seenAt s n c = record { told = outcome (tell-character n c (replicate descriptorBytes 0)) s .out; drawn = outcome (draw-picture n c (replicate dataLimit 0)) s .out }
+seenAt s n c = record { told = outcome (tell-character n c (replicate 16 0)) s .out; drawn = outcome (draw-picture n c (replicate 32768 0)) s .out }
 
 unfoldable pub seenBefore : Bool → Seen → List Seen → List Seen
 seenBefore true x l = x ∷ l
 seenBefore false x l = l
 
--- those with code c among records of the store s
-unfoldable pub seenAmong : List ℕ → ℕ → List Rec → List Seen
-seenAmong s c [] = []
-seenAmong s c (font n h ∷ rs) = seenAmong s c rs
-seenAmong s c (character n k h d ∷ rs) = seenBefore (eqb k c) (seenAt s n c) (seenAmong s c rs)
+-- those with code c of m fonts from number n on: all that telling finds
+unfoldable pub seenFrom : List ℕ → ℕ → ℕ → ℕ → List Seen
+seenFrom s c n zero = []
+seenFrom s c n (suc m) = seenBefore (eqb (outcome (tell-character n c (replicate 16 0)) s .refusal) 0) (seenAt s n c) (seenFrom s c (n + 1) m)
 
--- those with code c in a store, and in several
+-- those with code c in a store, of the fonts 0 to 32767, and in several
 abbrev pub seenIn : ℕ → List ℕ → List Seen
-seenIn c s = seenAmong s c (recordsIn s)
+seenIn c s = seenFrom s c 0 32768
 
 unfoldable pub seenInAll : ℕ → List (List ℕ) → List Seen
 seenInAll c [] = []
@@ -72,7 +68,7 @@ sumOf [] = 0
 sumOf (x ∷ l) = x + sumOf l
 
 abbrev pub blackOf : Seen → ℕ
-blackOf x = onesOf (x .drawn)
+blackOf x = sumOf (map ones (x .drawn))
 
 abbrev pub widthOf : Seen → ℕ
 widthOf x = width (x .told)
@@ -116,9 +112,9 @@ pub record Counted (l : List Seen) (c : ℕ) (b after : List ℕ) : Type 0 where
 pub record Allowed (b : List ℕ) : Type 0 where
   pub long : length b ≡ figuresLength
   pub stores : storesSoFar b < 64
-  pub count : (c : ℕ) → c ≤ lastCode → figureNumber c 0 b ≤ storesSoFar b * 606
-  pub dots : (c : ℕ) → c ≤ lastCode → figureNumber c 1 b ≤ storesSoFar b * 606 * 262144
-  pub sum : (c : ℕ) → c ≤ lastCode → figureNumber c 4 b ≤ storesSoFar b * 606 * 32767
+  pub count : (c : ℕ) → c ≤ 255 → figureNumber c 0 b ≤ storesSoFar b * 606
+  pub dots : (c : ℕ) → c ≤ 255 → figureNumber c 1 b ≤ storesSoFar b * 606 * 262144
+  pub sum : (c : ℕ) → c ≤ 255 → figureNumber c 4 b ≤ storesSoFar b * 606 * 32767
 
 -- for any two buffers: 1 exactly for no store, else 0 exactly for figures that are allowed (and 2 for all others, by demand 1)
 abbrev pub FiguresRefused : Type 0
@@ -132,7 +128,7 @@ abbrev pub FiguresAdded : Type 0
 FiguresAdded =
     (s b : List ℕ) → Bytes s → Bytes b → outcome (add-figures b) s .refusal ≡ 0
     → let after : List ℕ = outcome (add-figures b) s .out in
-    (length after ≡ figuresLength) × (storesSoFar after ≡ storesSoFar b + 1) × ((c : ℕ) → c ≤ lastCode → Counted (seenIn c s) c b after)
+    (length after ≡ figuresLength) × (storesSoFar after ≡ storesSoFar b + 1) × ((c : ℕ) → c ≤ 255 → Counted (seenIn c s) c b after)
 
 -- "each store raises a code's count by at most (length - 12) / 108, rounded down, its dots by at most 262,144 times and its sum by at most 32,767 times
 -- that bound"
@@ -141,10 +137,10 @@ FiguresBounded =
     (s b : List ℕ) → Bytes s → Bytes b → outcome (add-figures b) s .refusal ≡ 0
     → let after : List ℕ = outcome (add-figures b) s .out in
     let most : ℕ = (length s - 12) / 108 in
-    (c : ℕ) → c ≤ lastCode
+    (c : ℕ) → c ≤ 255
     → (figureNumber c 0 after ≤ figureNumber c 0 b + most) × (figureNumber c 1 after ≤ figureNumber c 1 b + most * 262144) × (figureNumber c 4 after ≤ figureNumber c 4 b + most * 32767)
 
--- the figures after buffers handed in one by one: "while only these calls write there"
+-- "While only these calls write there": the figures after buffers handed in one by one
 unfoldable pub collected : List (List ℕ) → List ℕ → List ℕ
 collected [] b = b
 collected (s ∷ ss) b = collected ss (outcome (add-figures b) s .out)
@@ -158,7 +154,7 @@ abbrev pub FiguresTogether : Type 0
 FiguresTogether =
     (ss : List (List ℕ)) → AllBytes ss
     → let after : List ℕ = collected ss noFigures in
-    (length after ≡ figuresLength) × (storesSoFar after ≡ length (takenAmong ss)) × ((c : ℕ) → c ≤ lastCode → Counted (seenInAll c (takenAmong ss)) c noFigures after)
+    (length after ≡ figuresLength) × (storesSoFar after ≡ length (takenAmong ss)) × ((c : ℕ) → c ≤ 255 → Counted (seenInAll c (takenAmong ss)) c noFigures after)
 
 -- "in any order of handing in"
 abbrev pub FiguresAnyOrder : Type 0
@@ -168,23 +164,31 @@ FiguresAnyOrder = (ss ts : List (List ℕ)) → Rearranged ss ts → AllBytes ss
 abbrev pub FiguresTaken : Type 0
 FiguresTaken = (ss : List (List ℕ)) (s : List ℕ) → AllBytes ss → isStore s ≡ true → length (storesAmong ss) < 64 → outcome (add-figures (collected ss noFigures)) s .refusal ≡ 0
 
--- ── a row, computed: code 65 in two stores, 8 dots wide and 1 high with delta X 120, and 3 dots wide and 2 high with delta X 7 and every bit beyond
--- the width set
+-- ── a row, computed, byte by byte: code 65 in two stores, 258 dots wide and 1 high with delta X 300, and 3 dots wide and 2 high with delta X 7; every bit
+-- beyond the width is set
 unfoldable pub wideLetter : List ℕ
-wideLetter = 4 ∷ 0 ∷ 14 ∷ 1 ∷ 0 ∷ 0 ∷ 0 ∷ 0 ∷ 0 ∷ 0 ∷ 0 ∷ 8 ∷ 0 ∷ 1 ∷ 0 ∷ 120 ∷ 255 ∷ []
+wideLetter = 4 ∷ 0 ∷ 14 ∷ 1 ∷ 0 ∷ 0 ∷ 0 ∷ 0 ∷ 0 ∷ 0 ∷ 1 ∷ 2 ∷ 0 ∷ 1 ∷ 1 ∷ 44 ∷ replicate 33 255
 
 unfoldable pub narrowLetter : List ℕ
 narrowLetter = 4 ∷ 0 ∷ 14 ∷ 1 ∷ 0 ∷ 0 ∷ 0 ∷ 0 ∷ 0 ∷ 0 ∷ 0 ∷ 3 ∷ 0 ∷ 2 ∷ 0 ∷ 7 ∷ 255 ∷ 191 ∷ []
 
 -- a store with A and this character of it
 unfoldable pub lettersStore : List ℕ → List ℕ
-lettersStore b = storeAfter 128 (A ∷ download-character 5 65 b ∷ [])
+lettersStore b = storeAfter 160 (A ∷ download-character 5 65 b ∷ [])
 
 unfoldable pub twoStores : List (List ℕ)
 twoStores = lettersStore wideLetter ∷ lettersStore narrowLetter ∷ []
 
-abbrev pub sevenOf : ℕ → List ℕ → List ℕ
-sevenOf c b = figureNumber c 0 b ∷ figureNumber c 1 b ∷ figureNumber c 2 b ∷ figureNumber c 3 b ∷ figureNumber c 4 b ∷ figureNumber c 5 b ∷ figureNumber c 6 b ∷ []
-
+-- two stores; two characters, 263 dots, least 3, greatest 258, sum 307, mean 153, rest 1
 abbrev pub FiguresRow : Type 0
-FiguresRow = sevenOf 65 (collected twoStores noFigures) ≡ 2 ∷ 13 ∷ 3 ∷ 8 ∷ 127 ∷ 63 ∷ 1 ∷ []
+FiguresRow =
+    let after : List ℕ = collected twoStores noFigures in
+    (take 8 after ≡ 2 ∷ 0 ∷ 0 ∷ 0 ∷ 0 ∷ 0 ∷ 0 ∷ 0 ∷ [])
+    × (take 56 (drop 3648 after)
+    ≡ 2 ∷ 0 ∷ 0 ∷ 0 ∷ 0 ∷ 0 ∷ 0 ∷ 0
+    ∷ 7 ∷ 1 ∷ 0 ∷ 0 ∷ 0 ∷ 0 ∷ 0 ∷ 0
+    ∷ 3 ∷ 0 ∷ 0 ∷ 0 ∷ 0 ∷ 0 ∷ 0 ∷ 0
+    ∷ 2 ∷ 1 ∷ 0 ∷ 0 ∷ 0 ∷ 0 ∷ 0 ∷ 0
+    ∷ 51 ∷ 1 ∷ 0 ∷ 0 ∷ 0 ∷ 0 ∷ 0 ∷ 0
+    ∷ 153 ∷ 0 ∷ 0 ∷ 0 ∷ 0 ∷ 0 ∷ 0 ∷ 0
+    ∷ 1 ∷ 0 ∷ 0 ∷ 0 ∷ 0 ∷ 0 ∷ 0 ∷ 0 ∷ [])

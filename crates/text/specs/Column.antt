@@ -10,5 +10,9 @@ space = 32
 abbrev pub newline : ℕ
 newline = 10
 
+-- room for any number below 2^64: 20 digits, and the byte after them
+abbrev pub numberRoom : ℕ
+numberRoom = 21
+
 unfoldable pub column : ℕ → ℕ → List ℕ
 column n after = decimal n ++ (after ∷ [])

@@ -17,7 +17,7 @@ returns c =
     let k = c .before .before .before in
     let w : ℕ = k .args .width in
     let b : List ℕ = now (k .args .b) in
-    let even : w % 8 ≡ 0 = c .if1 .taken in
+    let even : w % 8 ≡ 0 = omega (arith, c .if1 .taken) in
     let e : blackDots 1 w (k .args .height) b + overhang (rowSize w) 0 b (k .args .height) ≡ onesOf b = black-bitmap w b (k .pre .0) (λ i. c .before .before .shared-slice-known .given i .fits) 0 (k .args .height) (omega arith) (k .pre .1) in
     omega (arith, e, overhang-zero (rowSize w) b (k .args .height), c .before .ones-in .ensures)
 
