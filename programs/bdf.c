@@ -51,7 +51,7 @@ static const option options[] = {
     {HUNDREDTHS, "--height", "POINTS", &height, 0, 99975, "height (its pixel size)"},
     {NUMBER, "--style", "N", &style, 0, 1023, "style word (1 if slanted, else 0)"},
     {NUMBER, "--weight", "N", &weight, MF_ULTRA_THIN, MF_ULTRA_BLACK,
-     "stroke weight, -7 to 7, where 3 is bold (by its weight's name, else 0)"},
+     "stroke weight, -7 to 7, where 3 is bold (by its weight's name, 0 without one)"},
     {NUMBER, "--face", "N", &face, 0, 65535, "typeface, 0 to 65535 (0)"},
     {NUMBER, "--orientation", "N", &orientation, 0, 3,
      "0 portrait, 1 landscape, 2 and 3 reverse: the characters are turned (0)"}};
@@ -65,7 +65,9 @@ static const description program = {
     "(class 1).\n",
     "Exit status: 0 if the font was written whole, 2 if it was written but a character is left\n"
     "out, incomplete or of another width, or a font file was not taken whole, 1 if it was not\n"
-    "written. A BDF file that is broken is told with its line and the reason.\n",
+    "written. Also 2, and nothing is written, if a BDF file has a weight's name that is not known\n"
+    "and --weight does not say the weight. A BDF file that is broken is told with its line and\n"
+    "the reason.\n",
     options, sizeof options / sizeof *options};
 
 /* ---- out ---- */
@@ -186,7 +188,8 @@ static long usual_type(const bdf_font *from)
     return made;
 }
 
-static long usual_weight(const bdf_font *from)
+/* The weight of the file's name for it, NOT_SAID if that is none that is known. */
+static long named_weight(const bdf_font *from)
 {
     static const struct {
         const char *name;
@@ -203,10 +206,19 @@ static long usual_weight(const bdf_font *from)
     for (at = 0; at < sizeof others / sizeof *others; at++)
         if (same_word(from->weight, others[at].name))
             return others[at].weight;
-    if (weight == NOT_GIVEN && from->fields[CARRIED_WEIGHT] == NOT_SAID)
-        tell("%s: WEIGHT_NAME is none that is known, weight 0 is taken; --weight gives another",
-             shown(from->file));
-    return MF_MEDIUM;
+    return NOT_SAID;
+}
+
+/* Whether the weight is known; tells it if not. None is guessed then, since bold marks a closed
+ * series. */
+static int has_weight(const bdf_font *from)
+{
+    if (first_of(weight, from->fields[CARRIED_WEIGHT], named_weight(from)) != NOT_SAID)
+        return 1;
+    tell("%s: WEIGHT_NAME \"%s\" is none that is known, nothing is written; --weight N says the "
+         "weight, where 0 is medium and 3 bold",
+         shown(from->file), shown(from->weight));
+    return 0;
 }
 
 static long usual_set(const bdf_font *from)
@@ -312,7 +324,7 @@ static size_t make_header(uint8_t *header, const bdf_font *from)
                 {CARRIED_STYLE, style, usual_style(from)},
                 {CARRIED_ORIENTATION, orientation, MF_PORTRAIT},
                 {CARRIED_SYMBOL_SET, set, usual_set(from)},
-                {CARRIED_WEIGHT, weight, usual_weight(from)},
+                {CARRIED_WEIGHT, weight, named_weight(from)},
                 {CARRIED_TYPEFACE, face, 0},
                 {CARRIED_FIRST_CODE, NOT_GIVEN, end_code(from, 0)},
                 {CARRIED_LAST_CODE, NOT_GIVEN, end_code(from, 1)}};
@@ -527,6 +539,10 @@ static int write_in(void)
 
     check_against(out, bdf);
     read_bdf(&from, bdf);
+    if (!has_weight(&from)) {
+        free_bdf(&from);
+        return INCOMPLETE;
+    }
     made.from = &from;
     made.font = (uint32_t)first_of(number, from.number, 0);
     bring_header(&made);
