@@ -4,6 +4,7 @@
 #include "json.h"
 #include "kept.h"
 #include "loading.h"
+#include "looks.h"
 #include "message.h"
 #include "output.h"
 
@@ -44,57 +45,24 @@ static unsigned long fonts, incomplete;
 
 /* A listed font, by what it looks like. */
 typedef struct {
-    uint64_t looks[2];
+    looks of;
     const char *file;
     uint32_t font;
 } listed;
 static listed *list;
 static size_t listed_count, listed_room;
 
-/* Two sums of bytes, each of which changes with every byte and its place. */
-static void add_bytes(uint64_t looks[2], const uint8_t *bytes, size_t length)
-{
-    for (; length--; bytes++) {
-        looks[0] = (looks[0] ^ *bytes) * 0x100000001B3u;
-        looks[1] = (looks[1] + *bytes + 1) * 0x9E3779B97F4A7C15u;
-        looks[1] ^= looks[1] >> 29;
-    }
-}
-
-/* A font's looks: its header, and of each character its code, where it is placed, how far it
- * moves the cursor, and its dots. */
-static listed looks_of(uint32_t font)
-{
-    listed made = {{0xCBF29CE484222325u, 1}, NULL, 0};
-    uint8_t kept[MF_FONT_BYTES];
-    mf_character_fields told;
-    uint32_t code;
-
-    mf_tell_font(store, sizeof store, kept, sizeof kept, font);
-    add_bytes(made.looks, kept, sizeof kept);
-    for (code = 0; code <= MF_CODE_MAX; code++)
-        if (tell_character(font, code, &told)) {
-            char placed[80];
-            int length = snprintf(placed, sizeof placed, "%u %d %d %u %u %u", (unsigned)code,
-                                  (int)told.left, (int)told.top, (unsigned)told.width,
-                                  (unsigned)told.height, (unsigned)told.delta_x);
-            add_bytes(made.looks, (const uint8_t *)placed, (size_t)length);
-            add_bytes(made.looks, picture_of(font, code),
-                      mf_picture_bytes(told.width, told.height));
-        }
-    made.file = origin[font].file;
-    made.font = origin[font].number;
-    return made;
-}
-
 /* The font listed before that looks the same, or NULL; this one is listed from now on. */
 static const listed *same_as(uint32_t font)
 {
-    listed made = looks_of(font);
+    listed made;
     size_t at;
 
+    made.of = looks_of(font);
+    made.file = origin[font].file;
+    made.font = origin[font].number;
     for (at = 0; at < listed_count; at++)
-        if (memcmp(list[at].looks, made.looks, sizeof made.looks) == 0)
+        if (same_dots(&list[at].of, &made.of) && same_fields(&list[at].of, &made.of))
             return &list[at];
     if (listed_count == listed_room) {
         listed_room = 2 * listed_room + 64;

@@ -3,6 +3,7 @@
 #include "arguments.h"
 #include "cartridge.h"
 #include "kept.h"
+#include "line.h"
 #include "loading.h"
 #include "message.h"
 #include "output.h"
@@ -12,8 +13,6 @@
 
 #include <stdlib.h>
 #include <string.h>
-
-#define MARGIN 12
 
 static long named = NOT_GIVEN, exact, ink, space = NOT_GIVEN, turn, bytes, plain, png;
 static const char *cartridge, *out;
@@ -137,12 +136,6 @@ static int are_level(uint32_t a, uint32_t b)
            of.resolution == to.resolution && of.orientation == to.orientation;
 }
 
-/* Whether a font has a code. */
-static int has_code(uint32_t font, int code, mf_character_fields *told)
-{
-    return code != NO_CODE && tell_character(font, (uint32_t)code, told);
-}
-
 /* Whether a font has every letter of the text; a space needs no character. */
 static int has_all(uint32_t font, const text *words)
 {
@@ -240,15 +233,6 @@ static const char *holder(const char *before)
     return cartridge ? words : "";
 }
 
-/* The line that is set, and the paper that it needs around the cursor's first place. */
-typedef struct {
-    text words;
-    uint32_t number;
-    mf_font_fields font;
-    int64_t blank; /* what a missing character leaves free, in 256ths of a quarter-dot */
-    long left, top, right, bottom;
-} line;
-
 /* Takes a font for the line, tells the user which, and turns the words into its codes. The store
  * that holds it is then in use. */
 static void choose(line *of, const mf_request *asked, const char *words)
@@ -277,116 +261,30 @@ static void choose(line *of, const mf_request *asked, const char *words)
 
 /* ---- setting ---- */
 
-/* Whether a letter of the line, or a space, is not there. */
-static int needs_blank(const line *of)
+/* Sets what a missing character leaves free, and tells where it is not the pitch. */
+static void set_blank(line *of)
 {
-    mf_character_fields told;
-    size_t at = 0;
+    enum blank_kind kind;
+    mf_character_fields n;
 
-    while (at < of->words.count && has_code(of->number, of->words.letters[at].code, &told))
-        at++;
-    return at < of->words.count;
-}
-
-/* What a missing character leaves free: the pitch, unless that is no width of a space. */
-static int64_t blank_of(const line *of)
-{
-    int64_t pitch = 256 * (int64_t)of->font.pitch + of->font.pitch_extended;
-    mf_character_fields n, blank;
-
-    if (space != NOT_GIVEN)
-        return 1024 * (int64_t)space;
-    if (of->font.spacing == MF_FIXED || of->font.pitch <= 8 * of->font.cell_width ||
-        !needs_blank(of) || tell_character(of->number, ' ', &blank))
-        return pitch;
-    if (!tell_character(of->number, 'n', &n)) {
+    if (space != NOT_GIVEN) {
+        of->blank = 1024 * (int64_t)space;
+        return;
+    }
+    kind = take_blank(of);
+    if (kind == BLANK_TOO_WIDE)
         tell("the font's pitch, %u dots, is wide for a space; --space sets another",
              (unsigned)of->font.pitch / 4);
-        return pitch;
-    }
-    tell("the font's pitch, %u dots, is too wide for a space: the width of n is taken, %u dots",
-         (unsigned)of->font.pitch / 4, (unsigned)n.delta_x / 4);
-    return 256 * (int64_t)n.delta_x;
+    if (kind == BLANK_OF_N && tell_character(of->number, 'n', &n))
+        tell("the font's pitch, %u dots, is too wide for a space: the width of n is taken, %u dots",
+             (unsigned)of->font.pitch / 4, (unsigned)n.delta_x / 4);
 }
 
-/* How far a character moves the cursor along the line, in 256ths of a quarter-dot. Fixed
- * fonts move it by their pitch, proportional ones by the character's delta X. */
-static int64_t advance(const line *of, const mf_character_fields *character)
+/* Takes in the font's cell, and tells if dots stand beyond it. */
+static void take_whole_cell(line *of)
 {
-    if (!character)
-        return of->blank;
-    if (of->font.spacing == MF_FIXED)
-        return 256 * (int64_t)of->font.pitch + of->font.pitch_extended;
-    return 256 * (int64_t)character->delta_x;
-}
+    long high = (long)of->font.cell_height, across = take_cell(of);
 
-/* A place on the paper so far along the line: to the right, in a landscape font up,
- * in the reverse ones to the left and down. */
-static void go_along(const mf_font_fields *font, int64_t cursor, long *left, long *top)
-{
-    int64_t along = (cursor + 512) / 1024;
-    long dots = along < 2000000 ? (long)along : 2000000; /* longer than any page */
-
-    switch (font->orientation) {
-    case MF_PORTRAIT: *left += dots; break;
-    case MF_LANDSCAPE: *top -= dots; break;
-    case MF_REVERSE_PORTRAIT: *left -= dots; break;
-    default: *top += dots; break;
-    }
-}
-
-static void take_in(line *in, long left, long top, long right, long bottom)
-{
-    in->left = left < in->left ? left : in->left;
-    in->top = top < in->top ? top : in->top;
-    in->right = right > in->right ? right : in->right;
-    in->bottom = bottom > in->bottom ? bottom : in->bottom;
-}
-
-/* Sets the line: without a label to see how much paper it needs, with one to place the
- * characters on it. */
-static void set_line(line *of, page *label)
-{
-    size_t at;
-    int64_t cursor = 0;
-    long left = 0, top = 0;
-
-    for (at = 0; at < of->words.count; at++) {
-        int code = of->words.letters[at].code;
-        mf_character_fields told;
-        int there = has_code(of->number, code, &told);
-        if (there) {
-            /* Offsets are from the cursor, to the right and up. */
-            left = told.left;
-            top = -(long)told.top;
-            go_along(&of->font, cursor, &left, &top);
-        }
-        if (there && label)
-            place(label, of->number, (uint32_t)code, &told, left - of->left + MARGIN,
-                  top - of->top + MARGIN);
-        else if (there)
-            take_in(of, left, top, left + (long)told.width, top + (long)told.height);
-        cursor += advance(of, there ? &told : NULL);
-    }
-    left = top = 0;
-    go_along(&of->font, cursor, &left, &top);
-    take_in(of, left, top, left, top);
-}
-
-/* Takes in the font's cell, across the line: as far above the baseline and below it as every
- * label of this font. Tells if dots stand beyond it. */
-static void take_cell(line *of)
-{
-    long above = (long)of->font.baseline, high = (long)of->font.cell_height, below = high - above;
-    long across;
-
-    switch (of->font.orientation) {
-    case MF_PORTRAIT: take_in(of, 0, -above, 0, below); break;
-    case MF_LANDSCAPE: take_in(of, -above, 0, below, 0); break;
-    case MF_REVERSE_PORTRAIT: take_in(of, 0, 1 - below, 0, above + 1); break;
-    default: take_in(of, 1 - below, 0, above + 1, 0);
-    }
-    across = of->font.orientation % 2 ? of->right - of->left : of->bottom - of->top;
     if (across > high)
         tell("dots stand beyond the font's cell of %ld dots: the label takes %ld and may not align",
              high, across);
@@ -450,37 +348,22 @@ static int tell_missing(const line *of)
 /* The label turned by so many quarters, 0 leaving it as it is. */
 static page turned(page label, uint32_t quarters)
 {
-    page made;
-    uint32_t refusal;
-
     if (quarters == 0)
         return label;
     if (label.width > MF_SIDE_MAX || label.height > MF_SIDE_MAX)
         stop("--turn %u: a label of %ld by %ld dots, and at most %d by %d can be turned",
              (unsigned)quarters, label.width, label.height, MF_SIDE_MAX, MF_SIDE_MAX);
-    made = quarters == 2 ? new_page(label.width, label.height)
-                         : new_page(label.height, label.width);
-    refusal = mf_turn_picture(label.dots, label.row_bytes * (size_t)label.height, made.dots,
-                              made.row_bytes * (size_t)made.height, (uint32_t)label.width,
-                              (uint32_t)label.height, quarters);
-    if (refusal)
-        refuse("turning", refusal);
-    free(label.dots);
-    return made;
+    return turn_page(label, quarters);
 }
 
 /* Draws the line on a label of its size. */
 static page draw(line *of)
 {
-    page label;
-
-    of->blank = blank_of(of);
-    set_line(of, NULL);
+    set_blank(of);
+    measure_line(of);
     if (!ink)
-        take_cell(of);
-    label = new_page(of->right - of->left + 2 * MARGIN, of->bottom - of->top + 2 * MARGIN);
-    set_line(of, &label);
-    return turned(label, (uint32_t)turn);
+        take_whole_cell(of);
+    return turned(draw_line(of), (uint32_t)turn);
 }
 
 int main(int argc, char **argv)

@@ -3,17 +3,15 @@
  * docs/marlinfold-specimen.1. */
 #include "arguments.h"
 #include "kept.h"
-#include "letters.h"
 #include "loading.h"
 #include "message.h"
 #include "output.h"
 #include "page.h"
 #include "profile.h"
+#include "sheet.h"
 
 #include <stdlib.h>
 #include <string.h>
-
-#define GAP 8
 
 static long chosen = NOT_GIVEN, all, plain, png, profile;
 static const char *out;
@@ -44,103 +42,17 @@ static const description program = {
     "out.\n",
     options, sizeof options / sizeof *options};
 
-/* A field that takes every character around one point, the lines that have any, and what lies
- * between the fields; all in dots of the font, so that a sheet is as large in print at any
- * resolution. */
-typedef struct {
-    long left, above, right, below, lines;
-    int used[16];
-    long gap, scale; /* scale: dots to a dot of the caption's letters */
-} field;
-
-static field measure(uint32_t font)
-{
-    mf_character_fields told;
-    field made = {0, 0, 0, 0, 0, {0}, 0, 0};
-    uint32_t code;
-
-    for (code = 0; code <= MF_CODE_MAX; code++) {
-        long x, y;
-        if (!tell_character(font, code, &told))
-            continue;
-        x = told.left;
-        y = -(long)told.top;
-        made.left = x < made.left ? x : made.left;
-        made.above = y < made.above ? y : made.above;
-        x += (long)told.width;
-        y += (long)told.height;
-        made.right = x > made.right ? x : made.right;
-        made.below = y > made.below ? y : made.below;
-        made.lines += !made.used[code / 16];
-        made.used[code / 16] = 1;
-    }
-    return made;
-}
-
-/* What stands above the characters. */
-static void say_caption(char *words, size_t room, uint32_t number, const mf_font_fields *font)
-{
-    char set[16];
-
-    name_symbol_set(set, sizeof set, font->symbol_set);
-    snprintf(words, room, "font %u, set %s, pitch %.2f, height %.2f, weight %d (%s)",
-             (unsigned)number, set, mf_pitch_of(font) / 100.0, mf_height_of(font) / 100.0,
-             (int)font->weight, weight_name(font->weight));
-}
-
-/* Draws a line of sixteen codes with its first code beside it. */
-static void draw_line(page *sheet, uint32_t font, const field *of, uint32_t first, long left,
-                      long top)
-{
-    long wide = of->right - of->left + of->gap, middle = (of->below - of->above) / 2;
-    mf_character_fields told;
-    uint32_t code;
-    char words[8];
-
-    snprintf(words, sizeof words, "%3u", (unsigned)first);
-    write_words(sheet, words, of->gap, top + middle - LETTER_HEIGHT * of->scale / 2, of->scale);
-    for (code = first; code < first + 16; code++)
-        if (tell_character(font, code, &told))
-            place(sheet, font, code, &told,
-                  left + (long)(code - first) * wide - of->left + told.left,
-                  top - of->above - told.top);
-}
-
-static page draw_sheet(uint32_t number, const mf_font_fields *font, const field *of)
-{
-    long letter = LETTER_HEIGHT * of->scale, high = of->below - of->above, line;
-    long left = 2 * of->gap + words_width("000", of->scale), top = 3 * of->gap + letter, width;
-    char words[120];
-    page sheet;
-
-    high = of->gap + (high < letter ? letter : high);
-    say_caption(words, sizeof words, number, font);
-    width = left + 16 * (of->right - of->left + of->gap);
-    if (width < words_width(words, of->scale) + of->gap)
-        width = words_width(words, of->scale) + of->gap;
-    sheet = new_page(width + of->gap, top + of->lines * high);
-    write_words(&sheet, words, of->gap, of->gap, of->scale);
-    for (line = 0; line < 16; line++)
-        if (of->used[line]) {
-            draw_line(&sheet, number, of, (uint32_t)(16 * line), left, top);
-            top += high;
-        }
-    return sheet;
-}
-
 /* Draws a font's sheet and writes it to a file, or to standard output, which stays open; the exit
  * status. */
 static int write_sheet(const char *name, uint32_t number, enum page_form form)
 {
-    field around = measure(number);
     uint32_t characters;
     mf_font_fields font = tell_font(number, &characters);
+    sheet_field around = measure_sheet(number, font.resolution);
     int status = tell_missing_rows(number);
     page sheet;
     FILE *to;
 
-    around.gap = (long)font.resolution * GAP / 300;
-    around.scale = (long)font.resolution / 150;
     sheet = draw_sheet(number, &font, &around);
     to = open_output(name);
     write_page(to, &sheet, form, font.resolution);

@@ -8,15 +8,21 @@
 
 #define WINDOW (2 * INPUT_AHEAD)
 
-int open_input(input *in, const char *name)
+int try_input(input *in, const char *name)
 {
     *in = input_of(name, NULL, 0);
     in->file = strcmp(name, "-") == 0 ? stdin : fopen(name, "rb");
     in->window = in->file ? malloc(WINDOW) : NULL;
-    if (in->window)
-        return 1;
-    tell("%s: cannot be read: %s", shown(name), strerror(errno));
-    return 0;
+    return in->window ? 0 : errno;
+}
+
+int open_input(input *in, const char *name)
+{
+    int why = try_input(in, name);
+
+    if (why)
+        tell("%s: cannot be read: %s", shown(name), strerror(why));
+    return !why;
 }
 
 input input_of(const char *name, const uint8_t *bytes, size_t length)
@@ -52,14 +58,21 @@ void pass(input *in, size_t count)
     in->place += count;
 }
 
-int close_input(input *in)
+int end_input(input *in)
 {
     if (in->file && in->file != stdin)
         fclose(in->file);
     in->file = NULL;
     free(in->window);
     in->window = NULL;
-    if (in->failed)
-        tell("%s: cannot be read: %s", shown(in->name), strerror(in->failed));
-    return !in->failed;
+    return in->failed;
+}
+
+int close_input(input *in)
+{
+    int why = end_input(in);
+
+    if (why)
+        tell("%s: cannot be read: %s", shown(in->name), strerror(why));
+    return !why;
 }

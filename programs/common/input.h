@@ -22,6 +22,9 @@ typedef struct {
 /* Opens a file, "-" for standard input; 0 and a message if it cannot be opened. */
 int open_input(input *in, const char *name);
 
+/* The same without a message: answers 0, or the errno if it cannot be opened. */
+int try_input(input *in, const char *name);
+
 /* Bytes in memory as an input. */
 input input_of(const char *name, const uint8_t *bytes, size_t length);
 
@@ -34,5 +37,8 @@ void pass(input *in, size_t count);
 
 /* Closes it; 0 and a message if a read failed. */
 int close_input(input *in);
+
+/* The same without a message: answers 0, or the errno of a read that failed. */
+int end_input(input *in);
 
 #endif

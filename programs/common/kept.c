@@ -7,14 +7,26 @@
 #include <stdlib.h>
 #include <string.h>
 
-/* The told characters of one font, the last that was asked about. */
+/* The told characters of one font, the last that was asked about. It is written out, and each
+ * character is told and drawn in a store that holds it alone: each call checks the whole store, and
+ * of this one there is little to check. */
 static struct {
     int known; /* 0 if no font is */
     uint32_t font;
+    uint8_t stream[MF_WRITTEN_MAX(MF_STORE_MAX)];
+    size_t bytes; /* of the stream */
+    command header;
+    size_t at[MF_CODE_MAX + 1]; /* where the character's first block stands in the stream */
     mf_character_fields told[MF_CODE_MAX + 1];
     uint8_t there[MF_CODE_MAX + 1], incomplete[MF_CODE_MAX + 1];
     uint8_t *pictures[MF_CODE_MAX + 1];
 } kept;
+
+/* A store with the font's header and one character. */
+static struct {
+    uint8_t bytes[MF_STORE_MAX];
+    size_t length;
+} alone;
 
 void forget_kept(void)
 {
@@ -38,32 +50,72 @@ mf_font_fields tell_font(uint32_t number, uint32_t *characters)
     return mf_font_fields_of(bytes);
 }
 
-/* Finds the incomplete characters. The font is written out and taken by a second store,
- * block by block: there a character is open as long as it is incomplete, and an open one
- * takes a continuation without data. */
-static void find_incomplete(uint32_t font)
+/* Where the blocks of a character end in the stream. */
+static size_t end_of(uint32_t code)
 {
-    static uint8_t stream[MF_WRITTEN_MAX(MF_STORE_MAX)], second[MF_STORE_MAX];
+    size_t at = kept.at[code];
+    command given;
+
+    for (; at < kept.bytes; at += given.length) {
+        given = command_at(kept.stream + at, kept.bytes - at);
+        if (given.found != CHARACTER_BLOCK && (given.found != CODE || given.number != code))
+            break;
+    }
+    return at;
+}
+
+/* Takes a character into the store for one. */
+static void take_alone(uint32_t code)
+{
+    size_t at = kept.at[code], end = end_of(code);
+    command given;
+
+    alone.length = MF_STORE_MIN + MF_FONT_ROOM + MF_CHARACTER_ROOM + (end - at);
+    alone.length = alone.length < MF_STORE_MAX ? alone.length : MF_STORE_MAX;
+    mf_make_fresh(alone.bytes, alone.length);
+    mf_download_font(alone.bytes, alone.length, kept.header.block, kept.header.number, kept.font);
+    for (; at < end; at += given.length) {
+        given = command_at(kept.stream + at, end - at);
+        if (given.found == CHARACTER_BLOCK)
+            mf_download_character(alone.bytes, alone.length, given.block, given.number, kept.font,
+                                  code);
+    }
+}
+
+/* Tells a character, and whether it is incomplete: as long as it is, it is open, and an open one
+ * takes a continuation without data. */
+static void know_character(uint32_t code)
+{
     static const uint8_t empty[] = {4, 1};
-    mf_written written = mf_write_font(store, sizeof store, stream, sizeof stream, font);
+    uint8_t bytes[MF_CHARACTER_BYTES];
+    uint32_t refusal;
+
+    take_alone(code);
+    refusal = mf_tell_character(alone.bytes, alone.length, bytes, sizeof bytes, kept.font,
+                                code).refusal;
+    if (refusal)
+        refuse("character", refusal);
+    kept.told[code] = mf_character_fields_of(bytes);
+    kept.incomplete[code] = mf_download_character(alone.bytes, alone.length, empty, sizeof empty,
+                                                  kept.font, code).refusal == MF_DONE;
+}
+
+/* Finds the font's header and its characters in the stream. */
+static void find_blocks(void)
+{
     command given;
     uint32_t code = 0;
     size_t at;
 
-    if (written.refusal)
-        refuse("font", written.refusal);
-    mf_make_fresh(second, sizeof second);
-    for (at = 0; at < written.length; at += given.length) {
-        given = command_at(stream + at, written.length - at);
+    for (at = 0; at < kept.bytes; at += given.length) {
+        given = command_at(kept.stream + at, kept.bytes - at);
         if (given.found == CODE)
             code = given.number;
         else if (given.found == FONT_BLOCK)
-            mf_download_font(second, sizeof second, given.block, given.number, font);
-        else if (given.found == CHARACTER_BLOCK) {
-            mf_download_character(second, sizeof second, given.block, given.number, font, code);
-            kept.incomplete[code] = mf_download_character(second, sizeof second, empty,
-                                                          sizeof empty, font, code)
-                                        .refusal == MF_DONE;
+            kept.header = given;
+        else if (given.found == CHARACTER_BLOCK && !kept.there[code]) {
+            kept.there[code] = 1;
+            kept.at[code] = at;
         }
     }
 }
@@ -71,24 +123,30 @@ static void find_incomplete(uint32_t font)
 /* Has the library tell all characters of a font, if that was not the last one told. */
 static void know(uint32_t font)
 {
-    uint8_t bytes[MF_CHARACTER_BYTES];
+    mf_written written;
     uint32_t code;
 
     if (kept.known && kept.font == font)
         return;
     forget_kept();
+    memset(kept.there, 0, sizeof kept.there);
     memset(kept.incomplete, 0, sizeof kept.incomplete);
-    for (code = 0; code <= MF_CODE_MAX; code++) {
-        mf_told found = mf_tell_character(store, sizeof store, bytes, sizeof bytes, font, code);
-        if (found.refusal && found.refusal != MF_NO_CHARACTER)
-            refuse("character", found.refusal);
-        kept.there[code] = !found.refusal;
-        if (!found.refusal)
-            kept.told[code] = mf_character_fields_of(bytes);
-    }
-    find_incomplete(font);
-    kept.known = 1;
+    written = mf_write_font(store, sizeof store, kept.stream, sizeof kept.stream, font);
+    if (written.refusal)
+        refuse("font", written.refusal);
     kept.font = font;
+    kept.bytes = written.length;
+    find_blocks();
+    for (code = 0; code <= MF_CODE_MAX; code++)
+        if (kept.there[code])
+            know_character(code);
+    kept.known = 1;
+}
+
+size_t bytes_of_font(uint32_t font)
+{
+    know(font);
+    return kept.bytes;
 }
 
 int tell_character(uint32_t font, uint32_t code, mf_character_fields *told)
@@ -111,7 +169,8 @@ const uint8_t *picture_of(uint32_t font, uint32_t code)
     kept.pictures[code] = malloc(length);
     if (!kept.pictures[code])
         stop("no memory for a character");
-    refusal = mf_draw_picture(store, sizeof store, kept.pictures[code], length, font, code);
+    take_alone(code);
+    refusal = mf_draw_picture(alone.bytes, alone.length, kept.pictures[code], length, font, code);
     if (refusal)
         refuse("character", refusal);
     return kept.pictures[code];

@@ -20,6 +20,9 @@ int tell_character(uint32_t font, uint32_t code, mf_character_fields *told);
 /* Its picture, in rows of whole bytes. */
 const uint8_t *picture_of(uint32_t font, uint32_t code);
 
+/* How many bytes the font has as a stream of its own. */
+size_t bytes_of_font(uint32_t font);
+
 /* Whether rows are missing in it. */
 int is_incomplete(uint32_t font, uint32_t code);
 

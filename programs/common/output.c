@@ -62,3 +62,21 @@ void gather(gathered *into, const void *bytes, size_t length)
         memcpy(into->bytes + into->length, bytes, length);
     into->length += length;
 }
+
+void begin_draft(draft *made)
+{
+    made->text = NULL;
+    made->length = 0;
+    made->to = open_memstream(&made->text, &made->length);
+    if (!made->to)
+        stop("no memory: %s", strerror(errno));
+}
+
+void end_draft(draft *made)
+{
+    int failed = ferror(made->to);
+
+    if (fclose(made->to) || failed)
+        stop("no memory: %s", strerror(errno));
+    made->to = NULL;
+}

@@ -27,4 +27,15 @@ typedef struct {
 
 void gather(gathered *into, const void *bytes, size_t length);
 
+/* A text in memory that is written as a file is. */
+typedef struct {
+    FILE *to;
+    char *text; /* once it is ended */
+    size_t length;
+} draft;
+
+/* The draft stays where it is between the two. */
+void begin_draft(draft *made);
+void end_draft(draft *made);
+
 #endif

@@ -28,17 +28,49 @@ void blacken(page *on, long x, long y)
         on->dots[(size_t)y * on->row_bytes + (size_t)x / 8] |= (uint8_t)(0x80 >> x % 8);
 }
 
+/* Blackens the dots of a byte, whose highest bit is leftmost. */
+static void place_byte(page *on, uint8_t dots, long x, long y)
+{
+    uint8_t *at;
+    long dot;
+
+    if (x < 0 || y < 0 || x + 8 > on->width || y >= on->height) {
+        for (dot = 0; dot < 8; dot++)
+            if (dots & 0x80 >> dot)
+                blacken(on, x + dot, y);
+        return;
+    }
+    at = on->dots + (size_t)y * on->row_bytes + (size_t)x / 8;
+    at[0] |= (uint8_t)(dots >> x % 8);
+    if (x % 8)
+        at[1] |= (uint8_t)(dots << (8 - x % 8));
+}
+
 void place(page *on, uint32_t font, uint32_t code, const mf_character_fields *told, long left,
            long top)
 {
     const uint8_t *picture = picture_of(font, code);
-    size_t row_bytes = mf_row_bytes(told->width);
-    uint32_t x, y;
+    size_t row_bytes = mf_row_bytes(told->width), byte;
+    uint32_t y;
 
     for (y = 0; y < told->height; y++)
-        for (x = 0; x < told->width; x++)
-            if (picture[y * row_bytes + x / 8] & 0x80 >> x % 8)
-                blacken(on, left + (long)x, top + (long)y);
+        for (byte = 0; byte < row_bytes; byte++, picture++)
+            if (*picture)
+                place_byte(on, *picture, left + 8 * (long)byte, top + (long)y);
+}
+
+page turn_page(page from, uint32_t quarters)
+{
+    page made = quarters == 2 ? new_page(from.width, from.height)
+                              : new_page(from.height, from.width);
+    uint32_t refusal = mf_turn_picture(from.dots, from.row_bytes * (size_t)from.height, made.dots,
+                                       made.row_bytes * (size_t)made.height,
+                                       (uint32_t)from.width, (uint32_t)from.height, quarters);
+
+    if (refusal)
+        refuse("turning", refusal);
+    free(from.dots);
+    return made;
 }
 
 enum page_form form_asked(int plain, int png, const char *name)

@@ -27,6 +27,10 @@ void blacken(page *on, long x, long y);
 void place(page *on, uint32_t font, uint32_t code, const mf_character_fields *told, long left,
            long top);
 
+/* The page turned clockwise by 1 to 3 quarters, in the place of the one that is given. Its sides
+ * have at most MF_SIDE_MAX dots. */
+page turn_page(page from, uint32_t quarters);
+
 /* PBM, PBM in plain digits, PNG. */
 enum page_form { PBM, PLAIN_PBM, PNG };
 
