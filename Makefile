@@ -93,6 +93,7 @@ target/programs/marlinfold-%: programs/%.c $(headers) $(common) $(archive)
 	$(compile) -Iprograms/common $< $(common) $(archive) $(LDFLAGS) $(libraries) -o $@
 
 target/programs/marlinfold-label target/programs/marlinfold-specimen: libraries = $(png_libraries)
+target/programs/marlinfold-catalogue: libraries = $(png_libraries)
 
 # As a user builds them: with the installed header alone.
 target/examples/%: examples/%.c include/marlinfold.h $(archive)
