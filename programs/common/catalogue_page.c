@@ -27,7 +27,7 @@ static const char *const style[] = {
     "@media print {",
     "  body { font-size: 10pt; margin: 0; max-width: none; padding: 0; }",
     "  form { display: none; }",
-    "  h3, h4, tr, li, figure { break-inside: avoid; }",
+    "  h3, h4, table, li, figure { break-inside: avoid; }",
     "  h2, h3, h4, .closed { break-after: avoid; }",
     "  a { color: #000; text-decoration: none; }",
     "}"};

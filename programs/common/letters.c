@@ -34,14 +34,23 @@ long words_width(const char *words, long scale)
     return LETTER_STEP * scale * (long)strlen(words);
 }
 
+static void write_dot(page *on, long left, long top, long scale)
+{
+    long x, y;
+
+    for (y = 0; y < scale; y++)
+        for (x = 0; x < scale; x++)
+            blacken(on, left + x, top + y);
+}
+
 static void write_letter(page *on, const unsigned char *letter, long left, long top, long scale)
 {
     long x, y;
 
-    for (y = 0; y < LETTER_HEIGHT * scale; y++)
-        for (x = 0; x < LETTER_WIDTH * scale; x++)
-            if (letter[y / scale] >> (LETTER_WIDTH - 1 - x / scale) & 1)
-                blacken(on, left + x, top + y);
+    for (y = 0; y < LETTER_HEIGHT; y++)
+        for (x = 0; x < LETTER_WIDTH; x++)
+            if (letter[y] >> (LETTER_WIDTH - 1 - x) & 1)
+                write_dot(on, left + scale * x, top + scale * y, scale);
 }
 
 void write_words(page *on, const char *words, long left, long top, long scale)

@@ -257,6 +257,72 @@ static void take_command(loading *into, const command *given)
         tell_refused(into, given, &made);
 }
 
+/* ---- streams without fault ---- */
+
+/* Whether all of a stream stands in memory, and is commands alone of which no font block is for a
+ * font that came before. */
+static int is_plain(input *from)
+{
+    static uint8_t came[MF_FONT_MAX + 1];
+    uint32_t number = 0;
+    command given;
+    size_t at;
+
+    if (!look(from, INPUT_AHEAD) || from->file)
+        return 0;
+    memset(came, 0, sizeof came);
+    for (at = 0; at < from->left; at += given.length) {
+        given = command_at(from->next + at, from->left - at);
+        if (given.found >= NO_ESC || (given.found == FONT_NUMBER && given.number > MF_FONT_MAX))
+            return 0;
+        if (given.found == FONT_NUMBER)
+            number = given.number;
+        if (given.found == FONT_BLOCK && came[number]++)
+            return 0;
+    }
+    return 1;
+}
+
+/* Notes a command that was done with others. */
+static void note_done(loading *into, const command *given)
+{
+    into->done++;
+    into->blocks += given->block != NULL;
+    if (given->found == FONT_NUMBER)
+        into->number = given->number;
+    else if (given->found == CODE)
+        into->code = given->number;
+    else if (given->found == FONT_BLOCK) {
+        origin[into->number].file = into->file;
+        origin[into->number].number = into->number;
+        origin[into->number].orientation = given->block[12];
+    } else if (given->block[1] == 0)
+        into->width = mf_field(given->block, 10);
+}
+
+/* Loads a stream by one call, which checks the store once; 0 if something of it is not taken or is
+ * to be told, so that it has to be loaded command by command. The store has no fonts before and,
+ * in that case, after. */
+static int load_at_once(loading *into, input *from)
+{
+    mf_stream_read read;
+    command given;
+
+    if (into->next != OWN_NUMBERS || !is_plain(from) ||
+        mf_room_left(store, sizeof store) != sizeof store - MF_STORE_MIN)
+        return 0;
+    read = mf_read_stream(store, sizeof store, from->next, from->left);
+    if (read.refusal || read.refused) {
+        mf_make_fresh(store, sizeof store);
+        return 0;
+    }
+    for (; from->left; pass(from, given.length)) {
+        given = command_at(from->next, from->left);
+        note_done(into, &given);
+    }
+    return 1;
+}
+
 /* ---- files ---- */
 
 /* Whether what is left is no more than what some systems fill files with. It is looked at as far
@@ -283,11 +349,10 @@ static void end_broken(loading *into, input *from, enum found found)
     tell_padding(into, from->left);
 }
 
-void load_stream(loading *into, input *from)
+static void load_commands(loading *into, input *from)
 {
     command given;
 
-    start_file(into, from->name);
     while (look(from, COMMAND_MAX)) {
         into->place = from->place;
         given = command_at(from->next, from->left);
@@ -298,6 +363,13 @@ void load_stream(loading *into, input *from)
         take_command(into, &given);
         pass(from, given.length);
     }
+}
+
+void load_stream(loading *into, input *from)
+{
+    start_file(into, from->name);
+    if (!load_at_once(into, from))
+        load_commands(into, from);
     tell_passed(into);
     if (!into->blocks && !from->failed) {
         into->fontless++;

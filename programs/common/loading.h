@@ -1,6 +1,7 @@
 /* Fonts in a store, loaded from files of font streams. The four commands are read here and each
  * block that nothing speaks against is downloaded by a call of its own, so that every refused
- * command can be told; the store becomes what mf_read_stream makes of it. */
+ * command can be told; the store becomes what mf_read_stream makes of it. A stream without fault
+ * that is short enough is read by mf_read_stream itself, which takes less time. */
 #ifndef LOADING_H
 #define LOADING_H
 
