@@ -106,24 +106,24 @@ long set_of_charset(const char *registry, const char *encoding)
 /* The next letter of a word, as a capital, without spaces and hyphens before it. */
 static char next_capital(const char **word)
 {
-    char letter;
+    char next;
 
     while (**word == ' ' || **word == '-')
         (*word)++;
-    letter = **word;
-    *word += letter != '\0';
-    return letter >= 'a' && letter <= 'z' ? (char)(letter - 'a' + 'A') : letter;
+    next = **word;
+    *word += next != '\0';
+    return next >= 'a' && next <= 'z' ? (char)(next - 'a' + 'A') : next;
 }
 
 int same_word(const char *a, const char *b)
 {
-    char letter;
+    char capital;
 
     do {
-        letter = next_capital(&a);
-        if (letter != next_capital(&b))
+        capital = next_capital(&a);
+        if (capital != next_capital(&b))
             return 0;
-    } while (letter);
+    } while (capital);
     return 1;
 }
 
