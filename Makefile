@@ -3,7 +3,7 @@
 # make build       the same without the list and the labels
 # make check       all tests, the same as .ci/run
 # make install     under $(DESTDIR)$(PREFIX): header, archive, shared library, pkg-config
-#                  file, programs, man pages; needs no rt once all is built
+#                  file, programs, man pages, bash completion; needs no rt once all is built
 # make uninstall   removes what make install put there, if given the same folders
 # make clean       removes target/
 PREFIX = /usr/local
@@ -12,6 +12,7 @@ LIBDIR = $(PREFIX)/lib
 INCLUDEDIR = $(PREFIX)/include
 MANDIR = $(PREFIX)/share/man
 DOCDIR = $(PREFIX)/share/doc/marlinfold
+COMPLETIONDIR = $(PREFIX)/share/bash-completion/completions
 CFLAGS ?= -O2
 TEXT = Handle with care: 12 x 3.50 (No. 7)
 
@@ -122,6 +123,10 @@ install: $(archive) $(listing) $(figures) $(shared) $(programs)
 	install -m 644 docs/*.1 "$(DESTDIR)$(MANDIR)/man1/"
 	install -m 644 docs/*.3 "$(DESTDIR)$(MANDIR)/man3/"
 	install -m 644 README.md CHANGELOG.md LICENSE "$(DESTDIR)$(DOCDIR)/"
+	install -d "$(DESTDIR)$(COMPLETIONDIR)"
+	install -m 644 programs/completion.bash "$(DESTDIR)$(COMPLETIONDIR)/marlinfold"
+	for program in $(notdir $(programs)); do \
+	    ln -sf marlinfold "$(DESTDIR)$(COMPLETIONDIR)/$$program" || exit 1; done
 
 uninstall:
 	rm -f "$(DESTDIR)$(INCLUDEDIR)/marlinfold.h" \
@@ -131,7 +136,8 @@ uninstall:
 	    $(addprefix "$(DESTDIR)$(BINDIR)"/,$(notdir $(programs))) \
 	    $(addprefix "$(DESTDIR)$(MANDIR)"/man1/,$(notdir $(wildcard docs/*.1))) \
 	    $(addprefix "$(DESTDIR)$(MANDIR)"/man3/,$(notdir $(wildcard docs/*.3))) \
-	    $(addprefix "$(DESTDIR)$(DOCDIR)"/,README.md CHANGELOG.md LICENSE)
+	    $(addprefix "$(DESTDIR)$(DOCDIR)"/,README.md CHANGELOG.md LICENSE) \
+	    $(addprefix "$(DESTDIR)$(COMPLETIONDIR)"/,marlinfold $(notdir $(programs)))
 	rmdir "$(DESTDIR)$(DOCDIR)" 2>/dev/null || :
 
 clean:
