@@ -245,7 +245,7 @@ def check_file(article, path):
     assert sum(each.startswith("incomplete") for each in notes) == len(
         {each["font"] for each in missing}), path
     state = article["attributes"]["data-state"]
-    fontless = any(each["kind"] == "no font" for each in told)
+    fontless = any(each["kind"] == "no font" for each in told) and not told[-1]["refused"]
     assert state == ("no-font" if fontless else "damaged" if ran.returncode else "whole"), path
     assert f"commands done {told[-1]['done']}, refused {told[-1]['refused']}." in words(article)
     assert int(article["attributes"]["data-bytes"]) == os.path.getsize(path)

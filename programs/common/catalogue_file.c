@@ -115,7 +115,7 @@ static void read_file(catalogue *into, const found_file *each, entry *of)
     of->done = into_store.done;
     of->refused = into_store.refused;
     read_fonts(into, of);
-    of->state = into_store.fontless ? FONTLESS
+    of->state = into_store.fontless && !of->refused ? FONTLESS
                 : load_status(&into_store) != COMPLETE || of->incomplete ? DAMAGED : WHOLE;
     if (why)
         set_why(of, "cannot be read to its end: ", why);
