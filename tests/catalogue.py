@@ -134,13 +134,37 @@ def code_drawn(code, scale):
     return trimmed(["".join(dot * scale for dot in row) for row in rows for _ in range(scale)])
 
 
-def characters_drawn(picture, path, font, codes, dpi):
+def of_bdf(path, font):
+    """Of each character of an upright font its left and top offset and its rows, by way of BDF."""
+    made = {}
+    for part in run("bdf", "--font", font, path).stdout.decode().split("STARTCHAR ")[1:]:
+        code = int(re.search(r"ENCODING (\d+)", part)[1])
+        width, height, left, below = map(int, re.search(
+            r"BBX (\d+) (\d+) (-?\d+) (-?\d+)", part).groups())
+        rows = part.split("BITMAP\n")[1].split("\n")[:height]
+        made[code] = left, below + height - 1, [
+            f"{int(row, 16):0{4 * len(row)}b}"[:width] for row in rows]
+    return made
+
+
+def field_drawn(characters, code, wide, high):
+    """A character as it stands in a field that takes them all around one point."""
+    left, top, dots = characters[code]
+    x = left - min(0, *(each[0] for each in characters.values()))
+    y = -top - min(0, *(-each[1] for each in characters.values()))
+    rows = ["0" * wide] * y + ["0" * x + row + "0" * (wide - x - len(row)) for row in dots]
+    return rows + ["0" * wide] * (high - len(rows))
+
+
+def characters_drawn(picture, path, told, codes):
     """Every character stands in its field below its code, and every other field is white."""
+    dpi, font = told["dpi"], str(told["font"])
     gap, scale = 8 * dpi // 300, dpi // 150
     lines = sorted({code // 16 for code in codes})
     rows = dots_of_png(picture["attributes"]["src"])
     wide, high = (len(rows[0]) - gap) // 16, (len(rows) - gap) // len(lines)
     assert int(picture["attributes"]["width"]) == len(rows[0]) * 300 // dpi
+    characters = of_bdf(path, font) if told["orientation"] == "portrait" else None
     for line, first in enumerate(lines):
         for column in range(16):
             code = 16 * first + column
@@ -150,8 +174,11 @@ def characters_drawn(picture, path, font, codes, dpi):
                 assert not any("1" in row for row in field), f"{path} {font}: no gap at {code}"
                 continue
             assert trimmed(field[:7 * scale]) == code_drawn(code, scale), f"{path}: code {code}"
-            if 0 < code < 128:
-                assert trimmed(field[7 * scale:]) == trimmed(dots_of_label(
+            below = field[7 * scale + gap // 2:]
+            if characters:
+                assert below == field_drawn(characters, code, wide, len(below)), (path, font, code)
+            elif 0 < code < 128:
+                assert trimmed(below) == trimmed(dots_of_label(
                     path, font, chr(code), "--ink")), f"{path} {font}: character {code}"
 
 
@@ -210,7 +237,7 @@ def check_pictures(section, told, path):
     assert captions[1] == expected, captions[1]
     if not pictures:
         return
-    characters_drawn(pictures[0], path, number, codes, told["dpi"])
+    characters_drawn(pictures[0], path, told, codes)
     assert len(pictures) == 1 + known
     turns = ["portrait", "landscape", "reverse portrait", "reverse landscape"]
     if known:
