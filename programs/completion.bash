@@ -37,13 +37,13 @@ _marlinfold() {
     mapfile -t COMPREPLY < <(compgen "$files" -- "$word")
 }
 
-# For every program that is found, and the one that this file is named after; marlinfold-listing has
-# no options and takes no file.
+# For every program that is found, and the one that this file is named after; marlinfold-listing and
+# marlinfold-figures have no options and take no file.
 _marlinfold_programs() {
     local names
 
     mapfile -t names < <({ compgen -c marlinfold- && echo "${BASH_SOURCE[0]##*/}"; } |
-        awk '/^marlinfold-[a-z]+$/ && !/-listing$/ && !came[$0]++')
+        awk '/^marlinfold-[a-z]+$/ && !/-(listing|figures)$/ && !came[$0]++')
     [[ ${#names[@]} -eq 0 ]] || complete -o filenames -F _marlinfold "${names[@]}"
 }
 _marlinfold_programs
