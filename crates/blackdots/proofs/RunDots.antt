@@ -1,6 +1,6 @@
 -- Black dots by the runs of rows. Assumes nothing.
 use Prim.Native.Nat.{ℕ, zero, suc, _+_, _*_, _-_, _<_, _≤_, min}
-use mathlib.Core.Path.{_≡_, refl, sym, ap, ap₂, _∙_}
+use mathlib.Core.Path.{_≡_, refl, sym, ap, ap₂, _∙_, subst}
 use mathlib.Core.List.{List, [], _∷_, _++_}
 use mathlib.Core.Bool.{Bool, true, false, not, cond}
 use native.Mathlib.Nat.{add-zero, zero-add, zero-mul, suc-mul, add-mul, mul-le-mul-left, mul-le-mul-right, le-trans}
@@ -10,6 +10,7 @@ use lib.Dec.{eqb, ltb}
 use lib.ListN.{length, drop, getD, replicate, length-append, length-replicate}
 use Rattle.pictures.specs.Size.{rowSize}
 use Rattle.pictures.specs.Dots.{pack, unpack}
+use Rattle.pictures.specs.Passing.{pairAt, fourAt}
 use Rattle.pictures.specs.Runs.{fillRow, onFill}
 use Rattle.pictures.specs.Rows.{rowDots, rowBytes, runsRow, picture}
 use Rattle.pictures.specs.Drawing.{Read, none, whole, readLine, lineFrom, lineOf, dotsOf}
@@ -19,7 +20,7 @@ use Rattle.pictures.specs.declared.runs.Filled.the-variants.{Over, Whole, Part}
 use Rattle.pictures.proofs.Lines.{line-end, line-over, line-whole, line-part, line-within, rows-past, rows-here, rows-below, rows-none}
 use Rattle.pictures.proofs.Pictures.{picture-runs}
 use Rattle.blackdots.specs.Black.{blackIn, blackDots}
-use Rattle.blackdots.specs.Counting.{endsAt, blackLineOf}
+use Rattle.blackdots.specs.Counting.{endsAt, blackLineOf, darkFour, Counting}
 use Rattle.blackdots.specs.declared.compressed.BlackLine.the-variants.{Ends, Unfinished}
 use Rattle.blackdots.proofs.BitmapDots.{black-append, unpack-append, black-most, black-packed}
 
@@ -57,15 +58,7 @@ line-long w (b ∷ xs) ds es c n k e =
     long-by w (length ds) b (fillRow w (length ds) b) refl (ds ++ replicate b c) es n k _ (simp (length-append, length-replicate)) e
     (λ q. line-long w xs (ds ++ replicate b c) es (not c) (n + 1) k q)
 
--- ── the loop over the runs of a row: at a white run, with these dots before it
-pub record Counting (w : ℕ) (src : List ℕ) (from at filled black : ℕ) : Type 0 where
-  pub dots : List Bool
-  pub long : length dots ≡ filled
-  pub dark : blackIn dots ≡ black
-  pub fits : filled ≤ 65535
-  pub less : black ≤ filled
-  pub line : readLine w dots false at (drop at src) ≡ lineFrom w src from
-
+-- ── the loop over the runs of a row
 pub counting-starts : (w : ℕ) (src : List ℕ) (from : ℕ) → Counting w src from from 0 0
 unfolding lineFrom blackIn
 counting-starts w src from = record { dots = []; long = refl; dark = refl; fits = omega arith; less = omega arith; line = refl }
@@ -126,6 +119,37 @@ module _ (w : ℕ) (src : List ℕ) (from at filled black : ℕ) (k : Counting w
             let z : at + 1 + 1 ≡ at + 2 = omega arith in
             let q : readLine w afterBlack false (at + 1 + 1) (drop (at + 1 + 1) src) ≡ lineFrom w src from = sym (line-part w afterWhite true (at + 1) src m (filled + a) white-long (omega (arith, f, g2))) ∙ white-line in
             record { dots = afterBlack; long = black-long; dark = black-dark; fits = omega arith; less = omega (arith, k .less); line = rw z at q }
+
+-- two, four and eight runs that leave the row unfinished
+pair-next : (w : ℕ) (src : List ℕ) (from at filled black : ℕ) → Counting w src from at filled black → at + 2 ≤ length src → filled + pairAt src at < w → w ≤ 65535
+    → Counting w src from (at + 2) (filled + pairAt src at) (black + getD src (at + 1) 0)
+pair-next w src from at filled black k h g u =
+    let e : filled + getD src at 0 + getD src (at + 1) 0 ≡ filled + pairAt src at = omega arith in
+    subst (λ (f : ℕ). Counting w src from (at + 2) f (black + getD src (at + 1) 0)) e
+    (black-next w src from at filled black k (omega arith) (getD src at 0) refl (omega arith) (omega arith) (getD src (at + 1) 0) refl (omega arith) u)
+
+four-next : (w : ℕ) (src : List ℕ) (from at filled black : ℕ) → Counting w src from at filled black → at + 4 ≤ length src → filled + fourAt src at < w → w ≤ 65535
+    → Counting w src from (at + 4) (filled + fourAt src at) (black + darkFour src at)
+four-next w src from at filled black k h g u =
+    let p : at + 2 + 2 ≡ at + 4 = omega arith in
+    let q : at + 2 + 1 ≡ at + 3 = omega arith in
+    let e : filled + pairAt src at + pairAt src (at + 2) ≡ filled + fourAt src at = omega arith in
+    let d : black + getD src (at + 1) 0 + getD src (at + 2 + 1) 0 ≡ black + darkFour src at = omega (arith, ap (λ (i : ℕ). getD src i 0) q) in
+    let i = pair-next w src from at filled black k (omega arith) (omega arith) u in
+    let j = pair-next w src from (at + 2) (filled + pairAt src at) (black + getD src (at + 1) 0) i (omega arith) (omega arith) u in
+    subst (λ (n : ℕ). Counting w src from n (filled + fourAt src at) (black + darkFour src at)) p
+    (subst (λ (f : ℕ). Counting w src from (at + 2 + 2) f (black + darkFour src at)) e (subst (λ (b : ℕ). Counting w src from (at + 2 + 2) (filled + pairAt src at + pairAt src (at + 2)) b) d j))
+
+pub eight-next : (w : ℕ) (src : List ℕ) (from at filled black m n : ℕ) → Counting w src from at filled black → at + 8 ≤ length src → m ≡ fourAt src at + fourAt src (at + 4)
+    → n ≡ darkFour src at + darkFour src (at + 4) → filled + m < w → w ≤ 65535 → Counting w src from (at + 8) (filled + m) (black + n)
+eight-next w src from at filled black m n k h e d g u =
+    let p : at + 4 + 4 ≡ at + 8 = omega arith in
+    let f : filled + fourAt src at + fourAt src (at + 4) ≡ filled + m = omega (arith, e) in
+    let b : black + darkFour src at + darkFour src (at + 4) ≡ black + n = omega (arith, d) in
+    let i = four-next w src from at filled black k (omega arith) (omega (arith, e)) u in
+    let j = four-next w src from (at + 4) (filled + fourAt src at) (black + darkFour src at) i (omega arith) (omega (arith, e)) u in
+    subst (λ (x : ℕ). Counting w src from x (filled + m) (black + n)) p
+    (subst (λ (x : ℕ). Counting w src from (at + 4 + 4) x (black + n)) f (subst (λ (x : ℕ). Counting w src from (at + 4 + 4) (filled + fourAt src at + fourAt src (at + 4)) x) b j))
 
 -- ── the loop over rows
 -- m rows that have the same dots

@@ -1,11 +1,12 @@
 -- For the code alone: black dots by the ones of bytes and by the runs of rows.
-use Prim.Native.Nat.{ℕ, zero, suc, _+_, _*_, _-_, _%_, _^_}
+use Prim.Native.Nat.{ℕ, zero, suc, _+_, _*_, _-_, _%_, _^_, _≤_}
 use mathlib.Core.List.{List}
 use lib.Bits.{bitAnd}
 use lib.Count.{ones}
-use lib.ListN.{getD}
+use lib.ListN.{length, drop, getD}
+use mathlib.Core.Path.{_≡_}
 use mathlib.Core.Bool.{Bool, true, false}
-use Rattle.pictures.specs.Drawing.{Read, none, whole}
+use Rattle.pictures.specs.Drawing.{Read, none, whole, readLine, lineFrom}
 use Rattle.blackdots.specs.Black.{blackIn}
 use Rattle.blackdots.specs.declared.ones.Tallied.{Tallied}
 use Rattle.blackdots.specs.declared.compressed.BlackLine.{BlackLine}
@@ -33,3 +34,16 @@ endsAt false k n = Unfinished
 abbrev pub blackLineOf : Read → BlackLine
 blackLineOf none = Unfinished
 blackLineOf (whole ds k) = Ends k (blackIn ds)
+
+-- the black ones among four runs of which the first is white
+abbrev pub darkFour : List ℕ → ℕ → ℕ
+darkFour d n = getD d (n + 1) 0 + getD d (n + 3) 0
+
+-- a row of w dots whose runs start at `from` is read up to the white run at `at`: so many dots before it, of which so many are black
+pub record Counting (w : ℕ) (src : List ℕ) (from at filled black : ℕ) : Type 0 where
+  pub dots : List Bool
+  pub long : length dots ≡ filled
+  pub dark : blackIn dots ≡ black
+  pub fits : filled ≤ 65535
+  pub less : black ≤ filled
+  pub line : readLine w dots false at (drop at src) ≡ lineFrom w src from

@@ -1,4 +1,5 @@
-use Rattle.blackdots.proofs.RunDots.{Counting, counting-starts, counting-ends, white-last, white-unfinished, black-last, black-next}
+use Rattle.blackdots.specs.Counting.{Counting}
+use Rattle.blackdots.proofs.RunDots.{counting-ends, white-last, white-unfinished, black-last, black-next}
 use native.Mathlib.Omega.{arith}
 use borrow.Author.Needs.{needs}
 use lib.ListN.{length}
@@ -14,7 +15,7 @@ abbrev μ-loop : tie.MeasureT-loop
 μ-loop bytes from width at₀ filled₀ black₀ at filled black = length bytes - at
 
 loop-holds : tie.Need-loop-holds Inv-loop μ-loop
-loop-holds c = counting-starts _ _ _
+loop-holds c = c .begin-line .ensures
 
 add-filled : tie.Need-add-filled Inv-loop μ-loop
 add-filled c = omega (arith, c .before .before .before .loop .inv .fits, c .wide .ensures)
@@ -58,6 +59,7 @@ count-line-spec =
     (tie.spec
     Inv-loop
     μ-loop
+    (λ c κs. search needs)
     loop-holds
     (λ c. search needs)
     (λ c κs. search needs)
