@@ -51,7 +51,7 @@ static const option options[] = {
     {HUNDREDTHS, "--height", "POINTS", &height, 0, 99975, "height (its pixel size)"},
     {NUMBER, "--style", "N", &style, 0, 1023, "style word (1 if slanted, else 0)"},
     {NUMBER, "--weight", "N", &weight, MF_ULTRA_THIN, MF_ULTRA_BLACK,
-     "stroke weight, -7 to 7, where 3 is bold (by its weight's name, 0 without one)"},
+     "stroke weight, -7 to 7, where 3 is bold (by its weight's name)"},
     {NUMBER, "--face", "N", &face, 0, 65535, "typeface, 0 to 65535 (0)"},
     {NUMBER, "--orientation", "N", &orientation, 0, 3,
      "0 portrait, 1 landscape, 2 and 3 reverse: the characters are turned (0)"}};
@@ -65,9 +65,9 @@ static const description program = {
     "(class 1).\n",
     "Exit status: 0 if the font was written whole, 2 if it was written but a character is left\n"
     "out, incomplete or of another width, or a font file was not taken whole, 1 if it was not\n"
-    "written. Also 2, and nothing is written, if a BDF file has a weight's name that is not known\n"
-    "and --weight does not say the weight. A BDF file that is broken is told with its line and\n"
-    "the reason.\n",
+    "written. Also 2 if WEIGHT_NAME and FONT of a BDF file say different weights, where the first\n"
+    "is taken, and, with nothing written, if they say none that is known; --weight settles both.\n"
+    "A BDF file that is broken is told with its line and the reason.\n",
     options, sizeof options / sizeof *options};
 
 /* ---- out ---- */
@@ -188,25 +188,37 @@ static long usual_type(const bdf_font *from)
     return made;
 }
 
-/* The weight of the file's name for it, NOT_SAID if that is none that is known. */
-static long named_weight(const bdf_font *from)
+/* The weight of a name, NOT_SAID if that is none that is known. */
+static long weight_of_name(const char *name)
 {
     static const struct {
         const char *name;
         long weight;
-    } others[] = {{"", MF_MEDIUM},     {"regular", MF_MEDIUM},  {"normal", MF_MEDIUM},
-                  {"book", MF_MEDIUM}, {"demi", MF_DEMI_BOLD},  {"heavy", MF_BLACK},
-                  {"semi", MF_SEMI_BOLD}, {"ultra bold", MF_EXTRA_BOLD}};
+    } others[] = {{"regular", MF_MEDIUM}, {"normal", MF_MEDIUM},  {"book", MF_MEDIUM},
+                  {"demi", MF_DEMI_BOLD}, {"heavy", MF_BLACK},    {"semi", MF_SEMI_BOLD},
+                  {"ultra bold", MF_EXTRA_BOLD}};
     int32_t each;
     size_t at;
 
     for (each = MF_ULTRA_THIN; each <= MF_ULTRA_BLACK; each++)
-        if (same_word(from->weight, weight_name(each)))
+        if (same_word(name, weight_name(each)))
             return each;
     for (at = 0; at < sizeof others / sizeof *others; at++)
-        if (same_word(from->weight, others[at].name))
+        if (same_word(name, others[at].name))
             return others[at].weight;
     return NOT_SAID;
+}
+
+/* Whether the weight has a name in WEIGHT_NAME; else FONT may have it. */
+static int has_weight_name(const bdf_font *from)
+{
+    return !same_word(from->weight, "");
+}
+
+/* The weight by its name in the file, NOT_SAID if there is none that is known. */
+static long named_weight(const bdf_font *from)
+{
+    return weight_of_name(has_weight_name(from) ? from->weight : from->font_weight);
 }
 
 /* Whether the weight is known; tells it if not. None is guessed then, since bold marks a closed
@@ -215,9 +227,15 @@ static int has_weight(const bdf_font *from)
 {
     if (first_of(weight, from->fields[CARRIED_WEIGHT], named_weight(from)) != NOT_SAID)
         return 1;
-    tell("%s: WEIGHT_NAME \"%s\" is none that is known, nothing is written; --weight N says the "
-         "weight, where 0 is medium and 3 bold",
-         shown(from->file), shown(from->weight));
+    if (!has_weight_name(from) && same_word(from->font_weight, ""))
+        tell("%s: neither WEIGHT_NAME nor FONT says the weight, nothing is written; --weight N "
+             "says it, where 0 is medium and 3 bold",
+             shown(from->file));
+    else
+        tell("%s: %s \"%s\" is none that is known, nothing is written; --weight N says the "
+             "weight, where 0 is medium and 3 bold",
+             shown(from->file), has_weight_name(from) ? "WEIGHT_NAME" : "FONT's weight",
+             shown(has_weight_name(from) ? from->weight : from->font_weight));
     return 0;
 }
 
@@ -515,6 +533,21 @@ static void bring_header(bringing *of)
     of->kept = mf_font_fields_of(kept);
 }
 
+/* Tells that WEIGHT_NAME and FONT say different weights, unless a number says it. */
+static void check_weight(bringing *of)
+{
+    const bdf_font *from = of->from;
+    long taken = weight_of_name(from->weight), other = weight_of_name(from->font_weight);
+
+    if (weight != NOT_GIVEN || from->fields[CARRIED_WEIGHT] != NOT_SAID || taken == NOT_SAID ||
+        other == NOT_SAID || taken == other)
+        return;
+    tell("%s: WEIGHT_NAME says %s and FONT says %s, %s is taken; --weight N says the weight",
+         shown(from->file), weight_name((int32_t)taken), weight_name((int32_t)other),
+         weight_name((int32_t)taken));
+    of->status = INCOMPLETE;
+}
+
 static void tell_outside(bringing *of)
 {
     const bdf_font *from = of->from;
@@ -546,6 +579,7 @@ static int write_in(void)
     made.from = &from;
     made.font = (uint32_t)first_of(number, from.number, 0);
     bring_header(&made);
+    check_weight(&made);
     tell_outside(&made);
     for (code = 0; code <= MF_CODE_MAX; code++)
         if (from.characters[code].line)

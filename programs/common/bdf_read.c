@@ -10,6 +10,7 @@
 
 #define LINE_ROOM 8192 /* the longest line that is no comment */
 #define LARGE 100000000L
+#define DESCRIPTION_FIELDS 14 /* of an X Logical Font Description */
 
 /* A reading under way. */
 typedef struct {
@@ -366,10 +367,35 @@ static void take_properties(reading *of, const char *rest)
 
 /* ---- before the characters ---- */
 
+/* Whether a font's name is an X Logical Font Description: a hyphen before each of 14 fields, which
+ * have none themselves. */
+static int is_description(const char *name)
+{
+    int hyphens = 0;
+
+    if (*name != '-')
+        return 0;
+    for (; *name; name++)
+        hyphens += *name == '-';
+    return hyphens == DESCRIPTION_FIELDS;
+}
+
+/* Keeps the third field of a description, the weight, cut to its room; * leaves it open. */
 static void take_font(reading *of, const char *rest)
 {
-    (void)rest;
+    const char *weight;
+    size_t length;
+
     once(of, &of->has_font);
+    if (!is_description(rest))
+        return;
+    weight = strchr(strchr(rest + 1, '-') + 1, '-') + 1;
+    length = strcspn(weight, "-");
+    if (length == 1 && *weight == '*')
+        return;
+    length = length < BDF_WORD - 1 ? length : BDF_WORD - 1;
+    memcpy(of->made->font_weight, weight, length);
+    of->made->font_weight[length] = '\0';
 }
 
 /* The height may have decimals, which are cut. A fourth number says how many bits a dot has. */

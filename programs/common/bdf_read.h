@@ -27,6 +27,8 @@ typedef struct {
     long ascent, descent, pixels, resolution_x, resolution_y; /* properties, or NOT_SAID */
     char spacing[BDF_WORD], weight[BDF_WORD], slant[BDF_WORD], family[BDF_WORD];
     char registry[BDF_WORD], encoding[BDF_WORD]; /* properties, or empty */
+    char font_weight[BDF_WORD]; /* of FONT, if that is an X Logical Font Description; empty if it
+                                 * leaves the weight open */
     long number;               /* these by the private properties, or NOT_SAID */
     long fields[CARRIED];
     long delta_x[MF_CODE_MAX + 1];
