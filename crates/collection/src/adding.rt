@@ -1,6 +1,6 @@
 // The characters of one more store, added to the figures.
 ghost use mathlib.Core.Path.{_≡_};
-ghost use Prim.Native.Nat.{_+_, _*_, _≤_};
+ghost use Prim.Native.Nat.{_+_, _≤_};
 ghost use lib.ListN.{length};
 ghost use Rattle.blocks.specs.Character.{descriptorBytes};
 ghost use Rattle.form.specs.Layout.{lastCode};
