@@ -95,7 +95,7 @@ pub struct Tallied {
     pub eights: u32,
 }
 
-// The bits of each place are added, and counted only when they make eights: several times as fast as counting each number.
+// The bits of each place are added, and counted only when they make eights: fewer steps than to count each number.
 fn add_block(t: Tallied, b: &[u8], at: usize) -> Tallied
     requires { ⌜ (at + 64 ≤ length (now b)) × (t .eights ≤ dataLimit) ⌝ }
     ensures { λ r. ⌜ (onesSaid r ≡ onesSaid t + onesOf (take 64 (drop at (now (b .entry))))) × (r .eights ≤ t .eights + 64) ⌝ }
