@@ -269,34 +269,52 @@ fresh-leaves s e = go (leb leastStore (length s) & leb (length s) mostStore) ref
         (encoded (fresh (length s)) v, fonts-encoded (fresh (length s)) v ∙ (unfold fontsIn in refl))
     go false q z = absurd (omega (arith, z))
 
+-- whatever holds of a font removal's refusals, and of one that is done
+module _ (n : ℕ) (s : List ℕ) (is : isStore s ≡ true) (P : After → Type 0) (no : (m : ℕ) → eqb m 0 ≡ false → P (refuse s m))
+    (gone : (st : Store) → decode s ≡ some st → Valid (removeFont n st) → P (done (removeFont n st))) where
+  pub removed-answers : P (removingFont n s)
+  unfolding removingFont onFont onStore
+  removed-answers =
+      let w = is-store s is in
+      let v = removed-valid (w .0) (valid-decode s (w .0) (w .1)) n in
+      rw (w .1)
+      (by-check s P (leb n lastFont) 2 _ (no 2 refl) (λ l. by-find s P (find (keyOf n 0) (w .0 .recs)) 6 _ (no 6 refl) (λ r q. gone (w .0) (w .1) v)))
+
 pub removed-leaves : (n : ℕ) (s : List ℕ) → isStore s ≡ true → Left 0 n [] s (removingFont n s)
-unfolding removingFont onFont onStore fontsIn
-removed-leaves n s is =
-    let w = is-store s is in
-    let v = valid-decode s (w .0) (w .1) in
-    rw (w .1)
-    (by-check s (Left 0 n [] s) (leb n lastFont) 2 _ (refusal 0 n [] s is 2 refl) (λ l. by-find s (Left 0 n [] s) (find (keyOf n 0) (w .0 .recs)) 6 _ (refusal 0 n [] s is 6 refl) (λ r q. with-left n 0 [] s (w .0) (w .1) (removed-valid (w .0) v n))))
+unfolding fontsIn
+removed-leaves n s is = removed-answers n s is (Left 0 n [] s) (refusal 0 n [] s is) (with-left n 0 [] s)
+
+cut-valid : (n c : ℕ) (st : Store) → Valid st → (r : Rec) → c ≤ lastCode → find (keyOf n 0) (st .recs) ≡ some r → Valid (removeCharacter n c st)
+unfolding run total
+cut-valid n c st v r code q =
+    let f = found (keyOf n 0) 0 alone r (st .recs) (v .order) q in
+    let y = font-at n _ r (f .ok) (f .is) in
+    let fits : markRecord + total (withCharacter n c [] (st .recs)) ≤ st .size = omega (arith, total-replaced (keyOf n (c + 1)) (keyOf n (c + 1) + 1) [] (st .recs) (v .order) (omega arith), v .room) in
+    valid-cut n c (y .0) st v code (q ∙ ap some (y .1)) fits
+
+-- and of a character's
+module _ (n c : ℕ) (s : List ℕ) (is : isStore s ≡ true) (P : After → Type 0) (no : (m : ℕ) → eqb m 0 ≡ false → P (refuse s m))
+    (cut : (st : Store) → decode s ≡ some st → Valid st → c ≤ lastCode → Valid (removeCharacter n c st) → P (done (removeCharacter n c st))) where
+  pub cut-answers : P (removingCharacter n c s)
+  unfolding removingCharacter onCharacter onStore
+  cut-answers =
+      let w = is-store s is in
+      let v = valid-decode s (w .0) (w .1) in
+      rw (w .1)
+      (by-check s P (numbered n c) 2 _ (no 2 refl) (λ l.
+      let code = in-range n c l .1 in
+      by-find s P (find (keyOf n 0) (w .0 .recs)) 6 _ (no 6 refl) (λ r q.
+      by-find s P (find (keyOf n (c + 1)) (w .0 .recs)) 7 _ (no 7 refl) (λ x y. cut (w .0) (w .1) v code (cut-valid n c (w .0) v r code q)))))
 
 -- a store with the fonts that it had
 abbrev Same : List ℕ → After → Type 0
 Same s a = (isStore (a .bytes) ≡ true) × (fontsOf (a .bytes) ≡ fontsOf s)
 
 pub cut-leaves : (n c : ℕ) (s : List ℕ) → isStore s ≡ true → Same s (removingCharacter n c s)
-unfolding removingCharacter onCharacter onStore
+unfolding fontsIn
 cut-leaves n c s is =
-    let w = is-store s is in
-    let v = valid-decode s (w .0) (w .1) in
-    rw (w .1)
-    (by-check s (Same s) (numbered n c) 2 _ (is, refl) (λ l.
-    by-find s (Same s) (find (keyOf n 0) (w .0 .recs)) 6 _ (is, refl) (λ r q. by-find s (Same s) (find (keyOf n (c + 1)) (w .0 .recs)) 7 _ (is, refl) (λ x y. cut (w .0) (w .1) v r (in-range n c l .1) q))))
-  where
-    cut : (st : Store) → decode s ≡ some st → Valid st → (r : Rec) → c ≤ lastCode → find (keyOf n 0) (st .recs) ≡ some r → Same s (done (removeCharacter n c st))
-    cut st d v r code q = unfold run total fontsIn in
-        let f = found (keyOf n 0) 0 alone r (st .recs) (v .order) q in
-        let y = font-at n _ r (f .ok) (f .is) in
-        let fits : markRecord + total (withCharacter n c [] (st .recs)) ≤ st .size = omega (arith, total-replaced (keyOf n (c + 1)) (keyOf n (c + 1) + 1) [] (st .recs) (v .order) (omega arith), v .room) in
-        let a = valid-cut n c (y .0) st v code (q ∙ ap some (y .1)) fits in
-        (encoded (removeCharacter n c st) a, fonts-encoded (removeCharacter n c st) a ∙ fonts-char n c [] (st .recs) (v .order) code refl ∙ sym (fonts-of s st d))
+    cut-answers n c s is (Same s) (λ m e. (is, refl))
+    (λ st d v code a. (encoded (removeCharacter n c st) a, fonts-encoded (removeCharacter n c st) a ∙ fonts-char n c [] (st .recs) (v .order) code refl ∙ sym (fonts-of s st d)))
 
 -- ── the calls on a known store, by the code's findings
 module _ (n : ℕ) (b s : List ℕ) (k : isStore s ≡ true) (l : n ≤ lastFont) where

@@ -1,0 +1,3 @@
+mod Changes
+pub mod EitherOrder
+pub mod Pairs
