@@ -121,7 +121,7 @@ fn other_resolution(block: &mut [u8]) {
 impl History<'_> {
     /// A store and the book that its list starts with: made fresh, with an empty book;
     /// or a dump, whose earlier calls are not in its list.
-    fn begun(&mut self, large: bool) -> Found<(Pair, Book)> {
+    pub fn begun(&mut self, large: bool) -> Found<(Pair, Book)> {
         let length = match self.chance.below(10) {
             _ if large => self.chance.of(&[16384, 65535, 65536]),
             0 => self.chance.of(&[12, 13, 93, 94, 95, 175, 176, 177]),

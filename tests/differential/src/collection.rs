@@ -218,7 +218,7 @@ impl History<'_> {
 
 impl Generator<'_> {
     /// Fonts of a few characters each, of few codes, that mostly fit this length.
-    fn shelf(&mut self, length: usize) -> Vec<u8> {
+    pub fn shelf(&mut self, length: usize) -> Vec<u8> {
         let mut stream = Vec::new();
         let mut left = length;
         for _ in 0..self.chance.between(1, 4) {

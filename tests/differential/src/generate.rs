@@ -217,7 +217,7 @@ impl Generator<'_> {
         (font, self.code(store, font))
     }
 
-    fn code(&mut self, store: &[u8], font: u32) -> u32 {
+    pub fn code(&mut self, store: &[u8], font: u32) -> u32 {
         if self.chance.once_in(16) {
             return self.chance.of(&NO_CODES);
         }
@@ -570,7 +570,7 @@ impl Generator<'_> {
 
     /// A first block for this font and code, often with one field at or beside
     /// its limit.
-    fn first_block(&mut self, store: &[u8], font: u32, code: u32) -> Vec<u8> {
+    pub fn first_block(&mut self, store: &[u8], font: u32, code: u32) -> Vec<u8> {
         let orientation = records(store)
             .iter()
             .find(|record| record.font == font)
@@ -676,7 +676,7 @@ impl Generator<'_> {
     }
 
     /// A continuation, mostly of data that goes on from the open character's.
-    fn continuation(&mut self, store: &[u8], font: u32, code: u32) -> Vec<u8> {
+    pub fn continuation(&mut self, store: &[u8], font: u32, code: u32) -> Vec<u8> {
         let mut block = vec![4, self.chance.of(&[1, 1, 2, 255])];
         if self.chance.once_in(20) {
             block[0] = self.chance.of(&[0, 3, 5, 255]);
@@ -846,7 +846,7 @@ impl Generator<'_> {
     }
 
     /// A portrait first block of a few bytes, complete or not.
-    fn small_character(&mut self) -> Vec<u8> {
+    pub fn small_character(&mut self) -> Vec<u8> {
         let (width, height) = (self.chance.between(1, 24), self.chance.between(1, 6));
         let class = self.chance.of(&[1, 2]);
         let mut data = match class {

@@ -1158,7 +1158,7 @@ fn fields_cut(block: &[u8], met: &mut Met) {
     }
 }
 
-fn first_difference(a: &[u8], b: &[u8]) -> Option<usize> {
+pub fn first_difference(a: &[u8], b: &[u8]) -> Option<usize> {
     if a == b {
         return None;
     }

@@ -15,6 +15,7 @@ mod calls;
 mod cartridge;
 mod chance;
 mod collection;
+mod either_order;
 mod figures;
 mod generate;
 mod history;
@@ -34,7 +35,7 @@ const DEFAULT_SEED: u64 = 1;
 const DEFAULT_COUNT: u64 = 40_000;
 /// Fewer histories than these need not meet everything possible.
 const ENOUGH: u64 = 10_000;
-/// Nor fewer than these what W-209 and W-210 are about.
+/// Nor fewer than these what W-209 to W-211 are about.
 const ENOUGH_FOR_LATER: u64 = 2_000;
 /// Later differences mostly repeat the first.
 const DIFFERENCES_SHOWN: u64 = 5;
@@ -138,6 +139,17 @@ fn report_crashes() {
     }
 }
 
+/// By seed and number, without large stores or with them, traced or not.
+type Run = fn(u64, u64, Lending, bool, bool, &mut Met) -> history::Found<()>;
+
+/// What is run for each number: a history, and what stands beside some of them.
+const HISTORIES: [Run; 4] = [
+    history::run,
+    cartridge::run,
+    collection::run,
+    either_order::run,
+];
+
 /// Every so many histories from the first, until enough differences are found.
 fn run(given: &Arguments, first: u64) -> Met {
     let lending = Lending { exact: given.exact };
@@ -151,35 +163,11 @@ fn run(given: &Arguments, first: u64) -> Met {
         if given.trace {
             eprintln!("history {number}");
         }
-        let found = history::run(
-            given.seed,
-            number,
-            lending,
-            given.small,
-            given.trace,
-            &mut met,
-        )
-        .and_then(|()| {
-            cartridge::run(
-                given.seed,
-                number,
-                lending,
-                given.small,
-                given.trace,
-                &mut met,
-            )
-        })
-        .and_then(|()| {
-            collection::run(
-                given.seed,
-                number,
-                lending,
-                given.small,
-                given.trace,
-                &mut met,
-            )
-        })
-        .and_then(|()| turning::run(given.seed, number, lending, given.trace));
+        let (seed, small, trace) = (given.seed, given.small, given.trace);
+        let mut each = HISTORIES.iter();
+        let found = each
+            .try_for_each(|run| run(seed, number, lending, small, trace, &mut met))
+            .and_then(|()| turning::run(seed, number, lending, trace));
         if let Err(difference) = found {
             println!("seed {} history {number}: {difference}", given.seed);
             DIFFERENCES.fetch_add(1, Ordering::Relaxed);

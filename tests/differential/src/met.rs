@@ -235,19 +235,58 @@ const FIGURES: [&str; 47] = [
     "collection, a 65th store refused",
 ];
 
+/// Those of W-211, of which the same holds: pairs of which neither is refused in either order,
+/// by their kinds and by what they meet, and pairs of which one is.
+const EITHER_ORDER: [&str; 32] = [
+    "either order, font block and font block",
+    "either order, font block and character block",
+    "either order, font block and font removal",
+    "either order, font block and character removal",
+    "either order, character block and character block",
+    "either order, character block and font removal",
+    "either order, character block and character removal",
+    "either order, font removal and font removal",
+    "either order, font removal and character removal",
+    "either order, character removal and character removal",
+    "either order, continuation and font block",
+    "either order, continuation and font removal",
+    "either order, continuation and character removal",
+    "either order, two character blocks, the same first record",
+    "either order, two character blocks, another first record",
+    "either order, the open character closed by a font block",
+    "either order, the open character closed by a first block",
+    "either order, the open character closed by a continuation",
+    "either order, the open character closed by a font removal",
+    "either order, the open character closed by a character removal",
+    "either order, a character of one of both fonts stays open",
+    "either order, a character of a third font stays open",
+    "either order, two new fonts",
+    "either order, two fonts replaced",
+    "either order, two characters replaced",
+    "either order, no byte of room left",
+    "either order, in a store that began as a dump",
+    "either order, 7 in one alone, for a continuation",
+    "either order, 10 in one alone",
+    "either order, 10 for the second call in both",
+    "either order, 10 for the first call in both",
+    "either order, 10 for the same call in both",
+];
+
 fn situations() -> impl Iterator<Item = &'static str> {
-    SITUATIONS.iter().chain(&BAD_RUNS).chain(&FIGURES).copied()
+    let later = BAD_RUNS.iter().chain(&FIGURES).chain(&EITHER_ORDER);
+    SITUATIONS.iter().chain(later).copied()
 }
 
-const ALL_SITUATIONS: usize = SITUATIONS.len() + BAD_RUNS.len() + FIGURES.len();
+const ALL_SITUATIONS: usize =
+    SITUATIONS.len() + BAD_RUNS.len() + FIGURES.len() + EITHER_ORDER.len();
 
 pub struct Met {
     answers: [[u64; REFUSALS]; CALLS],
     situations: [u64; ALL_SITUATIONS],
 }
 
-/// How many possible answers and situations were never met: of all, and of W-209's and
-/// W-210's.
+/// How many possible answers and situations were never met: of all, and of those of W-209
+/// to W-211.
 pub struct Never {
     pub all: usize,
     pub later: usize,
