@@ -244,7 +244,7 @@ static void first_records(void)
     TRY(LENGTH, pairs);
 }
 
-/* A continuation behind a first block of another font, or beside another continuation. */
+/* A continuation after a first block of another font, or beside another continuation. */
 static void not_open(void)
 {
     static const call pairs[][2] = {

@@ -280,7 +280,8 @@ impl Tried<'_> {
 
     /// The request's two sentences, word by word: "give in either order the same answers and
     /// the same store bytes after the 12 of the first record. If neither is a character block,
-    /// those 12 are the same as well." What the reference has left is not looked at.
+    /// those 12 are the same as well"; and, as is proved, if only one is. What the reference
+    /// has left is not looked at.
     fn check(&self) -> Result<(), String> {
         if !self.is_meant() {
             return Ok(());
@@ -290,7 +291,7 @@ impl Tried<'_> {
         if blocks == [true, true] && kinds.contains(&Kind::Continuation) {
             // An accepted first block leaves its own character open, or none; and one
             // character is open, not two.
-            return Err("a continuation is done behind a character block of another font".into());
+            return Err("a continuation is done after a character block of another font".into());
         }
         let [one, other] = &self.orders;
         if one.answers != other.answers {
@@ -302,7 +303,7 @@ impl Tried<'_> {
         if let Some(at) = first_difference(after, other_after) {
             return Err(format!("the stores differ at {}", FIRST_RECORD + at));
         }
-        if blocks == [false, false] && first != other_first {
+        if blocks != [true, true] && first != other_first {
             return Err(format!("first records {first:?} and {other_first:?}"));
         }
         Ok(())
