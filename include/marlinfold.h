@@ -95,13 +95,14 @@
  *   The checks run in the order given at each call, and the first that fails answers. An output
  *   longer than needed keeps its later bytes.
  *
- * Who goes first
+ * The order of calls
  *   Two downloads or removals for different fonts, neither of them refused whichever comes first,
  *   give in either order the same answers and the same bytes of the store from byte 12 on. The
  *   first 12 bytes, which name the open character, are the same too, unless both are character
- *   blocks: then the later one decides them. So fonts may be loaded in any order, or in turn; but
- *   a character's continuations must follow its first block with no other character block between
- *   them, or they are refused (MF_NO_CHARACTER).
+ *   blocks: then the later one decides them. One order may be refused where the other is not: a
+ *   continuation after an accepted character block for another font (MF_NO_CHARACTER), or a
+ *   download for which there is room only after the other call (MF_NO_ROOM, which from
+ *   mf_download_character removes the font).
  *
  * What a call costs
  *   Each call on a store checks all of it first: 1 to 40 microseconds for 65,536 bytes, by what

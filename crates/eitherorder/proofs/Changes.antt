@@ -12,7 +12,7 @@ use Rattle.form.specs.Layout.{keyOf}
 use Rattle.form.specs.Model.{Rec, Mark, shut, Store, Under, under, alone, sorted, key}
 use Rattle.form.specs.Order.{keep, below, from, replaced, find}
 use Rattle.form.proofs.Numbers.{less-or}
-use Rattle.form.proofs.Codec.{sorted-inv, sorted-cons}
+use Rattle.form.proofs.Codec.{sorted-inv}
 use Rattle.form.proofs.Lookup.{find-here, find-other, find-behind}
 use Rattle.store.proofs.Replaced.{Outside}
 
@@ -92,30 +92,29 @@ module _ {n : ℕ} {x : Change} (w : Inside n x) (rs : List Rec) (k : ℕ) where
       go (inl l) e = find-parts ∙ rw (lt-ltb k (x .lo) l, lt-leb (x .hi) k (omega (arith, w .order)), e) (first-none (find k rs))
       go (inr h) e = find-parts ∙ rw (le-ltb k (x .lo) (omega (arith, w .order)), le-leb (x .hi) k h, e)
 
--- ── sorted records are known by what is found among them
-lower : (k j : ℕ) (u : Under) (r : Rec) (rs : List Rec) → sorted j u (r ∷ rs) ≡ true → k < key r → find k (r ∷ rs) ≡ none
-lower k j u r rs e l = let w = sorted-inv j u r rs e in find-behind k (key r) u (r ∷ rs) (sorted-cons (key r) u r rs (record { ok = w .ok; least = omega arith; rest = w .rest })) l
+-- ── sorted records are determined by what is found among them
+not-found : {A : Type 0} {r : Rec} {o : Option Rec} → o ≡ some r → o ≡ none → A
+not-found {A} {r} {o} e f = let y : _≡_ {A = ℕ} 0 1 = cc in absurd (omega arith)
 
-not-both : {A : Type 0} {r : Rec} {o : Option Rec} → o ≡ some r → o ≡ none → A
-not-both {A} {r} {o} e f = let y : _≡_ {A = ℕ} 0 1 = cc in absurd (omega arith)
-
-same-key : (r q : Rec) (rs qs : List Rec) (k l : ℕ) (u v : Under) → sorted k u (r ∷ rs) ≡ true → sorted l v (q ∷ qs) ≡ true → ((j : ℕ) → find j (r ∷ rs) ≡ find j (q ∷ qs)) → key r ≡ key q
-same-key r q rs qs k l u v e g f =
+-- the first key is the least that is found
+least : (r q : Rec) (qs : List Rec) (k : ℕ) (u : Under) → sorted k u (q ∷ qs) ≡ true → find (key r) (q ∷ qs) ≡ some r → key q ≤ key r
+least r q qs k u e f =
     ⊎-elim
-    (λ (z : key r < key q). not-both (sym (f (key r)) ∙ find-here (key r) r rs refl) (lower (key r) l v q qs g z))
-    (λ (z : key q ≤ key r).
-    ⊎-elim (λ (y : key q < key r). not-both (f (key q) ∙ find-here (key q) q qs refl) (lower (key q) k u r rs e y)) (λ (y : key r ≤ key q). omega arith) (less-or (key q) (key r)))
+    (λ (z : key r < key q). not-found f (find-other (key r) q qs (λ i. omega arith) ∙ find-behind (key r) (key q + 1) (under u q) qs (sorted-inv k u q qs e .rest) (omega arith)))
+    (λ (z : key q ≤ key r). z)
     (less-or (key r) (key q))
 
 same-records : (rs qs : List Rec) (k l : ℕ) (u v : Under) → sorted k u rs ≡ true → sorted l v qs ≡ true → ((j : ℕ) → find j rs ≡ find j qs) → rs ≡ qs
 unfolding find
 same-records [] [] k l u v e g f = refl
-same-records [] (q ∷ qs) k l u v e g f = not-both (f (key q) ∙ find-here (key q) q qs refl) refl
-same-records (r ∷ rs) [] k l u v e g f = not-both (sym (f (key r)) ∙ find-here (key r) r rs refl) refl
+same-records [] (q ∷ qs) k l u v e g f = not-found (f (key q) ∙ find-here (key q) q qs refl) refl
+same-records (r ∷ rs) [] k l u v e g f = not-found (sym (f (key r)) ∙ find-here (key r) r rs refl) refl
 same-records (r ∷ rs) (q ∷ qs) k l u v e g f =
     let w = sorted-inv k u r rs e in
     let x = sorted-inv l v q qs g in
-    let i = same-key r q rs qs k l u v e g f in
+    let a = least r q qs l v g (sym (f (key r)) ∙ find-here (key r) r rs refl) in
+    let b = least q r rs k u e (f (key q) ∙ find-here (key q) q qs refl) in
+    let i : key r ≡ key q = omega arith in
     let s : some r ≡ some q = sym (find-here (key r) r rs refl) ∙ f (key r) ∙ find-here (key r) q qs (sym i) in
     let h : r ≡ q = cc in
     ap₂ _∷_ h (same-records rs qs (key r + 1) (key q + 1) _ _ (w .rest) (x .rest) (λ j. rest j (eqb (key r) j) refl i (w .rest) (x .rest)))
@@ -160,30 +159,30 @@ module _ {n m : ℕ} {x y : Change} (o : n ≡ m → ⊥) (w : Inside n x) (v : 
   found-either k (outside a) (outside b) =
       find-old v (recordsAfter x rs) k b ∙ find-old w rs k a ∙ sym (find-old w (recordsAfter y rs) k a ∙ find-old v rs k b)
 
-  -- the order says nothing
+  -- both orders give the same records
   pub either-way : sorted 0 alone (recordsAfter y (recordsAfter x rs)) ≡ true → sorted 0 alone (recordsAfter x (recordsAfter y rs)) ≡ true
       → recordsAfter y (recordsAfter x rs) ≡ recordsAfter x (recordsAfter y rs)
   either-way e f = same-records _ _ 0 0 alone alone e f (λ k. found-either k (stands x k) (stands y k))
 
 -- ── the open mark
--- a change closes it if it names font n, at most; or sets it to one of font n, or to none
+-- `Closes` leaves the mark, or closes it if it names font n; `Sets` sets it, whatever it was, to one of font n or to none
 abbrev pub Closes : ℕ → (Mark → Mark) → Type 0
 Closes n f = (q : Mark) → (f q ≡ q) ⊎ ((f q ≡ shut) × (q .fontOf ≡ n))
 
 abbrev pub Sets : ℕ → (Mark → Mark) → Type 0
 Sets n f = (v : Mark) × ((v ≡ shut) ⊎ (v .fontOf ≡ n)) × ((q : Mark) → f q ≡ v)
 
-stays : {n : ℕ} {f : Mark → Mark} → Closes n f → f shut ≡ shut
-stays c = ⊎-elim (λ e. e) (λ e. e .0) (c shut)
+shut-stays : {n : ℕ} {f : Mark → Mark} → Closes n f → f shut ≡ shut
+shut-stays c = ⊎-elim (λ e. e) (λ e. e .0) (c shut)
 
 pub both-close : {n m : ℕ} {f g : Mark → Mark} → Closes n f → Closes m g → (q : Mark) → g (f q) ≡ f (g q)
 both-close {n} {m} {f} {g} a b q = go (a q) (b q)
   where
     go : (f q ≡ q) ⊎ ((f q ≡ shut) × (q .fontOf ≡ n)) → (g q ≡ q) ⊎ ((g q ≡ shut) × (q .fontOf ≡ m)) → g (f q) ≡ f (g q)
     go (inl d) (inl e) = ap g d ∙ e ∙ sym (ap f e ∙ d)
-    go (inl d) (inr e) = ap g d ∙ e .0 ∙ sym (ap f (e .0) ∙ stays a)
-    go (inr d) (inl e) = ap g (d .0) ∙ stays b ∙ sym (ap f e ∙ d .0)
-    go (inr d) (inr e) = ap g (d .0) ∙ stays b ∙ sym (ap f (e .0) ∙ stays a)
+    go (inl d) (inr e) = ap g d ∙ e .0 ∙ sym (ap f (e .0) ∙ shut-stays a)
+    go (inr d) (inl e) = ap g (d .0) ∙ shut-stays b ∙ sym (ap f e ∙ d .0)
+    go (inr d) (inr e) = ap g (d .0) ∙ shut-stays b ∙ sym (ap f (e .0) ∙ shut-stays a)
 
 pub set-or-close : {n m : ℕ} {f g : Mark → Mark} → (n ≡ m → ⊥) → Sets n f → Closes m g → (q : Mark) → g (f q) ≡ f (g q)
 set-or-close {n} {m} {f} {g} o a b q = ap g (a .2 q) ∙ go (a .1) (b (a .0)) ∙ sym (a .2 (g q))

@@ -16,7 +16,7 @@ use Rattle.blocks.specs.declared.character.Kind.the-variants.{First, Continuati
 use Rattle.blocks.proofs.KeptFirst.{first-begins}
 use Rattle.form.specs.Layout.{keyOf, lastCode, markRecord}
 use Rattle.form.specs.Num.{_&_}
-use Rattle.form.specs.Model.{Rec, font, character, number, place, key, Mark, shut, Store, tallyOf, run, markBytes, encode, decode, total, alone, sorted, isUnfinished, heldOf}
+use Rattle.form.specs.Model.{Rec, font, character, number, place, key, Mark, shut, Store, tallyOf, run, markBytes, encode, decode, total, isUnfinished, heldOf}
 use Rattle.form.specs.Order.{find, characterAt}
 use Rattle.form.specs.Records.{isStore, isSome}
 use Rattle.form.specs.Checks.{onStore, onFont, onCharacter}
@@ -32,7 +32,7 @@ use Rattle.store.proofs.Replaced.{Outside}
 use Rattle.store.proofs.Again.{font-answers, character-answers, removed-answers, cut-answers}
 use Rattle.marlinfold.specs.Calls.{Call, download-font, download-character, remove-font, remove-character, outcome, answer, leaves, ran}
 use Rattle.marlinfold.proofs.BadRuns.{zeros-otherwise}
-use Rattle.eitherorder.specs.EitherOrder.{Prepares, by-font-block, by-character-block, by-font-removal, by-character-removal, IsCharacterBlock, EitherOrder, ContinuationAlone}
+use Rattle.eitherorder.specs.EitherOrder.{Prepares, by-font-block, by-character-block, by-font-removal, by-character-removal, IsCharacterBlock, firstRecordBytes, EitherOrder, ContinuationAlone}
 use Rattle.eitherorder.proofs.Changes.{Change, changed, Inside, others-found, either-way, Closes, Sets, both-close, set-or-close}
 
 -- ── what a call that is done changes
@@ -132,28 +132,26 @@ does-same o (cuts-character c l) (cuts-character _ _) = refl
 some-same : {st st′ : Store} {o : Option Store} → o ≡ some st → o ≡ some st′ → st ≡ st′
 some-same e f = let z = sym e ∙ f in cc
 
--- the second call does after the first what it does alone
-second : {n m : ℕ} {x y : Call} {s t t′ u : List ℕ} → (n ≡ m → ⊥) → (a : Acts n x s t) (b : Acts m y s t′) → Acts m y t u
-    → (u ≡ encode (changed (b .change) (changed (a .change) (a .store)))) × Valid (changed (b .change) (changed (a .change) (a .store)))
-second {n} {m} o a b c =
-    let st = changed (a .change) (a .store) in
-    let i : c .store ≡ st = some-same (c .is) (ap decode (a .left) ∙ decode-encode st (a .valid)) in
-    let j : b .store ≡ a .store = some-same (b .is) (a .is) in
+-- the second call does after the first what it does alone on the store st
+second : {n m : ℕ} {x y : Call} {s t t′ u : List ℕ} {st : Store} → (n ≡ m → ⊥) → decode s ≡ some st → (a : Acts n x s t) (b : Acts m y s t′) → Acts m y t u
+    → (u ≡ encode (changed (b .change) (changed (a .change) st))) × Valid (changed (b .change) (changed (a .change) st))
+second {n} {m} {st = st} o e a b c =
+    let i : c .store ≡ changed (a .change) st = some-same (c .is) (ap decode (a .left) ∙ decode-encode _ (a .valid)) ∙ ap (changed (a .change)) (some-same (a .is) e) in
     let f : SameFont m (c .store) (b .store) =
     λ k l.
-    ap (λ (z : Store). characterAt m k (z .recs)) i ∙ others-found o (inside (a .does)) (a .store .recs) (keyOf m (k + 1)) (omega arith) (omega arith)
-    ∙ ap (λ (z : Store). characterAt m k (z .recs)) (sym j) in
-    let z : changed (c .change) (c .store) ≡ changed (b .change) st = ap₂ changed (does-same f (c .does) (b .does)) i in
+    ap (λ (z : Store). characterAt m k (z .recs)) i ∙ others-found o (inside (a .does)) (st .recs) (keyOf m (k + 1)) (omega arith) (omega arith)
+    ∙ ap (λ (z : Store). characterAt m k (z .recs)) (some-same e (b .is)) in
+    let z : changed (c .change) (c .store) ≡ changed (b .change) (changed (a .change) st) = ap₂ changed (does-same f (c .does) (b .does)) i in
     (c .left ∙ ap encode z, subst Valid z (c .valid))
 
 -- ── the bytes
-after-mark : (st : Store) → Valid st → drop markRecord (encode st) ≡ run (tallyOf (st .recs)) (st .recs) ++ replicate (st .size - (markRecord + total (st .recs))) 0
-after-mark st v = ap (drop markRecord) (encode-changed (st .mark) (st .recs) st (v .order)) ∙ drop-at (markBytes (st .mark)) _ markRecord (mark-length (st .mark))
+after-mark : (st : Store) → Valid st → drop firstRecordBytes (encode st) ≡ run (tallyOf (st .recs)) (st .recs) ++ replicate (st .size - (markRecord + total (st .recs))) 0
+after-mark st v = ap (drop firstRecordBytes) (encode-changed (st .mark) (st .recs) st (v .order)) ∙ drop-at (markBytes (st .mark)) _ firstRecordBytes (mark-length (st .mark))
 
-the-mark : (st : Store) → take markRecord (encode st) ≡ markBytes (st .mark)
-the-mark st = ap (take markRecord) (encode-parts st) ∙ take-at (markBytes (st .mark)) _ markRecord (mark-length (st .mark))
+the-mark : (st : Store) → take firstRecordBytes (encode st) ≡ markBytes (st .mark)
+the-mark st = ap (take firstRecordBytes) (encode-parts st) ∙ take-at (markBytes (st .mark)) _ firstRecordBytes (mark-length (st .mark))
 
--- ── the open mark: a character block sets it, the other calls close it at most
+-- ── the open mark: a character block sets it, the other calls leave it or close it
 closed-by : (n : ℕ) (q : Mark) (t : Bool) → (t ≡ true → q .fontOf ≡ n) → (cond t shut q ≡ q) ⊎ ((cond t shut q ≡ shut) × (q .fontOf ≡ n))
 closed-by n q true f = inr (refl, f refl)
 closed-by n q false f = inl refl
@@ -188,38 +186,32 @@ mark-either o z (inr a) (inl b) q = sym (set-or-close (λ e. o (sym e)) (b .1) a
 mark-either o z (inr a) (inr b) q = both-close a b q
 
 -- ── the claim
-told : {n : ℕ} {x : Call} (s t : List ℕ) → Prepares n x → outcome x s .refusal ≡ 0 → outcome x t .refusal ≡ 0 → answer x s ≡ answer x t
-told s t (by-font-block b) e f = rw (e, f)
-told {n} s t (by-character-block c b) e f = rw (e, f, zeros-otherwise n c b s (λ q. absurd (omega (arith, e, q))), zeros-otherwise n c b t (λ q. absurd (omega (arith, f, q))))
-told s t by-font-removal e f = rw (e, f)
-told s t (by-character-removal c) e f = rw (e, f)
+same-answer : {n : ℕ} {x : Call} (s t : List ℕ) → Prepares n x → outcome x s .refusal ≡ 0 → outcome x t .refusal ≡ 0 → answer x s ≡ answer x t
+same-answer s t (by-font-block b) e f = rw (e, f)
+same-answer {n} s t (by-character-block c b) e f = rw (e, f, zeros-otherwise n c b s (λ q. absurd (omega (arith, e, q))), zeros-otherwise n c b t (λ q. absurd (omega (arith, f, q))))
+same-answer s t by-font-removal e f = rw (e, f)
+same-answer s t (by-character-removal c) e f = rw (e, f)
 
 pub either-order : EitherOrder
 unfolding ran
 either-order n m x y P Q o s d e =
     let a = acts s P (d .0) in
     let b = acts s Q (e .0) in
-    let f = second o a b (acts (leaves x s) Q (d .1)) in
-    let g = second (λ z. o (sym z)) b a (acts (leaves y s) P (e .1)) in
-    let j : b .store ≡ a .store = some-same (b .is) (a .is) in
+    let f = second o (a .is) a b (acts (leaves x s) Q (d .1)) in
+    let g = second (λ z. o (sym z)) (a .is) b a (acts (leaves y s) P (e .1)) in
     let st = changed (b .change) (changed (a .change) (a .store)) in
-    let st′ = changed (a .change) (changed (b .change) (b .store)) in
-    let back : changed (a .change) (changed (b .change) (a .store)) ≡ st′ = ap (λ (z : Store). changed (a .change) (changed (b .change) z)) (sym j) in
-    let recs : st .recs ≡ st′ .recs =
-    either-way o (inside (a .does)) (inside (b .does)) (a .store .recs) (f .1 .order) (subst (λ (z : Store). sorted 0 alone (z .recs) ≡ true) (sym back) (g .1 .order))
-    ∙ ap (λ (z : Store). z .recs) back in
-    let size : st .size ≡ st′ .size = ap (λ (z : Store). z .size) back in
+    let st′ = changed (a .change) (changed (b .change) (a .store)) in
+    let recs : st .recs ≡ st′ .recs = either-way o (inside (a .does)) (inside (b .does)) (a .store .recs) (f .1 .order) (g .1 .order) in
     record {
-      first-answer = told s (leaves y s) P (d .0) (e .1);
-      second-answer = told (leaves x s) s Q (d .1) (e .0);
+      first-answer = same-answer s (leaves y s) P (d .0) (e .1);
+      second-answer = same-answer (leaves x s) s Q (d .1) (e .0);
       records =
-          ap (drop markRecord) (f .0) ∙ after-mark st (f .1)
-          ∙ ap₂ (λ (k : ℕ) (l : List Rec). run (tallyOf l) l ++ replicate (k - (markRecord + total l)) 0) size recs
-          ∙ sym (ap (drop markRecord) (g .0) ∙ after-mark st′ (g .1));
+          ap (drop firstRecordBytes) (f .0) ∙ after-mark st (f .1)
+          ∙ ap (λ (l : List Rec). run (tallyOf l) l ++ replicate (st .size - (markRecord + total l)) 0) recs
+          ∙ sym (ap (drop firstRecordBytes) (g .0) ∙ after-mark st′ (g .1));
       mark = λ p.
-          ap (take markRecord) (f .0) ∙ the-mark st
-          ∙ ap markBytes (mark-either o p (marks (a .does)) (marks (b .does)) (a .store .mark) ∙ ap (λ (z : Store). z .mark) back)
-          ∙ sym (ap (take markRecord) (g .0) ∙ the-mark st′);
+          ap (take firstRecordBytes) (f .0) ∙ the-mark st ∙ ap markBytes (mark-either o p (marks (a .does)) (marks (b .does)) (a .store .mark))
+          ∙ sym (ap (take firstRecordBytes) (g .0) ∙ the-mark st′);
     }
 
 -- ── a continuation

@@ -4,7 +4,7 @@ use Rattle.marlinfold.specs.Trials.{A, B}
 use Rattle.marlinfold.specs.Occurrences.{kind}
 use Rattle.marlinfold.proofs.Computing.{computing}
 use Rattle.eitherorder.specs.EitherOrder.{by-font-block, by-character-block, by-font-removal, by-character-removal}
-use Rattle.eitherorder.specs.Pairs.{twoRows, openA, moreA, letterB, openB, pair, pairs, continuedPairs, AllDone, kindsOf, tenKinds, PairsOccur, LaterDecides, OneOrderAlone}
+use Rattle.eitherorder.specs.Pairs.{twoRows, openA, moreA, letterB, openB, pair, pairs, continuedPairs, AllDone, kindsOf, tenKinds, PairsOccur, LaterDecides, OneFontDiffers, OneOrderAlone}
 
 ten : AllDone pairs
 unfolding computing twoRows openA letterB openB pair pairs
@@ -55,6 +55,10 @@ pub later-decides : LaterDecides
 unfolding computing twoRows openA openB
 later-decides = (refl, refl)
 
+pub one-font-differs : OneFontDiffers
+unfolding computing
+one-font-differs = ((refl, refl), (refl, refl), refl, refl)
+
 pub one-order-alone : OneOrderAlone
 unfolding computing twoRows openA moreA openB
-one-order-alone = ((refl, refl), refl, refl)
+one-order-alone = ((refl, refl), refl, refl, (refl, refl), refl)

@@ -4,7 +4,6 @@ use Prim.Native.Nat.{ℕ}
 use mathlib.Core.Path.{_≡_}
 use mathlib.Core.List.{List, [], _∷_}
 use lib.ListN.{take, drop, getD}
-use Rattle.form.specs.Layout.{markRecord}
 use Rattle.marlinfold.specs.Calls.{Call, download-font, download-character, remove-font, remove-character, outcome, leaves, answer, ran}
 
 -- "out of the downloads and removals": the four calls, on font number n
@@ -22,29 +21,37 @@ IsCharacterBlock x = (n : ℕ) × (c : ℕ) × (b : List ℕ) × (x ≡ download
 abbrev pub BothDone : Call → Call → List ℕ → Type 0
 BothDone x y s = (outcome x s .refusal ≡ 0) × (outcome y (leaves x s) .refusal ≡ 0)
 
+-- "the 12 of the first record"
+abbrev pub firstRecordBytes : ℕ
+firstRecordBytes = 12
+
 -- what x and y give in either order
 pub record SameEitherWay (x y : Call) (s : List ℕ) : Type 0 where
   -- "the same answers": all numbers of each call, whether it comes first or second
   pub first-answer : answer x s ≡ answer x (leaves y s)
   pub second-answer : answer y (leaves x s) ≡ answer y s
   -- "the same store bytes after the 12 of the first record"
-  pub records : drop markRecord (ran (x ∷ y ∷ []) s) ≡ drop markRecord (ran (y ∷ x ∷ []) s)
-  -- "If neither is a character block, those 12 are the same as well"; and so they are if only one of the two is, whose mark stands in either order
+  pub records : drop firstRecordBytes (ran (x ∷ y ∷ []) s) ≡ drop firstRecordBytes (ran (y ∷ x ∷ []) s)
+  -- "If neither is a character block, those 12 are the same as well." They are the same also if only one of the two is: either order leaves the mark that
+  -- it sets.
   pub mark :
       (IsCharacterBlock x → IsCharacterBlock y → ⊥)
-      → take markRecord (ran (x ∷ y ∷ []) s) ≡ take markRecord (ran (y ∷ x ∷ []) s)
+      → take firstRecordBytes (ran (x ∷ y ∷ []) s) ≡ take firstRecordBytes (ran (y ∷ x ∷ []) s)
 
 -- the claim: for every buffer
 abbrev pub EitherOrder : Type 0
 EitherOrder =
-    (n m : ℕ) (x y : Call) → Prepares n x → Prepares m y
+    (n m : ℕ) (x y : Call)
+    → Prepares n x → Prepares m y
     → (n ≡ m → ⊥)
     → (s : List ℕ) → BothDone x y s
     → BothDone y x s
     → SameEitherWay x y s
 
--- A continuation ("byte 1 not zero") is never done after a character block for another font, which opens its own character or leaves none open. So of two
--- character blocks that are done in either order both are first blocks.
+-- A continuation ("byte 1 not zero") is never done right after an accepted character block for another font, which opens its own character or leaves none
+-- open. So of two character blocks that are done in either order both are first blocks.
 abbrev pub ContinuationAlone : Type 0
 ContinuationAlone =
-    (n m c k : ℕ) (b d s : List ℕ) → (n ≡ m → ⊥) → (getD b 1 0 ≡ 0 → ⊥) → BothDone (download-character m k d) (download-character n c b) s → ⊥
+    (n m c k : ℕ) (b d s : List ℕ) → (n ≡ m → ⊥)
+    → (getD b 1 0 ≡ 0 → ⊥)
+    → BothDone (download-character m k d) (download-character n c b) s → ⊥

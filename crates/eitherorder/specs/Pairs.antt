@@ -1,13 +1,12 @@
--- W-211: two such calls can be: an example of each pair of kinds; and what may differ, by examples. All computed.
+-- W-211: such pairs of calls exist: an example of each pair of kinds; and what may differ otherwise, by examples. All computed.
 use Prim.Native.Nat.{ℕ}
 use mathlib.Core.Path.{_≡_}
 use mathlib.Core.List.{List, [], _∷_}
-use lib.ListN.{take}
-use Rattle.form.specs.Layout.{markRecord}
+use lib.ListN.{take, getD}
 use Rattle.marlinfold.specs.Calls.{Call, download-character, remove-font, remove-character, outcome, leaves, ran}
-use Rattle.marlinfold.specs.Trials.{A, B, storeAfter}
+use Rattle.marlinfold.specs.Trials.{A, B, like, storeAfter}
 use Rattle.marlinfold.specs.Occurrences.{kind}
-use Rattle.eitherorder.specs.EitherOrder.{Prepares, BothDone}
+use Rattle.eitherorder.specs.EitherOrder.{Prepares, BothDone, firstRecordBytes}
 
 -- a first block of class 1 for 8 x 2 dots, with these rows
 unfoldable pub twoRows : List ℕ → List ℕ
@@ -51,7 +50,7 @@ pairs =
     ∷ pair (A ∷ B ∷ letterB ∷ openA ∷ []) (remove-character 5 65) (remove-character 2 66)
     ∷ []
 
--- a continuation beside each kind but a character block, where it cannot be (`ContinuationAlone`)
+-- a continuation beside each kind but a character block, which is impossible (`ContinuationAlone`)
 unfoldable pub continuedPairs : List Pair
 continuedPairs =
     pair (A ∷ openA ∷ []) moreA B
@@ -85,11 +84,21 @@ PairsOccur = AllDone pairs × (kindsOf pairs ≡ tenKinds) × AllDone continuedP
 abbrev pub LaterDecides : Type 0
 LaterDecides =
     let s : List ℕ = storeAfter 500 (A ∷ B ∷ []) in
-    (take markRecord (ran (openA ∷ openB ∷ []) s) ≡ 12 ∷ 0 ∷ 0 ∷ 0 ∷ 1 ∷ 0 ∷ 1 ∷ 0 ∷ 2 ∷ 0 ∷ 66 ∷ 0 ∷ [])
-    × (take markRecord (ran (openB ∷ openA ∷ []) s) ≡ 12 ∷ 0 ∷ 0 ∷ 0 ∷ 1 ∷ 0 ∷ 1 ∷ 0 ∷ 5 ∷ 0 ∷ 65 ∷ 0 ∷ [])
+    (take firstRecordBytes (ran (openA ∷ openB ∷ []) s) ≡ 12 ∷ 0 ∷ 0 ∷ 0 ∷ 1 ∷ 0 ∷ 1 ∷ 0 ∷ 2 ∷ 0 ∷ 66 ∷ 0 ∷ [])
+    × (take firstRecordBytes (ran (openB ∷ openA ∷ []) s) ≡ 12 ∷ 0 ∷ 0 ∷ 0 ∷ 1 ∷ 0 ∷ 1 ∷ 0 ∷ 5 ∷ 0 ∷ 65 ∷ 0 ∷ [])
 
--- a continuation that is done before a block for another font is refused with 7 after it: one order says nothing of the other
+-- on one font number the order decides: of two blocks for font 5 the later one is kept, with its pitch (120 is A's), which stands at byte 43
+abbrev pub OneFontDiffers : Type 0
+OneFontDiffers =
+    let s : List ℕ = storeAfter 500 [] in
+    let A′ : Call = like 5 121 200 in
+    BothDone A A′ s × BothDone A′ A s × (getD (ran (A ∷ A′ ∷ []) s) 43 0 ≡ 121) × (getD (ran (A′ ∷ A ∷ []) s) 43 0 ≡ 120)
+
+-- A pair that is done in one order may be refused in the other: a continuation is done before a block for another font, and refused with 7 after it;
+-- a block for which there is room only after a removal is refused with 10 before it.
 abbrev pub OneOrderAlone : Type 0
 OneOrderAlone =
     let s : List ℕ = storeAfter 500 (A ∷ B ∷ openA ∷ []) in
+    let t : List ℕ = storeAfter 94 (A ∷ []) in
     BothDone moreA openB s × (outcome openB s .refusal ≡ 0) × (outcome moreA (leaves openB s) .refusal ≡ 7)
+    × BothDone (remove-font 5) B t × (outcome B t .refusal ≡ 10)

@@ -292,7 +292,7 @@ cut-valid n c st v r code q =
     let fits : markRecord + total (withCharacter n c [] (st .recs)) ≤ st .size = omega (arith, total-replaced (keyOf n (c + 1)) (keyOf n (c + 1) + 1) [] (st .recs) (v .order) (omega arith), v .room) in
     valid-cut n c (y .0) st v code (q ∙ ap some (y .1)) fits
 
--- and of a character's
+-- the same for the removal of a character
 module _ (n c : ℕ) (s : List ℕ) (is : isStore s ≡ true) (P : After → Type 0) (no : (m : ℕ) → eqb m 0 ≡ false → P (refuse s m))
     (cut : (st : Store) → decode s ≡ some st → Valid st → c ≤ lastCode → Valid (removeCharacter n c st) → P (done (removeCharacter n c st))) where
   pub cut-answers : P (removingCharacter n c s)
