@@ -3,6 +3,7 @@
 #include "arguments.h"
 #include "bdf_fields.h"
 #include "bdf_read.h"
+#include "bdf_weight.h"
 #include "bdf_write.h"
 #include "judging.h"
 #include "kept.h"
@@ -65,8 +66,9 @@ static const description program = {
     "(class 1).\n",
     "Exit status: 0 if the font was written whole, 2 if it was written but a character is left\n"
     "out, incomplete or of another width, or a font file was not taken whole, 1 if it was not\n"
-    "written. Also 2 if WEIGHT_NAME and FONT of a BDF file say different weights, where the first\n"
-    "is taken, and, with nothing written, if they say none that is known; --weight settles both.\n"
+    "written. Also 2 if _PCL_WEIGHT, WEIGHT_NAME and FONT of a BDF file say different weights,\n"
+    "where the heaviest is taken, and, with nothing written, if they say none that is known;\n"
+    "--weight settles both.\n"
     "A BDF file that is broken is told with its line and the reason.\n",
     options, sizeof options / sizeof *options};
 
@@ -188,57 +190,6 @@ static long usual_type(const bdf_font *from)
     return made;
 }
 
-/* The weight of a name, NOT_SAID if that is none that is known. */
-static long weight_of_name(const char *name)
-{
-    static const struct {
-        const char *name;
-        long weight;
-    } others[] = {{"regular", MF_MEDIUM}, {"normal", MF_MEDIUM},  {"book", MF_MEDIUM},
-                  {"demi", MF_DEMI_BOLD}, {"heavy", MF_BLACK},    {"semi", MF_SEMI_BOLD},
-                  {"ultra bold", MF_EXTRA_BOLD}};
-    int32_t each;
-    size_t at;
-
-    for (each = MF_ULTRA_THIN; each <= MF_ULTRA_BLACK; each++)
-        if (same_word(name, weight_name(each)))
-            return each;
-    for (at = 0; at < sizeof others / sizeof *others; at++)
-        if (same_word(name, others[at].name))
-            return others[at].weight;
-    return NOT_SAID;
-}
-
-/* Whether the weight has a name in WEIGHT_NAME; else FONT may have it. */
-static int has_weight_name(const bdf_font *from)
-{
-    return !same_word(from->weight, "");
-}
-
-/* The weight by its name in the file, NOT_SAID if there is none that is known. */
-static long named_weight(const bdf_font *from)
-{
-    return weight_of_name(has_weight_name(from) ? from->weight : from->font_weight);
-}
-
-/* Whether the weight is known; tells it if not. None is guessed then, since bold marks a closed
- * series. */
-static int has_weight(const bdf_font *from)
-{
-    if (first_of(weight, from->fields[CARRIED_WEIGHT], named_weight(from)) != NOT_SAID)
-        return 1;
-    if (!has_weight_name(from) && same_word(from->font_weight, ""))
-        tell("%s: neither WEIGHT_NAME nor FONT says the weight, nothing is written; --weight N "
-             "says it, where 0 is medium and 3 bold",
-             shown(from->file));
-    else
-        tell("%s: %s \"%s\" is none that is known, nothing is written; --weight N says the "
-             "weight, where 0 is medium and 3 bold",
-             shown(from->file), has_weight_name(from) ? "WEIGHT_NAME" : "FONT's weight",
-             shown(has_weight_name(from) ? from->weight : from->font_weight));
-    return 0;
-}
-
 static long usual_set(const bdf_font *from)
 {
     long found = set_of_charset(from->registry, from->encoding);
@@ -342,7 +293,6 @@ static size_t make_header(uint8_t *header, const bdf_font *from)
                 {CARRIED_STYLE, style, usual_style(from)},
                 {CARRIED_ORIENTATION, orientation, MF_PORTRAIT},
                 {CARRIED_SYMBOL_SET, set, usual_set(from)},
-                {CARRIED_WEIGHT, weight, named_weight(from)},
                 {CARRIED_TYPEFACE, face, 0},
                 {CARRIED_FIRST_CODE, NOT_GIVEN, end_code(from, 0)},
                 {CARRIED_LAST_CODE, NOT_GIVEN, end_code(from, 1)}};
@@ -353,6 +303,7 @@ static size_t make_header(uint8_t *header, const bdf_font *from)
     for (at = 0; at < sizeof told / sizeof *told; at++)
         carry(&carried[told[at].field], header,
               first_of(told[at].given, from->fields[told[at].field], told[at].usual));
+    carry(&carried[CARRIED_WEIGHT], header, weight != NOT_GIVEN ? weight : said_weight(from));
     high16(header, (long)length);
     carry(&carried[CARRIED_FORMAT], header, length == FORMAT_20_BYTES ? 20 : 0);
     header[SPACING_AT] = (uint8_t)spacing_of(from);
@@ -533,19 +484,20 @@ static void bring_header(bringing *of)
     of->kept = mf_font_fields_of(kept);
 }
 
-/* Tells that WEIGHT_NAME and FONT say different weights, unless a number says it. */
+/* Whether the weight is known; tells it if not. */
+static int has_weight(const bdf_font *from)
+{
+    if (weight != NOT_GIVEN || said_weight(from) != NOT_SAID)
+        return 1;
+    tell_unknown_weight(from);
+    return 0;
+}
+
+/* Tells it if the file says different weights, and no option says which. */
 static void check_weight(bringing *of)
 {
-    const bdf_font *from = of->from;
-    long taken = weight_of_name(from->weight), other = weight_of_name(from->font_weight);
-
-    if (weight != NOT_GIVEN || from->fields[CARRIED_WEIGHT] != NOT_SAID || taken == NOT_SAID ||
-        other == NOT_SAID || taken == other)
-        return;
-    tell("%s: WEIGHT_NAME says %s and FONT says %s, %s is taken; --weight N says the weight",
-         shown(from->file), weight_name((int32_t)taken), weight_name((int32_t)other),
-         weight_name((int32_t)taken));
-    of->status = INCOMPLETE;
+    if (weight == NOT_GIVEN && tell_differing_weights(of->from))
+        of->status = INCOMPLETE;
 }
 
 static void tell_outside(bringing *of)
