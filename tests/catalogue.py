@@ -1,7 +1,9 @@
 """catalogue.py PAGE FOLDER PROGRAMS: whether a page of marlinfold-catalogue says of the folder what
 the other programs in the folder PROGRAMS say of its files, and draws what they draw: fields, notes,
-rules, samples, every character in its field, equal fonts. Prints what was compared."""
+rules, samples, every character in its field, equal fonts, the figures by code. Prints what was
+compared."""
 import base64
+import functools
 import html.parser
 import json
 import os
@@ -73,7 +75,8 @@ def safe(page):
     assert len(ids) == len(set(ids)), "an id twice"
     assert len(list(every(page, "script"))) <= 1, "another script"
     allowed = {"id", "class", "lang", "charset", "name", "content", "scope", "width", "height", "src",
-               "alt", "href", "hidden", "type", "value"}
+               "alt", "href", "hidden", "type", "value", "role", "tabindex", "aria-labelledby",
+               "viewbox", "x", "y", "d", "fill", "stroke", "text-anchor"}
     for each in every(page):
         given = each["attributes"]
         assert all(key in allowed or key.startswith("data-") for key in given), given.keys()
@@ -134,10 +137,15 @@ def code_drawn(code, scale):
     return trimmed(["".join(dot * scale for dot in row) for row in rows for _ in range(scale)])
 
 
+@functools.lru_cache(maxsize=None)
+def as_bdf(path, font):
+    return run("bdf", "--font", font, path).stdout.decode()
+
+
 def of_bdf(path, font):
     """Of each character of an upright font its left and top offset and its rows, by way of BDF."""
     made = {}
-    for part in run("bdf", "--font", font, path).stdout.decode().split("STARTCHAR ")[1:]:
+    for part in as_bdf(path, font).split("STARTCHAR ")[1:]:
         code = int(re.search(r"ENCODING (\d+)", part)[1])
         width, height, left, below = map(int, re.search(
             r"BBX (\d+) (\d+) (-?\d+) (-?\d+)", part).groups())
@@ -282,7 +290,7 @@ def check_file(article, path):
 
 def dots_key(path, told):
     """The font's dots and their places, by way of BDF."""
-    made = run("bdf", "--font", str(told["font"]), path).stdout.decode().split("\nCHARS ")[1]
+    made = as_bdf(path, str(told["font"])).split("\nCHARS ")[1]
     return told["orientation"], re.sub(r"(?m)^[SD]WIDTH .*$", "", made)
 
 
@@ -316,8 +324,74 @@ def check_sums(page, articles, fonts):
     assert sums["fit for spine labels"] == words(page).count("Profile of spine labels: met\n")
 
 
+# ---- the figures ----
+
+def drawn_figures(path, told):
+    """Of each character of a font its code, black dots, width as it is kept, and delta X: by the
+    drawn rows and the properties of its BDF."""
+    head, *parts = as_bdf(path, str(told["font"])).split("STARTCHAR ")
+    exact = {int(code): int(value)
+             for code, value in re.findall(r"(?m)^_PCL_DELTA_X_(\d+) (\d+)$", head)}
+    pitch = int(re.search(r"(?m)^_PCL_PITCH (\d+)$", head)[1])
+    for part in parts:
+        code = int(re.search(r"ENCODING (\d+)", part)[1])
+        dots = int(re.search(r"DWIDTH (\d+)", part)[1])
+        sides = [int(side) for side in re.search(r"BBX (\d+) (\d+)", part).groups()]
+        rows = part.split("BITMAP\n")[1].split("ENDCHAR")[0].split()
+        usual = pitch if told["spacing"] == "fixed" else min(4 * dots, 32767)
+        yield (code, sum(bin(int(row, 16)).count("1") for row in rows),
+               sides["landscape" in told["orientation"]], exact.get(code, usual))
+
+
+def expected_figures(fonts):
+    by_code = {}
+    for path, told in fonts.values():
+        if told["characters"]:
+            for code, *numbers in drawn_figures(path, told):
+                by_code.setdefault(code, []).append(numbers)
+    made = []
+    for code, all_numbers in sorted(by_code.items()):
+        dots, widths, moved = zip(*all_numbers)
+        made.append([code, len(dots), sum(dots), min(widths), max(widths), sum(moved),
+                     *divmod(sum(moved), len(moved))])
+    return made
+
+
+def check_chart(page, expected):
+    chart, = every(page, "svg")
+    assert chart["attributes"]["role"] == "img" and words(next(every(chart, "title")))
+    most = max(row[1] for row in expected)
+    first = next(row[0] for row in expected if row[1] == most)
+    assert words(next(every(chart, "desc"))).endswith(
+        f"The highest, {most}, is that of code {first}."), words(chart)
+    bars = [{key: float(value) for key, value in bar["attributes"].items()}
+            for bar in every(chart, "rect")]
+    assert [bar["x"] for bar in bars] == [16 + 3 * row[0] for row in expected]
+    for bar, row in zip(bars, expected):
+        assert abs(bar["height"] - max(1, 128 * row[1] / most)) < 0.06, (bar, row)
+        assert abs(bar["y"] + bar["height"] - 150) < 0.11 and bar["width"] == 2, bar
+
+
+def check_figures(page, articles, fonts):
+    expected = expected_figures(fonts)
+    found = [[int(words(cell)) for cell in row["inside"]]
+             for table in every(page, "table", id="by-code") for row in every(table, "tr")
+             if row["inside"][0]["attributes"]["scope"] == "row"]
+    assert found == expected, [pair for pair in zip(found, expected) if pair[0] != pair[1]] or (
+        len(found), len(expected))
+    counts["codes"] = len(found)
+    if not expected:
+        assert "There are no characters.\n" in words(page) and not list(every(page, "svg"))
+        return
+    files = sum(each["attributes"]["data-fonts"] != "0" for each in articles)
+    assert (f"characters {sum(row[1] for row in expected)}, black dots "
+            f"{sum(row[2] for row in expected)}, fonts {len(fonts)}, files with a font {files}.\n"
+            in words(page)), words(page)[:2000]
+    check_chart(page, expected)
+
+
 page_name, folder, programs = sys.argv[1:]
-counts = {"pictures": 0, "notes": 0, "groups": 0}
+counts = {"pictures": 0, "notes": 0, "groups": 0, "codes": 0}
 digit_rows = digits()
 whole = Page(open(page_name, encoding="utf-8", errors="strict", newline="").read()).root
 safe(whole)
@@ -339,5 +413,6 @@ for name, part in zip(shown, parts):
         kept.update(check_file(part, os.fsdecode(os.path.join(os.fsencode(folder), name))))
 check_groups(whole, kept)
 check_sums(whole, parts, kept)
+check_figures(whole, parts, kept)
 print(f"{len(parts)} files, {len(kept)} fonts, {counts['notes']} notes, {counts['pictures']} "
-      f"pictures, {counts['groups']} groups")
+      f"pictures, {counts['groups']} groups, figures of {counts['codes']} codes")

@@ -47,6 +47,14 @@ void write_equal(FILE *to);
 
 void forget_equal(void);
 
+/* ---- catalogue_figures.c ---- */
+
+/* Adds the characters of the store in use to the figures of the folder. */
+void figure_store(void);
+
+/* Writes the figures of all stores that were added: a chart and a table by code. */
+void write_figures(FILE *to, const catalogue *of);
+
 /* ---- catalogue_page.c ---- */
 
 /* What every catalogue begins with. */

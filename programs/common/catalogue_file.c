@@ -85,6 +85,8 @@ static void read_fonts(catalogue *into, entry *of)
         note_incomplete(of, font);
         of->count++;
     }
+    if (of->count)
+        figure_store();
 }
 
 static void set_why(entry *of, const char *before, int why)

@@ -19,7 +19,12 @@ static const char *const style[] = {
     "section.font { border-left: 1px solid #767676; padding-left: 1em; margin: 1em 0; }",
     ".closed { border: 4px double #000; padding: 0.3em 0.6em; display: inline-block; }",
     "figure { margin: 0.8em 0; }",
-    "img { max-width: 100%; height: auto; }",
+    "img, svg { max-width: 100%; height: auto; }",
+    "svg text { font: 14px sans-serif; }",
+    ".long { max-height: 26em; overflow: auto; border: 1px solid #767676; }",
+    ".long table { margin: 0; font-variant-numeric: tabular-nums; }",
+    ".long th, .long td { text-align: right; }",
+    ".long thead th { position: sticky; top: 0; background: #fff; }",
     "form { border: 1px solid #767676; padding: 0.6em; }",
     "form label { margin-right: 1em; }",
     "[hidden] { display: none; }",
@@ -27,7 +32,10 @@ static const char *const style[] = {
     "@media print {",
     "  body { font-size: 10pt; margin: 0; max-width: none; padding: 0; }",
     "  form { display: none; }",
-    "  h3, h4, table, li, figure { break-inside: avoid; }",
+    "  h3, h4, table, tr, li, figure { break-inside: avoid; }",
+    "  .long { max-height: none; overflow: visible; border: 0; }",
+    "  .long table { break-inside: auto; }",
+    "  .long thead th { position: static; }",
     "  h2, h3, h4, .closed { break-after: avoid; }",
     "  a { color: #000; text-decoration: none; }",
     "}"};
@@ -151,9 +159,9 @@ static void write_groups(FILE *to, const catalogue *of)
     write_equal(to);
 }
 
-/* What stands before the files, in this order. The collection's figures (W-210) have their place
- * at its end. */
-static void (*const parts[])(FILE *to, const catalogue *of) = {write_sums, write_groups};
+/* What stands before the files, in this order. */
+static void (*const parts[])(FILE *to, const catalogue *of) = {write_sums, write_groups,
+                                                               write_figures};
 
 /* ---- the page ---- */
 
