@@ -125,8 +125,8 @@ static void write_chart(FILE *to)
     uint64_t most = joined[greatest].count;
 
     fputs("<figure>\n", to);
-    fprintf(to, "<svg role=\"img\" width=\"%d\" height=\"%d\" viewBox=\"0 0 %d %d\">\n", CHART_WIDTH,
-            CHART_HEIGHT, CHART_WIDTH, CHART_HEIGHT);
+    fprintf(to, "<svg role=\"img\" width=\"%d\" height=\"%d\" viewBox=\"0 0 %d %d\">\n",
+            CHART_WIDTH, CHART_HEIGHT, CHART_WIDTH, CHART_HEIGHT);
     fputs("<title>How many characters each code has</title>\n", to);
     fprintf(to, "<desc>A bar for each code from 0 to %d, as high as its count in the table below. "
             "The highest, %llu, is that of code %u.</desc>\n", MF_CODE_MAX,
