@@ -368,7 +368,7 @@ def check_chart(page, expected):
             for bar in every(chart, "rect")]
     assert [bar["x"] for bar in bars] == [16 + 3 * row[0] for row in expected]
     for bar, row in zip(bars, expected):
-        assert abs(bar["height"] - max(1, 128 * row[1] / most)) < 0.06, (bar, row)
+        assert abs(bar["height"] - max(3, 128 * row[1] / most)) < 0.06, (bar, row)
         assert abs(bar["y"] + bar["height"] - 150) < 0.11 and bar["width"] == 2, bar
 
 

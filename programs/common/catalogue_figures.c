@@ -57,14 +57,15 @@ void figure_store(void)
 
 /* ---- the chart ---- */
 
-/* Its places, in units of the picture: the bars stand on LOW, the highest reaches HIGH, and a code
- * has three units, of which its bar takes two. */
+/* Its places, in units of the picture: the bars stand on LOW, the highest reaches HIGH, none is
+ * lower than LEAST_BAR, and a code has three units, of which its bar takes two. */
 #define CHART_WIDTH 800
 #define CHART_HEIGHT 180
 #define LEFT 16
 #define HIGH 22
 #define LOW 150
 #define CODE_WIDTH 3
+#define LEAST_BAR 3
 
 static int place_of_code(uint32_t code)
 {
@@ -82,7 +83,7 @@ static uint32_t greatest_code(void)
     return found;
 }
 
-/* A bar is as high as its count, and a code that occurs at all can be seen. */
+/* A bar is as high as its count, but a code that occurs at all can be seen. */
 static void write_bars(FILE *to, uint64_t most)
 {
     uint32_t code;
@@ -91,7 +92,7 @@ static void write_bars(FILE *to, uint64_t most)
         double high = (LOW - HIGH) * ((double)joined[code].count / (double)most);
         if (!joined[code].count)
             continue;
-        high = high < 1 ? 1 : high;
+        high = high < LEAST_BAR ? LEAST_BAR : high;
         fprintf(to, "<rect x=\"%d\" y=\"%.1f\" width=\"%d\" height=\"%.1f\"/>\n",
                 place_of_code(code), LOW - high, CODE_WIDTH - 1, high);
     }
