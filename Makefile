@@ -3,7 +3,8 @@
 # make build       the same without the list and the labels
 # make check       all tests, the same as .ci/run
 # make install     under $(DESTDIR)$(PREFIX): header, archive, shared library, pkg-config
-#                  file, programs, man pages, bash completion; needs no rt once all is built
+#                  file, programs, man pages, bash completion; needs no rt once all is built;
+#                  the same of the text layer
 # make uninstall   removes what make install put there, if given the same folders
 # make clean       removes target/
 PREFIX = /usr/local
@@ -28,7 +29,7 @@ modules = $(patsubst programs/common/%.c,target/objects/%.o,$(wildcard programs/
 common = target/objects/common.a
 examples = $(patsubst %.c,target/%,$(wildcard examples/*.c))
 crates = crates.txt $(shell find crates -type f)
-headers = include/marlinfold.h $(wildcard programs/common/*.h)
+headers = include/marlinfold.h include/marlinfold-text.h $(wildcard programs/common/*.h)
 # The programs that draw write PNG too, if libpng is there.
 with_png := $(shell pkg-config --exists libpng 2>/dev/null && echo yes)
 png_flags := $(if $(with_png),-DWITH_PNG $(shell pkg-config --cflags libpng))
@@ -41,6 +42,14 @@ soname = libmarlinfold.so.$(firstword $(subst ., ,$(VERSION)))
 shared = target/shared/libmarlinfold.so.$(VERSION)
 links = libmarlinfold.so $(soname)
 
+# The text layer: a library of its own, in C over the header.
+text_archive = target/text/libmarlinfold-text.a
+text_modules = $(patsubst text/%.c,target/text/%.o,$(wildcard text/*.c))
+text_headers = include/marlinfold.h include/marlinfold-text.h $(wildcard text/*.h)
+text_soname = libmarlinfold-text.so.$(firstword $(subst ., ,$(VERSION)))
+text_shared = target/shared/libmarlinfold-text.so.$(VERSION)
+text_links = libmarlinfold-text.so $(text_soname)
+
 # Nothing if the program is there, else one line, and make stops.
 needs = $(if $(shell command -v $(1) 2>/dev/null),,$(error $@: needs $(2), and no $(1) was found))
 
@@ -51,6 +60,7 @@ all: build
 	$(label) --mode 600 "$(TEXT)" samples/*.pcl >target/label-600.pbm
 
 build: $(archive) $(listing) $(figures) $(shared) $(programs) $(examples)
+build: $(text_archive) $(text_shared)
 
 # $(call prove,COMMAND,LOG): what the prover says goes to a file; its last lines are shown
 # if it fails. rt proves again only what has changed, and then leaves a file as old as it was.
@@ -80,6 +90,23 @@ $(shared): $(archive)
 	    -Wl,-z,defs -Wl,--whole-archive $(archive) -Wl,--no-whole-archive -o $@
 	@for link in $(links); do ln -sf $(@F) $(@D)/$$link || exit 1; done
 
+# The text layer's modules are compiled once for both of its libraries.
+target/text/%.o: text/%.c $(text_headers)
+	@mkdir -p $(@D)
+	$(compile) -fPIC -c $< -o $@
+
+$(text_archive): $(text_modules)
+	rm -f $@
+	$(AR) rcs $@ $(text_modules)
+
+$(text_shared): $(text_modules) $(shared)
+	@mkdir -p $(@D)
+	@echo '{ global: mft_*; local: *; };' >$(@D)/text-exports
+	$(CC) -shared $(LDFLAGS) -Wl,-soname,$(text_soname) \
+	    -Wl,--version-script,$(@D)/text-exports -Wl,-z,defs $(text_modules) -L$(@D) -lmarlinfold \
+	    -o $@
+	@for link in $(text_links); do ln -sf $(@F) $(@D)/$$link || exit 1; done
+
 # What the programs share is compiled once.
 target/objects/%.o: programs/common/%.c $(headers)
 	@mkdir -p $(@D)
@@ -89,9 +116,9 @@ $(common): $(modules)
 	rm -f $@
 	$(AR) rcs $@ $(modules)
 
-target/programs/marlinfold-%: programs/%.c $(headers) $(common) $(archive)
+target/programs/marlinfold-%: programs/%.c $(headers) $(common) $(text_archive) $(archive)
 	@mkdir -p $(@D)
-	$(compile) -Iprograms/common $< $(common) $(archive) $(LDFLAGS) $(libraries) -o $@
+	$(compile) -Iprograms/common $< $(common) $(text_archive) $(archive) $(LDFLAGS) $(libraries) -o $@
 
 target/programs/marlinfold-label target/programs/marlinfold-specimen: libraries = $(png_libraries)
 target/programs/marlinfold-catalogue: libraries = $(png_libraries)

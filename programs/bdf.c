@@ -5,9 +5,9 @@
 #include "bdf_read.h"
 #include "bdf_weight.h"
 #include "bdf_write.h"
-#include "judging.h"
 #include "kept.h"
 #include "loading.h"
+#include "marlinfold-text.h"
 #include "message.h"
 #include "output.h"
 
@@ -441,11 +441,11 @@ static void bring(bringing *of, uint32_t code)
     const bdf_character *from = &of->from->characters[code];
     placed at = place_of(of, from);
     size_t data = mf_picture_bytes(at.width, at.height);
-    judgement made;
+    mft_judgement made;
     uint32_t refusal;
 
     make_descriptor(block, of, at, delta_x_of(of, code));
-    judge_character(&made, block, MF_CHARACTER_BYTES, of->kept.orientation);
+    mft_judge_character(&made, block, MF_CHARACTER_BYTES, of->kept.orientation);
     if (outside(made.why, sizeof made.why, "left", at.left) ||
         outside(made.why, sizeof made.why, "top", at.top) || made.refusal) {
         leave_out(of, code, made.why);
@@ -470,10 +470,10 @@ static void bring_header(bringing *of)
 {
     uint8_t header[FORMAT_20_BYTES], kept[MF_FONT_BYTES];
     size_t length = make_header(header, of->from);
-    judgement made;
+    mft_judgement made;
     uint32_t refusal;
 
-    judge_font(&made, header, length);
+    mft_judge_font(&made, header, length);
     if (made.refusal)
         stop("%s: %s", shown(of->from->file), made.why);
     fresh_store();

@@ -136,18 +136,6 @@ static int are_level(uint32_t a, uint32_t b)
            of.resolution == to.resolution && of.orientation == to.orientation;
 }
 
-/* Whether a font has every letter of the text; a space needs no character. */
-static int has_all(uint32_t font, const text *words)
-{
-    mf_character_fields told;
-    size_t at;
-
-    for (at = 0; at < words->count; at++)
-        if (words->letters[at].code != ' ' && !has_code(font, words->letters[at].code, &told))
-            return 0;
-    return 1;
-}
-
 /* The first font of the store in use that is level with another and has all letters. A font of the
  * other store is never level, since the store is a step of choosing too. */
 static uint32_t complete_one(uint32_t font, const text *words)
@@ -264,18 +252,18 @@ static void choose(line *of, const mf_request *asked, const char *words)
 /* Sets what a missing character leaves free, and tells where it is not the pitch. */
 static void set_blank(line *of)
 {
-    enum blank_kind kind;
     mf_character_fields n;
+    uint32_t kind;
 
     if (space != NOT_GIVEN) {
         of->blank = 1024 * (int64_t)space;
         return;
     }
     kind = take_blank(of);
-    if (kind == BLANK_TOO_WIDE)
+    if (kind == MFT_BLANK_TOO_WIDE)
         tell("the font's pitch, %u dots, is wide for a space; --space sets another",
              (unsigned)of->font.pitch / 4);
-    if (kind == BLANK_OF_N && tell_character(of->number, 'n', &n))
+    if (kind == MFT_BLANK_OF_N && tell_character(of->number, 'n', &n))
         tell("the font's pitch, %u dots, is too wide for a space: the width of n is taken, %u dots",
              (unsigned)of->font.pitch / 4, (unsigned)n.delta_x / 4);
 }
@@ -327,18 +315,16 @@ static int was_before(const text *words, size_t at)
 /* Tells what the font lacks of the line, where a space needs no character. */
 static int tell_missing(const line *of)
 {
-    mf_character_fields told;
     int status = COMPLETE;
     size_t at;
 
     for (at = 0; at < of->words.count; at++) {
-        const letter *each = &of->words.letters[at];
-        int there = has_code(of->number, each->code, &told);
-        if (there ? !is_incomplete(of->number, (uint32_t)each->code) : each->code == ' ')
+        uint32_t state = letter_state(of, at);
+        if (state == MFT_WHOLE || state == MFT_SPACE)
             continue;
         status = INCOMPLETE;
         if (!was_before(&of->words, at))
-            tell_letter(of, each, there);
+            tell_letter(of, &of->words.letters[at], state == MFT_INCOMPLETE);
     }
     return status;
 }

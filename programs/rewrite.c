@@ -2,10 +2,9 @@
  * them in the four commands that the library reads. What it can do stands in help, and in
  * docs/marlinfold-rewrite.1. */
 #include "arguments.h"
-#include "commands.h"
-#include "judging.h"
 #include "kept.h"
 #include "loading.h"
+#include "marlinfold-text.h"
 #include "message.h"
 #include "output.h"
 #include "printer.h"
@@ -133,7 +132,7 @@ static void warn(rewriting *of, const char *kind, uint64_t at, long font, long c
 }
 
 /* Tells a block that is written, but that the library refuses. */
-static void warn_refused(rewriting *of, uint64_t at, long code, const judgement *made)
+static void warn_refused(rewriting *of, uint64_t at, long code, const mft_judgement *made)
 {
     char what[200];
 
@@ -217,7 +216,7 @@ static void say(rewriting *of, const char *group, long number, char letter)
 {
     char made[32];
     gather(&of->written, made,
-           (size_t)snprintf(made, sizeof made, "%c%s%ld%c", ESC, group, number, letter));
+           (size_t)snprintf(made, sizeof made, "%c%s%ld%c", MFT_ESC, group, number, letter));
 }
 
 static void put(uint8_t *block, const field *of, long value)
@@ -310,7 +309,7 @@ static void rewrite_font(rewriting *of, const printer_command *given)
     uint8_t block[FORMAT_20_BYTES];
     size_t length = font_bytes(of->from, given);
     met *font = &fonts[of->number];
-    judgement made;
+    mft_judgement made;
     int at;
 
     check_number(of, given);
@@ -330,7 +329,7 @@ static void rewrite_font(rewriting *of, const printer_command *given)
     font->headed = 1;
     font->orientation = block[ORIENTATION_AT];
     font->last = -1;
-    judge_font(&made, block, length);
+    mft_judge_font(&made, block, length);
     warn_refused(of, given->place, -1, &made);
     if (!is_chosen(of))
         return;
@@ -369,7 +368,7 @@ static void check_character(rewriting *of, const printer_command *given)
 {
     met *font = &fonts[of->number];
     uint8_t *codes = &font->codes[of->code / 8], bit = (uint8_t)(1 << of->code % 8);
-    judgement made;
+    mft_judgement made;
 
     if (!font->headed && !font->told) {
         warn(of, "no header", given->place, of->number, -1,
@@ -378,7 +377,7 @@ static void check_character(rewriting *of, const printer_command *given)
         font->last = -1;
     }
     if (font->headed) {
-        judge_character(&made, of->from->next, (size_t)given->data, font->orientation);
+        mft_judge_character(&made, of->from->next, (size_t)given->data, font->orientation);
         warn_refused(of, given->place, of->code, &made);
     }
     if (given->data > 1 && of->from->next[1] != 0)
@@ -482,17 +481,17 @@ static void rewrite(rewriting *of)
 static void load_one(const gathered *all, uint32_t font)
 {
     uint32_t number = 0, code = 0;
-    command given;
+    mft_command given;
     size_t at;
 
     fresh_store();
     for (at = 0; at < all->length; at += given.length) {
-        given = command_at(all->bytes + at, all->length - at);
-        if (given.found == FONT_NUMBER)
+        given = mft_command_at(all->bytes + at, all->length - at);
+        if (given.found == MFT_FONT_NUMBER)
             number = given.number;
-        else if (given.found == CODE)
+        else if (given.found == MFT_CODE)
             code = given.number;
-        else if (number == font && given.found == FONT_BLOCK)
+        else if (number == font && given.found == MFT_FONT_BLOCK)
             mf_download_font(store, sizeof store, given.block, given.number, font);
         else if (number == font)
             mf_download_character(store, sizeof store, given.block, given.number, font, code);

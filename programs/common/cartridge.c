@@ -1,9 +1,9 @@
 #include "cartridge.h"
 
-#include "commands.h"
 #include "input.h"
 #include "kept.h"
 #include "loading.h"
+#include "marlinfold-text.h"
 #include "message.h"
 
 #include <stdlib.h>
@@ -62,7 +62,7 @@ static int load_cartridge(const char *name)
     if (!open_input(&from, name))
         exit(FAILED);
     look(&from, INPUT_AHEAD);
-    if (from.left && from.next[0] != ESC && !is_store(from.next, from.left))
+    if (from.left && from.next[0] != MFT_ESC && !is_store(from.next, from.left))
         stop("%s: not a cartridge: neither the bytes of a store nor a font file", shown(name));
     status = is_store(from.next, from.left) ? take_dump(&from) : take_fonts(&from);
     if (!close_input(&from))

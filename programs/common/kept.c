@@ -1,42 +1,17 @@
 #include "kept.h"
 
-#include "commands.h"
 #include "loading.h"
 #include "message.h"
 
-#include <stdlib.h>
 #include <string.h>
 
-/* The told characters of one font, the last that was asked about. It is written out, and each
- * character is told and drawn in a store that holds it alone: each call checks the whole store, and
- * of this one there is little to check. */
-static struct {
-    int known; /* 0 if no font is */
-    uint32_t font;
-    uint8_t stream[MF_WRITTEN_MAX(MF_STORE_MAX)];
-    size_t bytes; /* of the stream */
-    command header;
-    size_t at[MF_CODE_MAX + 1]; /* where the character's first block stands in the stream */
-    mf_character_fields told[MF_CODE_MAX + 1];
-    uint8_t there[MF_CODE_MAX + 1], incomplete[MF_CODE_MAX + 1];
-    uint8_t *pictures[MF_CODE_MAX + 1];
-} kept;
-
-/* A store with the font's header and one character. */
-static struct {
-    uint8_t bytes[MF_STORE_MAX];
-    size_t length;
-} alone;
+/* The face of one font, the last that was asked about. */
+static mft_face *kept;
 
 void forget_kept(void)
 {
-    size_t code;
-
-    for (code = 0; code <= MF_CODE_MAX; code++) {
-        free(kept.pictures[code]);
-        kept.pictures[code] = NULL;
-    }
-    kept.known = 0;
+    mft_free_face(kept);
+    kept = NULL;
 }
 
 mf_font_fields tell_font(uint32_t number, uint32_t *characters)
@@ -50,136 +25,54 @@ mf_font_fields tell_font(uint32_t number, uint32_t *characters)
     return mf_font_fields_of(bytes);
 }
 
-/* Where the blocks of a character end in the stream. */
-static size_t end_of(uint32_t code)
+const mft_face *face_of(uint32_t font)
 {
-    size_t at = kept.at[code];
-    command given;
+    mft_made made;
 
-    for (; at < kept.bytes; at += given.length) {
-        given = command_at(kept.stream + at, kept.bytes - at);
-        if (given.found != CHARACTER_BLOCK && (given.found != CODE || given.number != code))
-            break;
-    }
-    return at;
-}
-
-/* Takes a character into the store for one. */
-static void take_alone(uint32_t code)
-{
-    size_t at = kept.at[code], end = end_of(code);
-    command given;
-
-    alone.length = MF_STORE_MIN + MF_FONT_ROOM + MF_CHARACTER_ROOM + (end - at);
-    alone.length = alone.length < MF_STORE_MAX ? alone.length : MF_STORE_MAX;
-    mf_make_fresh(alone.bytes, alone.length);
-    mf_download_font(alone.bytes, alone.length, kept.header.block, kept.header.number, kept.font);
-    for (; at < end; at += given.length) {
-        given = command_at(kept.stream + at, end - at);
-        if (given.found == CHARACTER_BLOCK)
-            mf_download_character(alone.bytes, alone.length, given.block, given.number, kept.font,
-                                  code);
-    }
-}
-
-/* Tells a character, and whether it is incomplete: as long as it is, it is open, and an open one
- * takes a continuation without data. */
-static void know_character(uint32_t code)
-{
-    static const uint8_t empty[] = {4, 1};
-    uint8_t bytes[MF_CHARACTER_BYTES];
-    uint32_t refusal;
-
-    take_alone(code);
-    refusal = mf_tell_character(alone.bytes, alone.length, bytes, sizeof bytes, kept.font,
-                                code).refusal;
-    if (refusal)
-        refuse("character", refusal);
-    kept.told[code] = mf_character_fields_of(bytes);
-    kept.incomplete[code] = mf_download_character(alone.bytes, alone.length, empty, sizeof empty,
-                                                  kept.font, code).refusal == MF_DONE;
-}
-
-/* Finds the font's header and its characters in the stream. */
-static void find_blocks(void)
-{
-    command given;
-    uint32_t code = 0;
-    size_t at;
-
-    for (at = 0; at < kept.bytes; at += given.length) {
-        given = command_at(kept.stream + at, kept.bytes - at);
-        if (given.found == CODE)
-            code = given.number;
-        else if (given.found == FONT_BLOCK)
-            kept.header = given;
-        else if (given.found == CHARACTER_BLOCK && !kept.there[code]) {
-            kept.there[code] = 1;
-            kept.at[code] = at;
-        }
-    }
-}
-
-/* Has the library tell all characters of a font, if that was not the last one told. */
-static void know(uint32_t font)
-{
-    mf_written written;
-    uint32_t code;
-
-    if (kept.known && kept.font == font)
-        return;
+    if (kept && mft_face_number(kept) == font)
+        return kept;
     forget_kept();
-    memset(kept.there, 0, sizeof kept.there);
-    memset(kept.incomplete, 0, sizeof kept.incomplete);
-    written = mf_write_font(store, sizeof store, kept.stream, sizeof kept.stream, font);
-    if (written.refusal)
-        refuse("font", written.refusal);
-    kept.font = font;
-    kept.bytes = written.length;
-    find_blocks();
-    for (code = 0; code <= MF_CODE_MAX; code++)
-        if (kept.there[code])
-            know_character(code);
-    kept.known = 1;
+    made = mft_make_face(store, sizeof store, font, NULL, 0);
+    if (made.refusal == MFT_NO_MEMORY)
+        stop("no memory for a font");
+    if (made.refusal)
+        refuse("font", made.refusal);
+    kept = made.face;
+    return kept;
 }
 
 size_t bytes_of_font(uint32_t font)
 {
-    know(font);
-    return kept.bytes;
+    static uint8_t stream[MF_WRITTEN_MAX(MF_STORE_MAX)];
+    mf_written written = mf_write_font(store, sizeof store, stream, sizeof stream, font);
+
+    if (written.refusal)
+        refuse("font", written.refusal);
+    return written.length;
 }
 
 int tell_character(uint32_t font, uint32_t code, mf_character_fields *told)
 {
-    know(font);
-    if (kept.there[code])
-        *told = kept.told[code];
-    return kept.there[code];
+    mft_character character;
+    int there = mft_tell_code(face_of(font), code, &character);
+
+    if (there)
+        *told = character.told;
+    return there;
 }
 
 const uint8_t *picture_of(uint32_t font, uint32_t code)
 {
-    uint32_t refusal;
-    size_t length;
+    mft_character character;
 
-    know(font);
-    if (kept.pictures[code])
-        return kept.pictures[code];
-    length = mf_picture_bytes(kept.told[code].width, kept.told[code].height);
-    kept.pictures[code] = malloc(length);
-    if (!kept.pictures[code])
-        stop("no memory for a character");
-    take_alone(code);
-    refusal = mf_draw_picture(alone.bytes, alone.length, kept.pictures[code], length, font, code);
-    if (refusal)
-        refuse("character", refusal);
-    return kept.pictures[code];
+    return mft_tell_code(face_of(font), code, &character) ? character.picture : NULL;
 }
 
 int is_incomplete(uint32_t font, uint32_t code)
 {
-    know(font);
-    return kept.incomplete[code];
+    mft_character character;
+
+    return mft_tell_code(face_of(font), code, &character) && !character.complete;
 }
 
 int tell_missing_rows(uint32_t font)

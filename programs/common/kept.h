@@ -1,15 +1,18 @@
-/* What the store keeps: its fonts and characters as the library tells and draws them. What is
- * told is kept here until the store is made fresh or another is taken into use, since each call
- * checks the whole store. */
+/* What the store keeps: its fonts and characters as the library tells and draws them. The face of
+ * one font is kept here until another is asked about, the store is made fresh or another store is
+ * taken into use. */
 #ifndef KEPT_H
 #define KEPT_H
 
-#include "marlinfold.h"
+#include "marlinfold-text.h"
 
 #include <stdio.h>
 
-/* Forgets what was told. */
+/* Forgets the face. */
 void forget_kept(void);
+
+/* The face of a kept font, good until the next one is asked for. */
+const mft_face *face_of(uint32_t font);
 
 /* A kept font; stops if there is none of this number. */
 mf_font_fields tell_font(uint32_t number, uint32_t *characters);

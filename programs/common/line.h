@@ -14,15 +14,15 @@ typedef struct {
     long left, top, right, bottom;
 } line;
 
-/* Whether a font has a code. */
-int has_code(uint32_t font, int code, mf_character_fields *told);
+/* How a letter of the line stands in the font: mft_state. */
+uint32_t letter_state(const line *of, size_t at);
 
-/* Where a missing character's width comes from: it is the font's pitch, or, where that is too wide
- * for a space, the width of n; if there is no n, the pitch all the same. */
-enum blank_kind { BLANK_OF_PITCH, BLANK_OF_N, BLANK_TOO_WIDE };
+/* Whether a font has every letter of a text; a space needs no character. */
+int has_all(uint32_t font, const text *words);
 
-/* Gives the line that width. */
-enum blank_kind take_blank(line *of);
+/* Gives the line the width of a blank, and answers where it comes from: mft_blank_kind. That is the
+ * pitch where no letter is missing. */
+uint32_t take_blank(line *of);
 
 /* Takes in the paper that the line's dots need. */
 void measure_line(line *of);

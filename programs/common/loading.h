@@ -1,46 +1,41 @@
-/* Fonts in a store, loaded from files of font streams. The four commands are read here and each
- * block that nothing speaks against is downloaded by a call of its own, so that every refused
- * command can be told; the store becomes what mf_read_stream makes of it. A stream without fault
- * that is short enough is read by mf_read_stream itself, which takes less time. */
+/* Fonts in a store, loaded from files of font streams, with a message for each command that was not
+ * taken. */
 #ifndef LOADING_H
 #define LOADING_H
 
 #include "input.h"
-#include "marlinfold.h"
+#include "marlinfold-text.h"
 
 /* The store in use. */
 extern uint8_t store[MF_STORE_MAX];
 
-#define OWN_NUMBERS (MF_FONT_MAX + 2)
-#define NO_NUMBER (MF_FONT_MAX + 3)
+#define OWN_NUMBERS MFT_OWN_NUMBERS
 
 /* Characters that found no font, told in one message. */
 typedef struct {
     uint64_t place; /* of the first */
+    uint32_t font;
+    long numbered;  /* as it is kept, or -1 */
     unsigned count;
     uint8_t codes[MF_CODE_MAX + 1];
 } passed_over;
 
 /* A loading of files under way. */
 typedef struct {
-    uint32_t next;         /* what the next font met is numbered, or OWN_NUMBERS */
-    const char *file;      /* the file that is read */
-    uint64_t place;        /* of the command under way in it */
-    uint32_t number, code; /* as the file names them */
-    uint32_t width;        /* of the last character begun, which is the open one if any is */
-    uint32_t given[MF_FONT_MAX + 1]; /* the numbers that the file's fonts are given */
+    uint32_t next;    /* what the next font met is numbered, or OWN_NUMBERS */
+    const char *file; /* the file that is read */
+    uint64_t place;   /* where it ended, or is broken */
     passed_over passed;
-    unsigned long blocks;  /* done in this file */
     unsigned long done, refused, broken;
     unsigned long padded;   /* broken by no more than padding at the end */
     unsigned long fontless; /* files without any font */
+    mft_loading of;
 } loading;
 
 /* Where each kept font comes from. */
 typedef struct {
     const char *file; /* NULL if there is no such font */
     uint32_t number;  /* there */
-    uint32_t orientation;
 } font_origin;
 extern font_origin origin[MF_FONT_MAX + 1];
 

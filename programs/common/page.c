@@ -28,35 +28,22 @@ void blacken(page *on, long x, long y)
         on->dots[(size_t)y * on->row_bytes + (size_t)x / 8] |= (uint8_t)(0x80 >> x % 8);
 }
 
-/* Blackens the dots of a byte, whose highest bit is leftmost. */
-static void place_byte(page *on, uint8_t dots, long x, long y)
+mft_page page_of(const page *on, uint32_t resolution)
 {
-    uint8_t *at;
-    long dot;
-
-    if (x < 0 || y < 0 || x + 8 > on->width || y >= on->height) {
-        for (dot = 0; dot < 8; dot++)
-            if (dots & 0x80 >> dot)
-                blacken(on, x + dot, y);
-        return;
-    }
-    at = on->dots + (size_t)y * on->row_bytes + (size_t)x / 8;
-    at[0] |= (uint8_t)(dots >> x % 8);
-    if (x % 8)
-        at[1] |= (uint8_t)(dots << (8 - x % 8));
+    return mft_page_of(on->dots, on->row_bytes * (size_t)on->height, (uint32_t)on->width,
+                       (uint32_t)on->height, resolution);
 }
 
 void place(page *on, uint32_t font, uint32_t code, const mf_character_fields *told, long left,
            long top)
 {
-    const uint8_t *picture = picture_of(font, code);
-    size_t row_bytes = mf_row_bytes(told->width), byte;
-    uint32_t y;
+    mft_page to = page_of(on, MF_MODE_300);
+    uint32_t refusal = mft_put_picture(&to, picture_of(font, code),
+                                       mf_picture_bytes(told->width, told->height), told->width,
+                                       told->height, (int32_t)left, (int32_t)top);
 
-    for (y = 0; y < told->height; y++)
-        for (byte = 0; byte < row_bytes; byte++, picture++)
-            if (*picture)
-                place_byte(on, *picture, left + 8 * (long)byte, top + (long)y);
+    if (refusal)
+        refuse("character", refusal);
 }
 
 page turn_page(page from, uint32_t quarters)

@@ -2,7 +2,7 @@
 #ifndef PAGE_H
 #define PAGE_H
 
-#include "marlinfold.h"
+#include "marlinfold-text.h"
 
 #include <stdio.h>
 
@@ -22,6 +22,9 @@ typedef struct {
 page new_page(long width, long height);
 
 void blacken(page *on, long x, long y);
+
+/* The page as the text layer has it, of so many dots to the inch. */
+mft_page page_of(const page *on, uint32_t resolution);
 
 /* Draws a kept character with its upper left corner at a place. */
 void place(page *on, uint32_t font, uint32_t code, const mf_character_fields *told, long left,

@@ -1,6 +1,6 @@
 #include "printer.h"
 
-#include "commands.h"
+#include "marlinfold-text.h"
 #include "message.h"
 
 #include <string.h>
@@ -149,11 +149,11 @@ static void pass_text(input *from, left_text *before)
     size_t there = look(from, 12);
 
     before->place = from->place;
-    before->like_one = there && from->next[0] != ESC &&
+    before->like_one = there && from->next[0] != MFT_ESC &&
                        is_like_command(from->next, there < 12 ? there : 12);
     before->padding = 1;
     while ((there = look(from, 1)) != 0) {
-        const uint8_t *found = memchr(from->next, ESC, there);
+        const uint8_t *found = memchr(from->next, MFT_ESC, there);
         before->padding = !found && before->padding && is_padding(from->next, there);
         pass(from, found ? (size_t)(found - from->next) : there);
         if (found)
@@ -198,7 +198,7 @@ int next_command(input *from, printer_command *made, left_text *before)
         return 1;
     }
     pass_text(from, before);
-    while (look(from, 2) > 1 && from->next[1] == ESC) { /* the second one begins the command */
+    while (look(from, 2) > 1 && from->next[1] == MFT_ESC) { /* the second one begins the command */
         pass(from, 1);
         before->bytes++;
     }
@@ -217,7 +217,7 @@ static int holds_command(const uint8_t *bytes, size_t length, size_t there)
     size_t at;
 
     for (at = 0; at < length && at + 2 < there; at++)
-        if (bytes[at] == ESC && ((bytes[at + 1] == '*' && bytes[at + 2] == 'c') ||
+        if (bytes[at] == MFT_ESC && ((bytes[at + 1] == '*' && bytes[at + 2] == 'c') ||
                                  ((bytes[at + 1] == '(' || bytes[at + 1] == ')') &&
                                   bytes[at + 2] == 's')))
             return 1;
@@ -240,5 +240,5 @@ int pass_data(input *from, const printer_command *given)
         pass(from, step);
         left -= step;
     }
-    return held && look(from, 1) && from->next[0] != ESC;
+    return held && look(from, 1) && from->next[0] != MFT_ESC;
 }

@@ -2,9 +2,8 @@
  * store and read into another, whole, and then cut, damaged and spliced by chance: both
  * stores, the counts, the broken places and the first bad row must be the same. Prints what was
  * met; what is met nowhere is a failure, since nothing was tried then. */
-#include "commands.h"
-#include "judging.h"
 #include "loading.h"
+#include "message.h"
 
 #include <stdlib.h>
 #include <string.h>
@@ -66,20 +65,20 @@ static unsigned fonts_kept(void)
 
 /* Of a font block and of a character block: what was judged without the library is what a call
  * on a store that is fresh but for one font answers. */
-static void hold_judgement(const command *given)
+static void hold_judgement(const mft_command *given)
 {
     static uint8_t tried[MF_STORE_MAX];
     static const uint8_t header[64] = {0, 64, 0, 0, 0, 0, 0, 0, 0, 9, 0, 9};
-    judgement made;
+    mft_judgement made;
     uint32_t refusal;
 
     mf_make_fresh(tried, sizeof tried);
-    if (given->found == FONT_BLOCK) {
-        judge_font(&made, given->block, given->number);
+    if (given->found == MFT_FONT_BLOCK) {
+        mft_judge_font(&made, given->block, given->number);
         refusal = mf_download_font(tried, sizeof tried, given->block, given->number, 1);
     } else {
         mf_download_font(tried, sizeof tried, header, sizeof header, 1);
-        judge_character(&made, given->block, given->number, MF_PORTRAIT);
+        mft_judge_character(&made, given->block, given->number, MF_PORTRAIT);
         refusal = mf_download_character(tried, sizeof tried, given->block, given->number, 1, 1)
                       .refusal;
         /* What only the call can see. */
@@ -97,12 +96,12 @@ static void hold_judgement(const command *given)
 
 static void hold_judgements(const uint8_t *bytes, size_t length)
 {
-    command given;
+    mft_command given;
     size_t at;
 
     for (at = 0; at < length; at += given.length) {
-        given = command_at(bytes + at, length - at);
-        if (given.found >= NO_ESC)
+        given = mft_command_at(bytes + at, length - at);
+        if (given.found >= MFT_NO_ESC)
             return;
         if (given.block)
             hold_judgement(&given);
@@ -145,7 +144,7 @@ static void hold(const uint8_t *bytes, size_t length)
 static size_t a_place(size_t length)
 {
     size_t from = chance((uint32_t)length), at = from;
-    while (chance(8) && at < length && changed[at] != ESC)
+    while (chance(8) && at < length && changed[at] != MFT_ESC)
         at++;
     return at < length ? at : from;
 }

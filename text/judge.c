@@ -1,6 +1,5 @@
-#include "judging.h"
-
-#include "marlinfold.h"
+/* Why the library refuses a block, in words: its checks a second time, in its order. */
+#include "marlinfold-text.h"
 
 #include <stdio.h>
 
@@ -8,7 +7,7 @@
 #define FORMAT_20_BYTES 68
 
 /* Whether a number is outside its limits; then this is the reason. */
-static int outside(judgement *made, const char *name, long value, long low, long high)
+static int outside(mft_judgement *made, const char *name, long value, long low, long high)
 {
     if (value >= low && value <= high)
         return 0;
@@ -18,8 +17,8 @@ static int outside(judgement *made, const char *name, long value, long low, long
 }
 
 /* The same for a length and for a descriptor's size, of which there is a least one. */
-static int too_short(judgement *made, uint32_t refusal, const char *name, size_t value, size_t low,
-                     size_t high)
+static int too_short(mft_judgement *made, uint32_t refusal, const char *name, size_t value,
+                     size_t low, size_t high)
 {
     if (value >= low && value <= high)
         return 0;
@@ -30,14 +29,14 @@ static int too_short(judgement *made, uint32_t refusal, const char *name, size_t
 }
 
 /* And for a byte that says what a block is. */
-static int another(judgement *made, const char *name, unsigned value, const char *expected)
+static int another(mft_judgement *made, const char *name, unsigned value, const char *expected)
 {
     made->refusal = MF_NOT_TAKEN;
     snprintf(made->why, sizeof made->why, "%s %u, expected %s", name, value, expected);
     return 1;
 }
 
-static int bad_resolution(judgement *made, const uint8_t *block)
+static int bad_resolution(mft_judgement *made, const uint8_t *block)
 {
     unsigned across = mf_field(block, 64), down = mf_field(block, 66);
 
@@ -49,7 +48,7 @@ static int bad_resolution(judgement *made, const uint8_t *block)
     return 1;
 }
 
-static int bad_fields(judgement *made, const uint8_t *block)
+static int bad_fields(mft_judgement *made, const uint8_t *block)
 {
     long high = (long)mf_field(block, 10);
 
@@ -65,11 +64,12 @@ static int bad_fields(judgement *made, const uint8_t *block)
                    MF_ULTRA_BLACK);
 }
 
-void judge_font(judgement *made, const uint8_t *block, size_t length)
+void mft_judge_font(mft_judgement *made, const uint8_t *block, size_t length)
 {
     size_t least = length > 2 && block[2] == 20 ? FORMAT_20_BYTES : FORMAT_0_BYTES;
 
     made->refusal = MF_DONE;
+    made->why[0] = '\0';
     if (too_short(made, MF_BLOCK_LENGTH, "block length", length, least, MF_BLOCK_MAX))
         return;
     if (block[2] != 0 && block[2] != 20)
@@ -80,7 +80,7 @@ void judge_font(judgement *made, const uint8_t *block, size_t length)
 }
 
 /* A character's own fields, in the library's order. */
-static int bad_character(judgement *made, const uint8_t *block, uint32_t orientation)
+static int bad_character(mft_judgement *made, const uint8_t *block, uint32_t orientation)
 {
     if (block[4] != orientation) {
         made->refusal = MF_FIELD_VALUE;
@@ -94,7 +94,8 @@ static int bad_character(judgement *made, const uint8_t *block, uint32_t orienta
            outside(made, "height", (long)mf_field(block, 12), 1, MF_SIDE_MAX);
 }
 
-static void judge_first(judgement *made, const uint8_t *block, size_t length, uint32_t orientation)
+static void judge_first(mft_judgement *made, const uint8_t *block, size_t length,
+                        uint32_t orientation)
 {
     size_t picture;
 
@@ -115,12 +116,14 @@ static void judge_first(judgement *made, const uint8_t *block, size_t length, ui
     }
 }
 
-void judge_character(judgement *made, const uint8_t *block, size_t length, uint32_t orientation)
+void mft_judge_character(mft_judgement *made, const uint8_t *block, size_t length,
+                         uint32_t orientation)
 {
     made->refusal = MF_DONE;
+    made->why[0] = '\0';
     if (too_short(made, MF_BLOCK_LENGTH, "block length", length, 2, MF_BLOCK_MAX))
         return;
-    if (orientation == NO_HEADER) {
+    if (orientation == MFT_NO_HEADER) {
         made->refusal = MF_NO_FONT;
         snprintf(made->why, sizeof made->why, "%s", mf_refusal_name(MF_NO_FONT));
     } else if (block[0] != 4)
