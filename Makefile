@@ -128,9 +128,35 @@ target/examples/%: examples/%.c include/marlinfold.h $(archive)
 	@mkdir -p $(@D)
 	$(compile) $< $(archive) $(LDFLAGS) -o $@
 
+target/examples/words: examples/words.c include/marlinfold.h include/marlinfold-text.h \
+    $(text_archive) $(archive)
+	@mkdir -p $(@D)
+	$(compile) $< $(text_archive) $(archive) $(LDFLAGS) -o $@
+
 check:
 	@:$(call needs,rt,the Rattle toolchain)
 	.ci/run
+
+# The text layer's files, put there and removed with the library's.
+install: install-text
+uninstall: uninstall-text
+
+install-text: $(text_archive) $(text_shared) $(listing) $(figures)
+	install -d "$(DESTDIR)$(INCLUDEDIR)" "$(DESTDIR)$(LIBDIR)/pkgconfig"
+	install -m 644 include/marlinfold-text.h "$(DESTDIR)$(INCLUDEDIR)/"
+	install -m 644 $(text_archive) "$(DESTDIR)$(LIBDIR)/"
+	install -m 755 $(text_shared) "$(DESTDIR)$(LIBDIR)/"
+	for link in $(text_links); do \
+	    ln -sf $(notdir $(text_shared)) "$(DESTDIR)$(LIBDIR)/$$link" || exit 1; done
+	sed -e 's|@PREFIX@|$(PREFIX)|; s|@INCLUDEDIR@|$(INCLUDEDIR)|; s|@LIBDIR@|$(LIBDIR)|' \
+	    -e 's|@VERSION@|$(VERSION)|g' marlinfold-text.pc.in \
+	    >"$(DESTDIR)$(LIBDIR)/pkgconfig/marlinfold-text.pc"
+	chmod 644 "$(DESTDIR)$(LIBDIR)/pkgconfig/marlinfold-text.pc"
+
+uninstall-text:
+	rm -f "$(DESTDIR)$(INCLUDEDIR)/marlinfold-text.h" \
+	    $(addprefix "$(DESTDIR)$(LIBDIR)"/,$(notdir $(text_archive) $(text_shared)) $(text_links)) \
+	    "$(DESTDIR)$(LIBDIR)/pkgconfig/marlinfold-text.pc"
 
 install: $(archive) $(listing) $(figures) $(shared) $(programs)
 	install -d "$(DESTDIR)$(INCLUDEDIR)" "$(DESTDIR)$(LIBDIR)/pkgconfig" "$(DESTDIR)$(BINDIR)" \
@@ -170,5 +196,5 @@ uninstall:
 clean:
 	rm -rf target
 
-.PHONY: all build check install uninstall clean
+.PHONY: all build check install uninstall install-text uninstall-text clean
 .DELETE_ON_ERROR:
