@@ -74,7 +74,8 @@ static void place_byte(uint8_t *row, uint8_t dots, int64_t x)
         at[1] |= (uint8_t)spill;
 }
 
-static void place_row(uint8_t *to, const uint8_t *from, uint32_t scale, const columns *of)
+/* A row of which some columns are not on the page, or whose dots are doubled. */
+static void place_cut(uint8_t *to, const uint8_t *from, uint32_t scale, const columns *of)
 {
     uint32_t byte, end = (uint32_t)mf_row_bytes(of->end);
 
@@ -85,21 +86,83 @@ static void place_row(uint8_t *to, const uint8_t *from, uint32_t scale, const co
     }
 }
 
+/* Rows that are on the page whole. Each byte goes to two of the page, of which the last may be
+ * beyond its row, but then is white. */
+typedef struct {
+    uint8_t *to;
+    const uint8_t *from;
+    size_t step;          /* from row to row of the page */
+    size_t bytes;         /* of a row of the picture */
+    unsigned shift, mask; /* mask: the dots of a row's last byte */
+    uint32_t count;
+} whole_rows;
+
+/* Inlined for each of the usual widths, so that the inner loop is gone. */
+static inline void place_whole(const whole_rows *of, size_t bytes)
+{
+    const uint8_t *from = of->from;
+    uint8_t *to = of->to;
+    unsigned left = 8 - of->shift, mask = of->mask;
+    uint32_t row;
+
+    for (row = 0; row < of->count; row++, to += of->step, from += bytes) {
+        unsigned dots = 0;
+        size_t at;
+        for (at = 0; at + 1 < bytes; at++) {
+            dots = dots << 8 | (unsigned)from[at] << left;
+            to[at] |= (uint8_t)(dots >> 8);
+        }
+        dots = dots << 8 | (from[at] & mask) << left;
+        to[at] |= (uint8_t)(dots >> 8);
+        if (dots & 0xFF)
+            to[at + 1] |= (uint8_t)dots;
+    }
+}
+
+static void place_by_width(const whole_rows *of)
+{
+    switch (of->bytes) {
+    case 1: place_whole(of, 1); break;
+    case 2: place_whole(of, 2); break;
+    case 3: place_whole(of, 3); break;
+    case 4: place_whole(of, 4); break;
+    default: place_whole(of, of->bytes);
+    }
+}
+
+/* The rows from row up to end. */
+static void place_rows(const mft_page *page, const mftp_picture *picture, const columns *of,
+                       int64_t y, uint32_t row, uint32_t end)
+{
+    uint8_t *to = page->dots + (size_t)(y + (int64_t)row) * page->row_bytes;
+    whole_rows whole;
+
+    whole.bytes = mf_row_bytes(picture->width);
+    if (picture->scale == 1 && of->first == 0 && of->end == picture->width) {
+        whole.to = to + of->x / 8;
+        whole.from = picture->dots + row * whole.bytes;
+        whole.step = page->row_bytes;
+        whole.shift = (unsigned)(of->x % 8);
+        whole.mask = 0xFFu << (8 * whole.bytes - picture->width) & 0xFF;
+        whole.count = end - row;
+        place_by_width(&whole);
+        return;
+    }
+    for (; row < end; row++, to += page->row_bytes)
+        place_cut(to, picture->dots + row / picture->scale * whole.bytes, picture->scale, of);
+}
+
 void mftp_place(const mft_page *page, const mftp_picture *picture, int64_t x, int64_t y)
 {
     uint32_t width = picture->width * picture->scale, height = picture->height * picture->scale;
     uint32_t row = cut_before(y, height), end = cut_end(y, height, page->height);
-    size_t from_bytes = mf_row_bytes(picture->width);
     columns of;
 
     of.x = x;
     of.first = cut_before(x, width);
     of.end = cut_end(x, width, page->width);
-    if (of.first >= of.end)
-        return;
-    for (; row < end; row++)
-        place_row(page->dots + (size_t)(y + (int64_t)row) * page->row_bytes,
-                  picture->dots + row / picture->scale * from_bytes, picture->scale, &of);
+    if (of.first < of.end && row < end)
+        place_rows(page, picture, &of, y, row, end);
 }
 
 uint32_t mft_put_picture(const mft_page *page, const uint8_t *picture, size_t picture_len,
