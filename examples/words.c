@@ -4,8 +4,8 @@
  *
  * reads a soft font stream of any length and sets TEXT, whose bytes are codes of the font's symbol
  * set, in the font of this number, or in the lowest that is there. The picture is PBM, of the
- * font's dots to the inch. Ends with 0 if the line is whole, 2 if a letter is missing or incomplete,
- * 1 if nothing is written. */
+ * font's dots to the inch. Ends with 0 if the line is whole, with 2 if a letter is missing or
+ * incomplete, and with 1 if nothing is written. */
 #include "marlinfold-text.h"
 
 #include <errno.h>

@@ -82,7 +82,7 @@ typedef struct mft_face mft_face;
 typedef struct { uint32_t refusal; size_t bytes; } mft_sized;
 typedef struct { uint32_t refusal; mft_face *face; } mft_made;
 
-/* How many bytes of memory a face of this font takes: about 1 KB, 40 bytes for each character,
+/* How many bytes of memory a face of this font takes: below 1 KB, 40 bytes for each character,
  * the bytes of all pictures, and at the end room for the largest character as it is kept, which is
  * used while the face is made. At most 9 MB.
  * Refuses, in this order:

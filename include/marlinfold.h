@@ -29,7 +29,8 @@
  *
  * A line of text from the cursor x, y on, its bytes codes of the font's symbol set, as
  * marlinfold-label sets it. put, a function of yours, places a picture and leaves out what is
- * beyond the page:
+ * beyond the page. (marlinfold-text.h sets lines faster, without two checks of the store for each
+ * letter.)
  *
  *     int set_line(const uint8_t *file, size_t file_len, const unsigned char *text, long x, long y)
  *     {

@@ -43,20 +43,16 @@ static uint8_t byte_of(const uint8_t *row, uint32_t byte, uint32_t scale)
     return doubled[byte % 2 ? row[byte / 2] & 15 : row[byte / 2] >> 4];
 }
 
-/* The same without the columns that are not on the page. */
+/* The same without the columns behind the page. */
 static uint8_t cut_byte(uint8_t dots, uint32_t byte, const columns *of)
 {
-    uint32_t column = 8 * byte;
+    uint32_t left = of->end - 8 * byte;
 
-    if (column < of->first)
-        dots = (uint8_t)(dots & 0xFF >> (of->first - column));
-    if (of->end - column < 8)
-        dots = (uint8_t)(dots & 0xFF << (8 - (of->end - column)));
-    return dots;
+    return left < 8 ? (uint8_t)(dots & 0xFF << (8 - left)) : dots;
 }
 
-/* Blackens a byte's dots in a row of the page. None of them is beyond the row, so that what is not
- * white has its place. */
+/* Blackens a byte's dots in a row of the page, save those before it. None of them is behind the
+ * row, so that what is not white has its place. */
 static void place_byte(uint8_t *row, uint8_t dots, int64_t x)
 {
     uint8_t *at;

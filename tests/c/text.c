@@ -257,6 +257,7 @@ static void edges(void)
     line.codes = (const uint8_t *)"  F";
     line.count = 3;
     print_measured("a wide blank", mft_measure_line(face, &line, MF_MODE_300));
+    print_measured("the same at 600", mft_measure_line(face, &line, MF_MODE_600));
     mft_set_line(face, &line, &page, -1999995, 4);
     print_page(dots, 3, 12, 10);
     line.count = 0;

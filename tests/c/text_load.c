@@ -1,9 +1,9 @@
-/* text_load TRIALS FILE...: holds mft_load to single calls. Each file, whole and changed by chance, is
- * loaded with its own numbers and with new ones, in one piece and in pieces by chance. A second
- * store gets each command's download by a call of its own: there must be one note for each command,
- * with its place, its refusal and its numbers, the same stores and counts, and the broken place of
- * mf_read_stream. Then the words of the notes on a stream with one of each are printed; tests/text
- * compares them with text_load.expected. */
+/* text_load TRIALS FILE...: holds mft_load to single calls. Each file, and a stream with one of each
+ * refusal, whole and changed by chance, is loaded with its own numbers and with new ones, in one
+ * piece and in pieces by chance. A second store gets each command's download by a call of its own:
+ * there must be one note for each command, with its place, its refusal and its numbers, the same
+ * stores and counts, and the broken place of mf_read_stream. The words of the notes on streams with
+ * one of each are printed first; tests/text compares them with text_load.expected. */
 #include "marlinfold-text.h"
 
 #include <stdio.h>
@@ -268,10 +268,43 @@ static size_t one_of_each(void)
     ADD("\033(s17W\4\0\16\1\1\0\0\0\0\0\0\10\0\1\0\60\1");
     ADD("\033(s16W\4\0\16\1\0\0\0\0\0\0\4\0\4\0\0\60");
     ADD("\033(s19W\4\0\16\2\0\0\0\0\0\0\0\12\0\1\0\60\0\4\7");
+    ADD("\033(s18W\4\0\16\2\0\0\0\0\0\0\0\30\0\2\0\60\0\24");
+    ADD("\033(s19W\4\0\16\2\0\0\0\0\0\0\0\12\0\1\0\60\0\4\7\033(s3W\4\1\11");
     ADD("\033(s17W\4\0\16\1\0\0\0\0\0\0\0\10\0\1\0\60\1");
     length = add_font(length, 0, 0);
     ADD("\033*c9D");
     length = add_font(length, 0, 0);
+    return length;
+}
+
+/* A character of so many rows of 1024 dots. */
+static size_t add_large(size_t length, int code, int rows)
+{
+    char words[60];
+
+    length = add(length, words, (size_t)sprintf(words, "\033*c%dE\033(s%dW", code,
+                                                16 + 128 * rows));
+    ADD("\4\0\16\1\0\0\0\0\0\0\4\0\0");
+    changed[length++] = (uint8_t)rows;
+    ADD("\0\60");
+    memset(changed + length, 0x55, 128 * (size_t)rows);
+    return length + 128 * (size_t)rows;
+}
+
+/* A stream with a refused command that fits a fresh store, and no store that it was read into. */
+static size_t one_that_fills(void)
+{
+    size_t length = 0;
+
+    ADD("\033*c1D");
+    length = add_font(length, 0, 0);
+    length = add_large(length, 1, 250);
+    length = add_large(length, 2, 240);
+    length = add_large(length, 2, 1);
+    ADD("\033*c2D");
+    length = add_font(length, 0, 0);
+    length = add_large(length, 3, 230);
+    ADD("\033*c300E");
     return length;
 }
 
@@ -316,6 +349,15 @@ static void words(void)
     print_load(sizeof store, MF_FONT_MAX, length);
     print_load(12 + MF_FONT_ROOM + 20, MF_FONT_MAX + 1, length);
     print_load(12 + MF_FONT_ROOM + 20, MFT_OWN_NUMBERS, length);
+    print_load(sizeof store, MFT_OWN_NUMBERS, one_that_fills());
+    length = add_font(add(0, "\033*c7D", 5), 0, 0);
+    mf_make_fresh(store, sizeof store);
+    mft_begin_loading(&loading, store, sizeof store, MFT_OWN_NUMBERS, print_note, &count);
+    end = mft_load(&loading, changed, 20, 0).taken;
+    mft_load(&loading, changed + end, length - end, 1);
+    printf("in two pieces, the first of %u: font %u\n", (unsigned)end,
+           (unsigned)mf_next_font(store, sizeof store, 0));
+    count = 0;
     for (end = 0; end < sizeof ends / sizeof *ends; end++)
         print_load(sizeof store, MFT_OWN_NUMBERS, add(0, ends[end], strlen(ends[end])));
     print_load(sizeof store, MFT_OWN_NUMBERS, 0);
@@ -336,6 +378,9 @@ int main(int argc, char **argv)
     words();
     if (argc < 3 || argc > 100)
         return 2;
+    lengths[1] = one_of_each();
+    memcpy(original[1], changed, lengths[1]);
+    hold_read(original[1], lengths[1]);
     for (file = 2; file < argc; file++) {
         FILE *from = fopen(argv[file], "rb");
         lengths[file] = from ? fread(original[file], 1, BYTES, from) : 0;
@@ -344,7 +389,7 @@ int main(int argc, char **argv)
         hold_read(original[file], lengths[file]);
     }
     for (trial = 0; trial < trials; trial++) {
-        file = 2 + (int)chance((uint32_t)argc - 2);
+        file = 1 + (int)chance((uint32_t)argc - 1);
         if (!chance(6))
             mf_make_fresh(store, sizeof store);
         memcpy(other, store, sizeof store);

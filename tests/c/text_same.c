@@ -1,8 +1,9 @@
-/* text_same TRIALS FILE...: holds faces and lines to single calls. Of each font of the files, and of fonts
- * made by chance in each orientation, spacing and resolution: every code of a face is what
+/* text_same TRIALS FILE...: holds faces and lines to single calls. Of each font of the files, and of
+ * fonts made by chance in each orientation, spacing and resolution: every code of a face is what
  * mf_tell_character and mf_draw_picture give; and lines by chance, on pages by chance, have the
  * dots that come of placing these pictures dot by dot, and the measures of these dots. The faces
- * stand in memory that is exactly as long as was told, with bytes before and behind that stay.
+ * stand in memory that is exactly as long as was told, with bytes before and behind that stay. Of a
+ * store with a byte changed, a face is refused or made as single calls have it.
  * Prints what was compared; what is met nowhere is a failure, since nothing was tried then. */
 #include "made_font.h"
 
@@ -14,7 +15,7 @@
 #define SIDE 260
 
 static uint8_t store[MF_STORE_MAX], stream[1 << 18];
-static unsigned long compared, lines, black, cut, incomplete, large;
+static unsigned long compared, lines, black, cut, incomplete, large, spoilt, harmless;
 static unsigned orientations[4][2][2];
 
 static uint32_t chance(uint32_t below)
@@ -361,6 +362,29 @@ static void compare_font(uint32_t font)
     free(memory);
 }
 
+/* Faces of a store of which a byte was changed, at a place among its records. */
+static void compare_spoilt(uint32_t font)
+{
+    size_t used = sizeof store - mf_room_left(store, sizeof store);
+    size_t at = chance((uint32_t)(used < sizeof store ? used + 1 : used));
+    uint8_t kept[MF_FONT_BYTES], before = store[at];
+    uint32_t refusal;
+    mft_made made;
+
+    store[at] = (uint8_t)(chance(2) ? chance(256) : store[at] ^ 1u << chance(8));
+    refusal = mf_tell_font(store, sizeof store, kept, sizeof kept, font).refusal;
+    made = mft_make_face(store, sizeof store, font, NULL, 0);
+    if (made.refusal != refusal || mft_face_size(store, sizeof store, font).refusal != refusal ||
+        (made.face == NULL) != (refusal != MF_DONE))
+        stop("a spoilt store", at);
+    if (made.face)
+        compare_face(made.face, font);
+    mft_free_face(made.face);
+    spoilt += refusal != MF_DONE;
+    harmless += refusal == MF_DONE;
+    store[at] = before;
+}
+
 static void compare_file(const char *name)
 {
     FILE *file = fopen(name, "rb");
@@ -389,12 +413,15 @@ int main(int argc, char **argv)
         make_font();
         compare_font(5);
         compare_font(trial % 2 ? 4 : 6);
+        for (at = 0; at < 4; at++)
+            compare_spoilt(5);
     }
     /* A font of 600 dots to the inch is never twice as wide, so that both counts are of 300 too. */
     for (at = 0; at < 16; at++)
         least = orientations[at / 4][at / 2 % 2][at % 2] < least
                     ? orientations[at / 4][at / 2 % 2][at % 2] : least;
     printf("%lu characters, %lu incomplete, %lu large; %lu lines, at least %u in each way, %lu "
-           "black dots, %lu cut off\n", compared, incomplete, large, lines, least, black, cut);
-    return !(compared && incomplete && large && least && black && cut);
+           "black dots, %lu cut off; %lu spoilt stores and %lu changed ones\n", compared,
+           incomplete, large, lines, least, black, cut, spoilt, harmless);
+    return !(compared && incomplete && large && least && black && cut && spoilt && harmless);
 }
