@@ -1,6 +1,6 @@
-/* text_load TRIALS FILE...: holds mft_load to single calls. Each file, and a stream with one of each
- * refusal, whole and changed by chance, is loaded with its own numbers and with new ones, in one
- * piece and in pieces by chance. A second store gets each command's download by a call of its own:
+/* text_load TRIALS FILE...: holds mft_load to single calls. Each file, and a stream with one of
+ * each refusal, whole and changed by chance, is loaded with its own numbers and with new ones, in
+ * one piece and in pieces by chance. A second store gets each command's download by a call of its own:
  * there must be one note for each command, with its place, its refusal and its numbers, the same
  * stores and counts, and the broken place of mf_read_stream. The words of the notes on streams with
  * one of each are printed first; tests/text compares them with text_load.expected. */

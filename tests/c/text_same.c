@@ -1,5 +1,5 @@
-/* text_same TRIALS FILE...: holds faces and lines to single calls. Of each font of the files, and of
- * fonts made by chance in each orientation, spacing and resolution: every code of a face is what
+/* text_same TRIALS FILE...: holds faces and lines to single calls. Of each font of the files, and
+ * of fonts made by chance in each orientation, spacing and resolution: every code of a face is what
  * mf_tell_character and mf_draw_picture give; and lines by chance, on pages by chance, have the
  * dots that come of placing these pictures dot by dot, and the measures of these dots. The faces
  * stand in memory that is exactly as long as was told, with bytes before and behind that stay. Of a
