@@ -2,10 +2,10 @@
 /* Marlinfold's text layer: lines of text in a kept font, set as dots on a page.
  *
  * It stands on marlinfold.h, whose words it uses: store, code, quarter-dot, cursor, refusal. Each
- * call of that header checks the whole store, up to 80 microseconds. Here a font is taken out of
- * its store once, as a face: its fields, and of each character the fields and the drawn picture.
- * Then lines are measured and set from the face alone, a letter in far less than a microsecond,
- * and the store may be changed or given back.
+ * call of that header checks the whole store, and a letter takes two of them. Here a font is taken
+ * out of its store once, as a face: its fields, and of each character the fields and the drawn
+ * picture. Then lines are measured and set from the face alone, a letter in far less than a
+ * microsecond, and the store may be changed or given back.
  *
  *     int write_line(const uint8_t *store, size_t store_len, uint32_t font, const char *text)
  *     {
@@ -40,8 +40,8 @@
  *
  * What comes back
  *   A refusal number: MF_DONE (0), one of marlinfold.h, or one of those below. A refused call
- *   has written nothing, and its other answers are 0 and NULL. The checks run in the order given
- *   at each call.
+ *   has written nothing, and its other answers are 0 and NULL, save those of MF_STREAM_BROKEN, see
+ *   mft_load. The checks run in the order given at each call.
  *
  * Linking: -lmarlinfold-text -lmarlinfold, by pkg-config marlinfold-text. A face is made with the
  * form of the store, so that both libraries must have the first number of MF_VERSION in common. */
@@ -302,7 +302,8 @@ enum mft_kind {
 
 typedef struct {
     uint32_t kind;       /* mft_kind */
-    uint32_t refusal;    /* the one that mf_download_font or mf_download_character answers */
+    uint32_t refusal;    /* as mf_download_font or mf_download_character answers it; of a number
+                          * or a code, MF_OUT_OF_RANGE or MF_DONE */
     uint64_t place;      /* of the command in the stream, counted from 0 */
     mft_command command; /* its block is good until the callback returns */
     uint32_t font, code; /* as the stream names them; of MFT_FONT_NUMBER and MFT_CODE what they

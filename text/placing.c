@@ -96,12 +96,12 @@ typedef struct {
 /* Inlined for each of the usual widths, so that the inner loop is gone. */
 static inline void place_whole(const whole_rows *of, size_t bytes)
 {
-    const uint8_t *from = of->from;
-    uint8_t *to = of->to;
     unsigned left = 8 - of->shift, mask = of->mask;
     uint32_t row;
 
-    for (row = 0; row < of->count; row++, to += of->step, from += bytes) {
+    for (row = 0; row < of->count; row++) {
+        const uint8_t *from = of->from + row * bytes;
+        uint8_t *to = of->to + row * of->step;
         unsigned dots = 0;
         size_t at;
         for (at = 0; at + 1 < bytes; at++) {
