@@ -133,7 +133,7 @@ static uint32_t is_complete(const alone *in)
                                  in->code).refusal != MF_DONE;
 }
 
-/* Fills a character's entry, and draws its picture behind those before it. */
+/* Fills a character's entry, and draws its picture after those before it. */
 static uint32_t take_entry(mftp_entry *entry, uint8_t *picture, uint8_t *room,
                            const mftp_record *font, const mftp_record *character)
 {
@@ -212,7 +212,7 @@ mft_made mft_make_face(const uint8_t *store, size_t store_len, uint32_t font, vo
     face = memory ? memory : malloc(bytes_of(&of));
     answer.refusal = face ? fill_face(face, &found, &of) : MFT_NO_MEMORY;
     if (!answer.refusal) {
-        face->lent = memory != NULL;
+        face->callers = memory != NULL;
         answer.face = face;
     } else if (!memory)
         free(face);
@@ -221,7 +221,7 @@ mft_made mft_make_face(const uint8_t *store, size_t store_len, uint32_t font, vo
 
 void mft_free_face(mft_face *face)
 {
-    if (face && !face->lent)
+    if (face && !face->callers)
         free(face);
 }
 

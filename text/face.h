@@ -1,4 +1,4 @@
-/* What a face is made of. Its characters stand behind it by rising code, then their pictures, and
+/* What a face is made of. Its characters stand after it by rising code, then their pictures, and
  * at last the room in which each of them was drawn. */
 #ifndef MFT_FACE_H
 #define MFT_FACE_H
@@ -16,7 +16,7 @@ typedef struct {
 struct mft_face {
     mf_font_fields font;
     uint32_t number, count;
-    uint32_t lent;                 /* it stands in memory of the caller's */
+    uint32_t callers;              /* it stands in memory of the caller's */
     uint16_t place[MF_CODE_MAX + 1]; /* of a code's entry, MFTP_NONE if there is none */
     mftp_entry entries[];
 };

@@ -43,7 +43,7 @@ static uint8_t byte_of(const uint8_t *row, uint32_t byte, uint32_t scale)
     return doubled[byte % 2 ? row[byte / 2] & 15 : row[byte / 2] >> 4];
 }
 
-/* The same without the columns behind the page. */
+/* The same without the columns beyond the page. */
 static uint8_t cut_byte(uint8_t dots, uint32_t byte, const columns *of)
 {
     uint32_t left = of->end - 8 * byte;
@@ -51,7 +51,7 @@ static uint8_t cut_byte(uint8_t dots, uint32_t byte, const columns *of)
     return left < 8 ? (uint8_t)(dots & 0xFF << (8 - left)) : dots;
 }
 
-/* Blackens a byte's dots in a row of the page, save those before it. None of them is behind the
+/* Blackens a byte's dots in a row of the page, save those before it. None of them is beyond the
  * row, so that what is not white has its place. */
 static void place_byte(uint8_t *row, uint8_t dots, int64_t x)
 {

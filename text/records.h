@@ -7,7 +7,7 @@
 
 enum mftp_record_kind { MFTP_FONT_RECORD = 2, MFTP_CHARACTER_RECORD = 3 };
 
-/* A record; bytes is NULL behind the last one. */
+/* A record; bytes is NULL after the last one. */
 typedef struct {
     const uint8_t *bytes;
     size_t length;
@@ -24,7 +24,7 @@ mftp_record mftp_next_record(const mftp_record *before);
 /* The record of a font; NULL bytes if there is none. */
 mftp_record mftp_font_record(const uint8_t *store, size_t store_len, uint32_t font);
 
-/* Of a character's record: its code, its MF_CHARACTER_BYTES kept bytes with the data behind them,
+/* Of a character's record: its code, its MF_CHARACTER_BYTES kept bytes with the data after them,
  * and how many data bytes these are. */
 uint32_t mftp_code_of(const mftp_record *character);
 const uint8_t *mftp_kept_of(const mftp_record *character);

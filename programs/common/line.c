@@ -7,7 +7,7 @@
 
 #define MARGIN 12
 
-/* A text as the text layer has it: the codes, and behind them which letters have none. */
+/* A text as the text layer has it: the codes, and after them which letters have none. */
 static mft_line line_of(const text *words, int64_t blank)
 {
     uint8_t *codes = malloc(2 * words->count + 1);

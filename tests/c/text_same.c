@@ -2,7 +2,7 @@
  * of fonts made by chance in each orientation, spacing and resolution: every code of a face is what
  * mf_tell_character and mf_draw_picture give; and lines by chance, on pages by chance, have the
  * dots that come of placing these pictures dot by dot, and the measures of these dots. The faces
- * stand in memory that is exactly as long as was told, with bytes before and behind that stay. Of a
+ * stand in memory that is exactly as long as was told, with bytes before and after that stay. Of a
  * store with a byte changed, a face is refused or made as single calls have it.
  * Prints what was compared; what is met nowhere is a failure, since nothing was tried then. */
 #include "made_font.h"
@@ -134,7 +134,7 @@ static int has_rows(const mf_character_fields *as, const uint8_t *data, uint32_t
     return rows >= as->height;
 }
 
-/* The data of a character, in the font written out; all of them are behind its first bytes or in
+/* The data of a character, in the font written out; all of them are after its first bytes or in
  * one continuation. */
 static uint32_t data_of(uint32_t font, uint32_t code, uint8_t *data)
 {
