@@ -124,7 +124,7 @@ static void show_first_record(const uint8_t *store)
         printf(" %u", store[at]);
 }
 
-/* Behind the last record, whose length stands in its first four bytes. */
+/* After the last record, whose length stands in its first four bytes. */
 static unsigned end_of_records(const uint8_t *store, size_t length)
 {
     size_t at = MF_STORE_MIN, record = 1;
