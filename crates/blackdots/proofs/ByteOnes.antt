@@ -6,14 +6,14 @@ use native.Mathlib.Nat.{zero-add, add-zero, zero-mul, add-comm, mul-comm, add-mu
 use mathlib.Core.Bool.{Bool, true, false}
 use lib.Dec.{leb}
 use borrow.Author.Tests.{leb-true, leb-false}
-use lib.Bits.{bitAnd, and-mask, and-le-l}
+use lib.Bits.{bitAnd, and-mask, and-le-l, and-lt, and-block}
 use native.Mathlib.Numerals.{add-one}
 use native.Mathlib.Omega.{arith}
 use lib.ListN.{length, take, drop, getD, replicate, drop-of-length-le}
 use lib.Seq.{drop-cons, drop-drop, take-nil}
 use lib.Count.{ones, ones-cat, ones-le}
 use Rattle.blackdots.specs.Black.{onesOf}
-use Rattle.blackdots.specs.Counting.{overhang, onesApart, onesSaid}
+use Rattle.blackdots.specs.Counting.{overhang, onesApart, onesIn, onesSaid}
 
 -- a list's ones are those of its front and of its rest
 pub ones-parts : (j : ℕ) (s : List ℕ) → onesOf s ≡ onesOf (take j s) + onesOf (drop j s)
@@ -42,24 +42,32 @@ ones-zeros (suc n) = rw zero-add (ones-zeros n)
 pub ones-split : (j k at : ℕ) (b : List ℕ) → onesOf (take (j + k) (drop at b)) ≡ onesOf (take j (drop at b)) + onesOf (take k (drop (at + j) b))
 ones-split j k at b = ones-front j k (drop at b) ∙ ap (λ (z : List ℕ). onesOf (take j (drop at b)) + onesOf (take k z)) (drop-drop j at b)
 
--- four parts of 16 bytes
+-- four parts of 32 bytes
 pub block-ones : (at : ℕ) (b : List ℕ)
-    → onesOf (take 64 (drop at b)) ≡ onesOf (take 16 (drop at b)) + onesOf (take 16 (drop (at + 16) b)) + onesOf (take 16 (drop (at + 32) b)) + onesOf (take 16 (drop (at + 48) b))
+    → onesOf (take 128 (drop at b)) ≡ onesOf (take 32 (drop at b)) + onesOf (take 32 (drop (at + 32) b)) + onesOf (take 32 (drop (at + 64) b)) + onesOf (take 32 (drop (at + 96) b))
 block-ones at b =
-    let p : at + 32 + 16 ≡ at + 48 = omega arith in
-    let q : at + 16 + 16 ≡ at + 32 = omega arith in
-    let e : onesOf (take 16 (drop (at + 32 + 16) b)) ≡ onesOf (take 16 (drop (at + 48) b)) = ap (λ (k : ℕ). onesOf (take 16 (drop k b))) p in
-    let f : onesOf (take 16 (drop (at + 16 + 16) b)) ≡ onesOf (take 16 (drop (at + 32) b)) = ap (λ (k : ℕ). onesOf (take 16 (drop k b))) q in
-    omega (arith, ones-split 32 32 at b, ones-split 16 16 at b, ones-split 16 16 (at + 32) b, e)
+    let p : at + 64 + 32 ≡ at + 96 = omega arith in
+    let e : onesOf (take 32 (drop (at + 64 + 32) b)) ≡ onesOf (take 32 (drop (at + 96) b)) = ap (λ (k : ℕ). onesOf (take 32 (drop k b))) p in
+    omega (arith, ones-split 64 64 at b, ones-split 32 32 at b, ones-split 32 32 (at + 64) b, e)
+
+-- k bytes and those after them
+pub ones-back : (i k j : ℕ) (b : List ℕ) → i + k ≡ j → onesOf (drop i b) ≡ onesOf (take k (drop i b)) + onesOf (drop j b)
+ones-back i k j b e =
+    let r : onesOf (drop k (drop i b)) ≡ onesOf (drop j b) = ap onesOf (drop-drop k i b ∙ ap (λ (n : ℕ). drop n b) e) in
+    omega (arith, ones-parts k (drop i b), r)
 
 -- two numbers as one: the low one has m bits
+ones-sum : (m x y : ℕ) → x < 2 ^ m → ones (x + 2 ^ m * y) ≡ ones y + ones x
+ones-sum m x y l = ap ones (add-comm x (2 ^ m * y) ∙ ap (λ (z : ℕ). z + x) (mul-comm (2 ^ m) y)) ∙ ones-cat m y x l
+
 pub ones-joined : (m k x y at : ℕ) (b : List ℕ) → ones x ≡ onesOf (take k (drop at b)) → ones y ≡ onesOf (take k (drop (at + k) b)) → x < 2 ^ m
     → ones (x + 2 ^ m * y) ≡ onesOf (take (k + k) (drop at b))
-ones-joined m k x y at b ex ey l =
-    let form : x + 2 ^ m * y ≡ y * 2 ^ m + x = add-comm x (2 ^ m * y) ∙ ap (λ (z : ℕ). z + x) (mul-comm (2 ^ m) y) in
-    let e : ones (x + 2 ^ m * y) ≡ ones y + ones x = ap ones form ∙ ones-cat m y x l in
-    let r : onesOf (take k (drop k (drop at b))) ≡ onesOf (take k (drop (at + k) b)) = ap (λ (z : List ℕ). onesOf (take k z)) (drop-drop k at b) in
-    omega (arith, e, ex, ey, r, ones-front k k (drop at b))
+ones-joined m k x y at b ex ey l = omega (arith, ones-sum m x y l, ex, ey, ones-split k k at b)
+
+-- the same of all bytes that are left
+pub ones-rest : (m k x y at : ℕ) (b : List ℕ) → ones x ≡ onesOf (take k (drop at b)) → ones y ≡ onesOf (drop (at + k) b) → x < 2 ^ m
+    → ones (x + 2 ^ m * y) ≡ onesOf (drop at b)
+ones-rest m k x y at b ex ey l = omega (arith, ones-sum m x y l, ex, ey, ones-back at k (at + k) b refl)
 
 -- a byte's own
 pub ones-byte : (i : ℕ) (b : List ℕ) → i < length b → onesOf (take 1 (drop i b)) ≡ ones (getD b i 0)
@@ -72,17 +80,19 @@ ones-next k n m i x b e p =
     let r : onesOf (drop k (drop i b)) ≡ onesOf (drop (i + k) b) = ap onesOf (drop-drop k i b) in
     omega (arith, e, p, r, ones-parts k (drop i b))
 
--- none left
-pub ones-end : (n m i : ℕ) (b : List ℕ) → n + onesOf (drop i b) ≡ m → length b ≤ i → n ≡ m
+-- none left, and the last one
+pub ones-past : (i : ℕ) (b : List ℕ) → length b ≤ i → onesOf (drop i b) ≡ 0
 unfolding onesOf
-ones-end n m i b e l =
-    let s : onesOf (drop i b) ≡ 0 = ap onesOf (drop-of-length-le b {i = i} l) in
-    omega (arith, e, s)
+ones-past i b l = ap onesOf (drop-of-length-le b {i = i} l)
+
+pub ones-last : (i : ℕ) (b : List ℕ) → i < length b → length b ≤ i + 1 → onesOf (drop i b) ≡ ones (getD b i 0)
+ones-last i b h l = omega (arith, ones-back i 1 (i + 1) b refl, ones-byte i b h, ones-past (i + 1) b l)
 
 -- before the first block
-pub said-none : (b : List ℕ) → onesSaid (record { ones = 0; twos = 0; fours = 0; eights = 0 }) ≡ onesOf (take 0 b)
-unfolding onesSaid onesOf ones
-said-none b = refl
+pub said-none : (b : List ℕ)
+    → onesSaid (record { eights = record { first = 0; second = 0 }; ones = record { first = 0; second = 0 }; twos = record { first = 0; second = 0 }; fours = record { first = 0; second = 0 } }) ≡ onesOf (drop (length b) b)
+unfolding onesSaid onesIn ones
+said-none b = sym (ones-past (length b) b (omega arith))
 
 -- ── the last bytes of rows
 past : (b : List ℕ) (i : ℕ) → length b ≤ i → getD b i 0 ≡ 0
@@ -152,11 +162,14 @@ apart-add n mask at j (suc k) b =
     let p : at + (j + k) * n ≡ at + j * n + k * n = omega (arith, add-mul j k n) in
     rw (e, p) (omega (arith, apart-add n mask at j k b))
 
-pub apart-joined : (m j n mask x y at : ℕ) (b : List ℕ) → ones x ≡ onesApart n mask b at j → ones y ≡ onesApart n mask b (at + j * n) j → x < 2 ^ m
-    → ones (x + 2 ^ m * y) ≡ onesApart n mask b at (j + j)
-apart-joined m j n mask x y at b ex ey l =
-    let form : x + 2 ^ m * y ≡ y * 2 ^ m + x = add-comm x (2 ^ m * y) ∙ ap (λ (z : ℕ). z + x) (mul-comm (2 ^ m) y) in
-    let e : ones (x + 2 ^ m * y) ≡ ones y + ones x = ap ones form ∙ ones-cat m y x l in
+-- two numbers of j bytes each as one, and the mask for each of them as one
+pub masked-joined : (bits j n mask m x y at : ℕ) (b : List ℕ) → x < 2 ^ bits → m < 2 ^ bits → ones (bitAnd x m) ≡ onesApart n mask b at j
+    → ones (bitAnd y m) ≡ onesApart n mask b (at + j * n) j → ones (bitAnd (x + 2 ^ bits * y) (m * 2 ^ bits + m)) ≡ onesApart n mask b at (j + j)
+masked-joined bits j n mask m x y at b l k ex ey =
+    let number : x + 2 ^ bits * y ≡ y * 2 ^ bits + x = add-comm x (2 ^ bits * y) ∙ ap (λ (z : ℕ). z + x) (mul-comm (2 ^ bits) y) in
+    let e : ones (bitAnd (x + 2 ^ bits * y) (m * 2 ^ bits + m)) ≡ ones (bitAnd y m) + ones (bitAnd x m) =
+    ap (λ (z : ℕ). ones (bitAnd z (m * 2 ^ bits + m))) number
+    ∙ ap ones (and-block bits y m x m l k) ∙ ones-cat bits (bitAnd y m) (bitAnd x m) (and-lt bits x m l k) in
     omega (arith, e, ex, ey, apart-add n mask at j j b)
 
 pub apart-one : (n mask at : ℕ) (b : List ℕ) → ones (bitAnd (getD b at 0) mask) ≡ onesApart n mask b at 1

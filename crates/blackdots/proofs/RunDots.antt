@@ -59,11 +59,11 @@ line-long w (b ∷ xs) ds es c n k e =
     (λ q. line-long w xs (ds ++ replicate b c) es (not c) (n + 1) k q)
 
 -- ── the loop over the runs of a row
-pub counting-starts : (w : ℕ) (src : List ℕ) (from : ℕ) → Counting w src from from 0 0
+pub counting-starts : (w : ℕ) (src : List ℕ) (from : ℕ) → Counting w src from from w 0
 unfolding lineFrom blackIn
-counting-starts w src from = record { dots = []; long = refl; dark = refl; fits = omega arith; less = omega arith; line = refl }
+counting-starts w src from = record { dots = []; long = omega arith; dark = refl; less = omega arith; line = refl }
 
-module _ (w : ℕ) (src : List ℕ) (from at filled black : ℕ) (k : Counting w src from at filled black) where
+module _ (w : ℕ) (src : List ℕ) (from at left black : ℕ) (k : Counting w src from at left black) where
   pub counting-ends : length src ≤ at → Unfinished ≡ blackLineOf (lineFrom w src from)
   counting-ends l = ap blackLineOf (sym (line-end w (k .dots) false at src l) ∙ k .line)
 
@@ -71,25 +71,25 @@ module _ (w : ℕ) (src : List ℕ) (from at filled black : ℕ) (k : Counting w
     abbrev afterWhite : List Bool
     afterWhite = k .dots ++ replicate (getD src at 0) false
 
-    white-long : length afterWhite ≡ filled + a
-    white-long = simp (length-append, length-replicate) (omega (arith, k .long, e))
+    white-long : length afterWhite ≡ length (k .dots) + a
+    white-long = simp (length-append, length-replicate) (omega (arith, e))
 
     white-dark : blackIn afterWhite ≡ black
     white-dark = omega (arith, black-append (k .dots) (replicate (getD src at 0) false), black-white (getD src at 0), k .dark)
 
     -- the white run ends the row, or passes it
-    pub white-last : w ≤ filled + a → endsAt (eqb (filled + a) w) (at + 1) black ≡ blackLineOf (lineFrom w src from)
-    white-last g = go (eqb (filled + a) w) refl
+    pub white-last : left ≤ a → endsAt (eqb left a) (at + 1) black ≡ blackLineOf (lineFrom w src from)
+    white-last g = go (eqb left a) refl
       where
-        go : (t : Bool) → eqb (filled + a) w ≡ t → endsAt t (at + 1) black ≡ blackLineOf (lineFrom w src from)
+        go : (t : Bool) → eqb left a ≡ t → endsAt t (at + 1) black ≡ blackLineOf (lineFrom w src from)
         go true p =
-            let q : readLine w (k .dots) false at (drop at src) ≡ whole afterWhite (at + 1) = line-whole w (k .dots) false at src h filled (k .long) (omega (arith, e, eqb-true (filled + a) w p)) in
+            let q : readLine w (k .dots) false at (drop at src) ≡ whole afterWhite (at + 1) = line-whole w (k .dots) false at src h (length (k .dots)) refl (omega (arith, e, k .long, eqb-true left a p)) in
             ap (λ (x : ℕ). Ends (at + 1) x) (sym white-dark) ∙ ap blackLineOf (sym q ∙ k .line)
-        go false p = ap blackLineOf (sym (line-over w (k .dots) false at src h filled (k .long) (omega (arith, e, g, eqb-false (filled + a) w p))) ∙ k .line)
+        go false p = ap blackLineOf (sym (line-over w (k .dots) false at src h (length (k .dots)) refl (omega (arith, e, g, k .long, eqb-false left a p))) ∙ k .line)
 
-    module _ (g : filled + a < w) where
+    module _ (g : a < left) where
       white-line : readLine w afterWhite true (at + 1) (drop (at + 1) src) ≡ lineFrom w src from
-      white-line = sym (line-part w (k .dots) false at src h filled (k .long) (omega (arith, e, g))) ∙ k .line
+      white-line = sym (line-part w (k .dots) false at src h (length (k .dots)) refl (omega (arith, e, g, k .long))) ∙ k .line
 
       pub white-unfinished : length src - at < 2 → Unfinished ≡ blackLineOf (lineFrom w src from)
       white-unfinished l = ap blackLineOf (sym (line-end w afterWhite true (at + 1) src (omega arith)) ∙ white-line)
@@ -98,58 +98,60 @@ module _ (w : ℕ) (src : List ℕ) (from at filled black : ℕ) (k : Counting w
         abbrev afterBlack : List Bool
         afterBlack = afterWhite ++ replicate (getD src (at + 1) 0) true
 
-        black-long : length afterBlack ≡ filled + a + b
-        black-long = simp (length-append, length-replicate) (omega (arith, k .long, e, f))
+        black-long : length afterBlack ≡ length (k .dots) + a + b
+        black-long = simp (length-append, length-replicate) (omega (arith, e, f))
 
         black-dark : blackIn afterBlack ≡ black + b
         black-dark = omega (arith, black-append afterWhite (replicate (getD src (at + 1) 0) true), black-black (getD src (at + 1) 0), white-dark, f)
 
-        pub black-last : w ≤ filled + a + b → endsAt (eqb (filled + a + b) w) (at + 2) (black + b) ≡ blackLineOf (lineFrom w src from)
-        black-last g2 = go (eqb (filled + a + b) w) refl
+        pub black-last : left - a ≤ b → endsAt (eqb (left - a) b) (at + 2) (black + b) ≡ blackLineOf (lineFrom w src from)
+        black-last g2 = go (eqb (left - a) b) refl
           where
-            go : (t : Bool) → eqb (filled + a + b) w ≡ t → endsAt t (at + 2) (black + b) ≡ blackLineOf (lineFrom w src from)
+            go : (t : Bool) → eqb (left - a) b ≡ t → endsAt t (at + 2) (black + b) ≡ blackLineOf (lineFrom w src from)
             go true p =
-                let q : readLine w afterWhite true (at + 1) (drop (at + 1) src) ≡ whole afterBlack (at + 1 + 1) = line-whole w afterWhite true (at + 1) src m (filled + a) white-long (omega (arith, f, eqb-true (filled + a + b) w p)) in
+                let q : readLine w afterWhite true (at + 1) (drop (at + 1) src) ≡ whole afterBlack (at + 1 + 1) = line-whole w afterWhite true (at + 1) src m (length (k .dots) + a) white-long (omega (arith, f, g, k .long, eqb-true (left - a) b p)) in
                 let z : at + 2 ≡ at + 1 + 1 = omega arith in
                 ap₂ (λ (y x : ℕ). Ends y x) z (sym black-dark) ∙ ap blackLineOf (sym q ∙ white-line)
-            go false p = ap blackLineOf (sym (line-over w afterWhite true (at + 1) src m (filled + a) white-long (omega (arith, f, g2, eqb-false (filled + a + b) w p))) ∙ white-line)
+            go false p =
+                ap blackLineOf
+                (sym (line-over w afterWhite true (at + 1) src m (length (k .dots) + a) white-long (omega (arith, f, g, g2, k .long, eqb-false (left - a) b p))) ∙ white-line)
 
-        pub black-next : filled + a + b < w → w ≤ 65535 → Counting w src from (at + 2) (filled + a + b) (black + b)
-        black-next g2 u =
+        pub black-next : b < left - a → Counting w src from (at + 2) (left - a - b) (black + b)
+        black-next g2 =
             let z : at + 1 + 1 ≡ at + 2 = omega arith in
-            let q : readLine w afterBlack false (at + 1 + 1) (drop (at + 1 + 1) src) ≡ lineFrom w src from = sym (line-part w afterWhite true (at + 1) src m (filled + a) white-long (omega (arith, f, g2))) ∙ white-line in
-            record { dots = afterBlack; long = black-long; dark = black-dark; fits = omega arith; less = omega (arith, k .less); line = rw z at q }
+            let q : readLine w afterBlack false (at + 1 + 1) (drop (at + 1 + 1) src) ≡ lineFrom w src from = sym (line-part w afterWhite true (at + 1) src m (length (k .dots) + a) white-long (omega (arith, f, g2, k .long))) ∙ white-line in
+            record { dots = afterBlack; long = omega (arith, black-long, g2, k .long); dark = black-dark; less = omega (arith, g2, k .less); line = rw z at q }
 
 -- two, four and eight runs that leave the row unfinished
-pair-next : (w : ℕ) (src : List ℕ) (from at filled black : ℕ) → Counting w src from at filled black → at + 2 ≤ length src → filled + pairAt src at < w → w ≤ 65535
-    → Counting w src from (at + 2) (filled + pairAt src at) (black + getD src (at + 1) 0)
-pair-next w src from at filled black k h g u =
-    let e : filled + getD src at 0 + getD src (at + 1) 0 ≡ filled + pairAt src at = omega arith in
+pair-next : (w : ℕ) (src : List ℕ) (from at left black : ℕ) → Counting w src from at left black → at + 2 ≤ length src → pairAt src at < left
+    → Counting w src from (at + 2) (left - pairAt src at) (black + getD src (at + 1) 0)
+pair-next w src from at left black k h g =
+    let e : left - getD src at 0 - getD src (at + 1) 0 ≡ left - pairAt src at = omega arith in
     subst (λ (f : ℕ). Counting w src from (at + 2) f (black + getD src (at + 1) 0)) e
-    (black-next w src from at filled black k (omega arith) (getD src at 0) refl (omega arith) (omega arith) (getD src (at + 1) 0) refl (omega arith) u)
+    (black-next w src from at left black k (omega arith) (getD src at 0) refl (omega arith) (omega arith) (getD src (at + 1) 0) refl (omega arith))
 
-four-next : (w : ℕ) (src : List ℕ) (from at filled black : ℕ) → Counting w src from at filled black → at + 4 ≤ length src → filled + fourAt src at < w → w ≤ 65535
-    → Counting w src from (at + 4) (filled + fourAt src at) (black + darkFour src at)
-four-next w src from at filled black k h g u =
+four-next : (w : ℕ) (src : List ℕ) (from at left black : ℕ) → Counting w src from at left black → at + 4 ≤ length src → fourAt src at < left
+    → Counting w src from (at + 4) (left - fourAt src at) (black + darkFour src at)
+four-next w src from at left black k h g =
     let p : at + 2 + 2 ≡ at + 4 = omega arith in
     let q : at + 2 + 1 ≡ at + 3 = omega arith in
-    let e : filled + pairAt src at + pairAt src (at + 2) ≡ filled + fourAt src at = omega arith in
+    let e : left - pairAt src at - pairAt src (at + 2) ≡ left - fourAt src at = omega arith in
     let d : black + getD src (at + 1) 0 + getD src (at + 2 + 1) 0 ≡ black + darkFour src at = omega (arith, ap (λ (i : ℕ). getD src i 0) q) in
-    let i = pair-next w src from at filled black k (omega arith) (omega arith) u in
-    let j = pair-next w src from (at + 2) (filled + pairAt src at) (black + getD src (at + 1) 0) i (omega arith) (omega arith) u in
-    subst (λ (n : ℕ). Counting w src from n (filled + fourAt src at) (black + darkFour src at)) p
-    (subst (λ (f : ℕ). Counting w src from (at + 2 + 2) f (black + darkFour src at)) e (subst (λ (b : ℕ). Counting w src from (at + 2 + 2) (filled + pairAt src at + pairAt src (at + 2)) b) d j))
+    let i = pair-next w src from at left black k (omega arith) (omega arith) in
+    let j = pair-next w src from (at + 2) (left - pairAt src at) (black + getD src (at + 1) 0) i (omega arith) (omega arith) in
+    subst (λ (n : ℕ). Counting w src from n (left - fourAt src at) (black + darkFour src at)) p
+    (subst (λ (f : ℕ). Counting w src from (at + 2 + 2) f (black + darkFour src at)) e (subst (λ (b : ℕ). Counting w src from (at + 2 + 2) (left - pairAt src at - pairAt src (at + 2)) b) d j))
 
-pub eight-next : (w : ℕ) (src : List ℕ) (from at filled black m n : ℕ) → Counting w src from at filled black → at + 8 ≤ length src → m ≡ fourAt src at + fourAt src (at + 4)
-    → n ≡ darkFour src at + darkFour src (at + 4) → filled + m < w → w ≤ 65535 → Counting w src from (at + 8) (filled + m) (black + n)
-eight-next w src from at filled black m n k h e d g u =
+pub eight-next : (w : ℕ) (src : List ℕ) (from at left black m n : ℕ) → Counting w src from at left black → at + 8 ≤ length src → m ≡ fourAt src at + fourAt src (at + 4)
+    → n ≡ darkFour src at + darkFour src (at + 4) → m < left → Counting w src from (at + 8) (left - m) (black + n)
+eight-next w src from at left black m n k h e d g =
     let p : at + 4 + 4 ≡ at + 8 = omega arith in
-    let f : filled + fourAt src at + fourAt src (at + 4) ≡ filled + m = omega (arith, e) in
+    let f : left - fourAt src at - fourAt src (at + 4) ≡ left - m = omega (arith, e) in
     let b : black + darkFour src at + darkFour src (at + 4) ≡ black + n = omega (arith, d) in
-    let i = four-next w src from at filled black k (omega arith) (omega (arith, e)) u in
-    let j = four-next w src from (at + 4) (filled + fourAt src at) (black + darkFour src at) i (omega arith) (omega (arith, e)) u in
-    subst (λ (x : ℕ). Counting w src from x (filled + m) (black + n)) p
-    (subst (λ (x : ℕ). Counting w src from (at + 4 + 4) x (black + n)) f (subst (λ (x : ℕ). Counting w src from (at + 4 + 4) (filled + fourAt src at + fourAt src (at + 4)) x) b j))
+    let i = four-next w src from at left black k (omega arith) (omega (arith, e)) in
+    let j = four-next w src from (at + 4) (left - fourAt src at) (black + darkFour src at) i (omega arith) (omega (arith, e)) in
+    subst (λ (x : ℕ). Counting w src from x (left - m) (black + n)) p
+    (subst (λ (x : ℕ). Counting w src from (at + 4 + 4) x (black + n)) f (subst (λ (x : ℕ). Counting w src from (at + 4 + 4) (left - fourAt src at - fourAt src (at + 4)) x) b j))
 
 -- ── the loop over rows
 -- m rows that have the same dots

@@ -1,5 +1,5 @@
 -- For the code alone: black dots by the ones of bytes and by the runs of rows.
-use Prim.Native.Nat.{ℕ, zero, suc, _+_, _*_, _-_, _%_, _^_, _≤_}
+use Prim.Native.Nat.{ℕ, zero, suc, _+_, _*_, _-_, _%_, _^_, _<_, _≤_}
 use mathlib.Core.List.{List}
 use lib.Bits.{bitAnd}
 use lib.Count.{ones}
@@ -8,6 +8,7 @@ use mathlib.Core.Path.{_≡_}
 use mathlib.Core.Bool.{Bool, true, false}
 use Rattle.pictures.specs.Drawing.{Read, none, whole, readLine, lineFrom}
 use Rattle.blackdots.specs.Black.{blackIn}
+use Rattle.blackdots.specs.declared.ones.TwoWords.{TwoWords}
 use Rattle.blackdots.specs.declared.ones.Tallied.{Tallied}
 use Rattle.blackdots.specs.declared.compressed.BlackLine.{BlackLine}
 use Rattle.blackdots.specs.declared.compressed.BlackLine.the-variants.{Ends, Unfinished}
@@ -22,9 +23,17 @@ unfoldable pub onesApart : ℕ → ℕ → List ℕ → ℕ → ℕ → ℕ
 onesApart n mask d at zero = 0
 onesApart n mask d at (suc k) = onesApart n mask d at k + ones (bitAnd (getD d (at + k * n) 0) mask)
 
+-- a number made of k bytes of the list d, n apart from `at` on, has their masked ones under the mask `times` times
+abbrev pub MaskedOnes : ℕ → ℕ → List ℕ → ℕ → ℕ → ℕ → Type 0
+MaskedOnes times n d at k r = (mask : ℕ) → mask < 2 ^ 8 → ones (bitAnd r (times * mask)) ≡ onesApart n mask d at k
+
+-- the ones of two numbers
+unfoldable pub onesIn : TwoWords → ℕ
+onesIn p = ones (p .first) + ones (p .second)
+
 -- what ones by places, and eights of them, come to
 unfoldable pub onesSaid : Tallied → ℕ
-onesSaid t = ones (t .ones) + 2 * ones (t .twos) + 4 * ones (t .fours) + 8 * t .eights
+onesSaid t = onesIn (t .ones) + 2 * onesIn (t .twos) + 4 * onesIn (t .fours) + 8 * (t .eights .first + t .eights .second)
 
 -- what reading a row of class 2 data counts
 abbrev pub endsAt : Bool → ℕ → ℕ → BlackLine
@@ -39,11 +48,10 @@ blackLineOf (whole ds k) = Ends k (blackIn ds)
 abbrev pub darkFour : List ℕ → ℕ → ℕ
 darkFour d n = getD d (n + 1) 0 + getD d (n + 3) 0
 
--- a row of w dots whose runs start at `from` is read up to the white run at `at`: so many dots before it, of which so many are black
-pub record Counting (w : ℕ) (src : List ℕ) (from at filled black : ℕ) : Type 0 where
+-- a row of w dots whose runs start at `from` is read up to the white run at `at`, where it lacks so many dots, and so many before are black
+pub record Counting (w : ℕ) (src : List ℕ) (from at left black : ℕ) : Type 0 where
   pub dots : List Bool
-  pub long : length dots ≡ filled
+  pub long : length dots + left ≡ w
   pub dark : blackIn dots ≡ black
-  pub fits : filled ≤ 65535
-  pub less : black ≤ filled
+  pub less : black + left ≤ w
   pub line : readLine w dots false at (drop at src) ≡ lineFrom w src from

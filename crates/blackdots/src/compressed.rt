@@ -56,10 +56,10 @@ fn black_of_four(bytes: &[u8], at: usize) -> u32
     wide(bytes[at + 1]) + wide(bytes[at + 3])
 }
 
-// A white run of a row: its place in the data, and the dots and the black dots of the row before it.
+// A white run of a row: its place in the data, the dots that the row lacks there, and its black dots so far.
 pub struct Upto {
     pub at: usize,
-    pub filled: u32,
+    pub left: u32,
     pub black: u32,
 }
 
@@ -75,32 +75,32 @@ fn less(len: usize, n: usize) -> usize
 
 // Over eight runs at a time that leave the row unfinished: their sum alone tells.
 fn pass_eights(bytes: &[u8], from: usize, width: u16) -> Upto
-    ensures { λ r. ⌜ Counting width (now (bytes .entry)) from (r .at) (r .filled) (r .black) ⌝ }
+    ensures { λ r. ⌜ Counting width (now (bytes .entry)) from (r .at) (r .left) (r .black) ⌝ }
 {
     let last = less(bytes.len(), 7);
     let mut at = from;
-    let mut filled: u32 = 0;
+    let mut left = width as u32;
     let mut black: u32 = 0;
     while at < last {
         let sum = four_runs(bytes, at) + four_runs(bytes, at + 4);
-        if (width as u32) <= filled + sum {
-            return Upto { at, filled, black };
+        if left <= sum {
+            return Upto { at, left, black };
         }
         black += black_of_four(bytes, at) + black_of_four(bytes, at + 4);
-        filled += sum;
+        left -= sum;
         at += 8;
     }
-    Upto { at, filled, black }
+    Upto { at, left, black }
 }
 
 // Where the row whose runs start at a place of the data is read run by run: a narrow one from its start.
 fn begin_line(bytes: &[u8], from: usize, width: u16) -> Upto
-    ensures { λ r. ⌜ Counting width (now (bytes .entry)) from (r .at) (r .filled) (r .black) ⌝ }
+    ensures { λ r. ⌜ Counting width (now (bytes .entry)) from (r .at) (r .left) (r .black) ⌝ }
 {
     if width < WIDE {
         return Upto {
             at: from,
-            filled: 0,
+            left: width as u32,
             black: 0,
         };
     }
@@ -113,22 +113,23 @@ fn count_line(bytes: &[u8], from: usize, width: u16) -> BlackLine
 {
     let begin = begin_line(bytes, from, width);
     let mut at = begin.at;
-    let mut filled = begin.filled;
+    let mut left = begin.left;
     let mut black = begin.black;
     while at < bytes.len() {
-        filled += wide(bytes[at]);
-        if (width as u32) <= filled {
-            return ended(filled == (width as u32), at + 1, black);
+        let white = wide(bytes[at]);
+        if left <= white {
+            return ended(left == white, at + 1, black);
         }
         if bytes.len() - at < 2 {
             return BlackLine::Unfinished;
         }
+        left -= white;
         let run = wide(bytes[at + 1]);
-        filled += run;
         black += run;
-        if (width as u32) <= filled {
-            return ended(filled == (width as u32), at + 2, black);
+        if left <= run {
+            return ended(left == run, at + 2, black);
         }
+        left -= run;
         at += 2;
     }
     BlackLine::Unfinished

@@ -5,7 +5,7 @@ ghost use lib.ListN.{length, take, drop};
 ghost use lib.Count.{ones};
 ghost use Rattle.pictures.specs.Size.{dataLimit};
 ghost use Rattle.blackdots.specs.Black.{onesOf};
-ghost use Rattle.blackdots.specs.Counting.{onesSaid};
+ghost use Rattle.blackdots.specs.Counting.{onesIn, onesSaid};
 
 pub(crate) fn wide(x: u8) -> u64
     ensures { λ r. ⌜ (r ≡ x) × (r < 2 ^ 8) ⌝ }
@@ -35,32 +35,49 @@ fn eight_at(b: &[u8], at: usize) -> u64
     four_at(b, at) + 4294967296 * four_at(b, at + 4)
 }
 
-// The ones of the last bytes.
-fn ones_after(b: &[u8], from: usize) -> u32
-    requires { ⌜ (from ≤ length (now b)) × (length (now b) ≤ dataLimit) ⌝ }
-    ensures { λ r. ⌜ (r ≡ onesOf (drop from (now (b .entry)))) × (r ≤ 8 * (length (now (b .entry)) - from)) ⌝ }
+// The last bytes as one number, where there is at most one, where there are at most three and at most seven.
+fn last_one(b: &[u8], at: usize) -> u64
+    requires { ⌜ (at ≤ length (now b)) × (length (now b) < at + 2) ⌝ }
+    ensures { λ r. ⌜ (ones r ≡ onesOf (drop at (now (b .entry)))) × (r < 2 ^ 8) ⌝ }
 {
-    let mut n: u32 = 0;
-    let mut i = from;
-    while i < b.len() {
-        n += u8::count_ones(b[i]);
-        i += 1;
+    if at < b.len() {
+        return wide(b[at]);
     }
-    n
+    0
 }
 
-// The ones of the bytes from a place on, eight bytes at a time.
-fn ones_from(b: &[u8], from: usize) -> u32
-    requires { ⌜ (from ≤ length (now b)) × (length (now b) ≤ dataLimit) ⌝ }
-    ensures { λ r. ⌜ (r ≡ onesOf (drop from (now (b .entry)))) × (r ≤ 8 * (length (now (b .entry)) - from)) ⌝ }
+fn last_three(b: &[u8], at: usize) -> u64
+    requires { ⌜ (at ≤ length (now b)) × (length (now b) < at + 4) ⌝ }
+    ensures { λ r. ⌜ (ones r ≡ onesOf (drop at (now (b .entry)))) × (r < 2 ^ 24) ⌝ }
+{
+    if b.len() - at < 2 {
+        return last_one(b, at);
+    }
+    two_at(b, at) + 65536 * last_one(b, at + 2)
+}
+
+fn last_seven(b: &[u8], at: usize) -> u64
+    requires { ⌜ (at ≤ length (now b)) × (length (now b) < at + 8) ⌝ }
+    ensures { λ r. ⌜ (ones r ≡ onesOf (drop at (now (b .entry)))) × (r < 2 ^ 56) ⌝ }
+{
+    if b.len() - at < 4 {
+        return last_three(b, at);
+    }
+    four_at(b, at) + 4294967296 * last_three(b, at + 4)
+}
+
+// The ones of all bytes, eight bytes at a time.
+fn ones_by_words(b: &[u8]) -> u32
+    requires { ⌜ length (now b) ≤ dataLimit ⌝ }
+    ensures { λ r. ⌜ (r ≡ onesOf (now (b .entry))) × (r ≤ 8 * length (now (b .entry)) + 56) ⌝ }
 {
     let mut n: u32 = 0;
-    let mut i = from;
+    let mut i = 0;
     while i + 8 <= b.len() {
         n += u64::count_ones(eight_at(b, i));
         i += 8;
     }
-    n + ones_after(b, i)
+    n + u64::count_ones(last_seven(b, i))
 }
 
 // The sum of three bits, in each of 64 places: its low bits and its high ones.
@@ -79,75 +96,142 @@ fn add_three(a: u64, b: u64, c: u64) -> Sum
     }
 }
 
-// Sixteen bytes more.
-fn add_sixteen(low: u64, b: &[u8], at: usize) -> Sum
-    requires { ⌜ at + 16 ≤ length (now b) ⌝ }
-    ensures { λ r. ⌜ ones (r .low) + 2 * ones (r .high) ≡ ones low + onesOf (take 16 (drop at (now (b .entry)))) ⌝ }
-{
-    add_three(low, eight_at(b, at), eight_at(b, at + 8))
+// Two numbers, with both of which the same is done: the compiler puts them into one wide register.
+pub struct TwoWords {
+    pub first: u64,
+    pub second: u64,
 }
 
-// How many ones there are so far, in each of 64 places up to 7, and eights of them in all.
+fn pair_at(b: &[u8], at: usize) -> TwoWords
+    requires { ⌜ at + 16 ≤ length (now b) ⌝ }
+    ensures { λ r. ⌜ onesIn r ≡ onesOf (take 16 (drop at (now (b .entry)))) ⌝ }
+{
+    let first = eight_at(b, at);
+    let second = eight_at(b, at + 8);
+    TwoWords { first, second }
+}
+
+pub struct Sums {
+    pub low: TwoWords,
+    pub high: TwoWords,
+}
+
+fn add_pairs(a: TwoWords, b: TwoWords, c: TwoWords) -> Sums
+    ensures { λ r. ⌜ onesIn (r .low) + 2 * onesIn (r .high) ≡ onesIn a + onesIn b + onesIn c ⌝ }
+{
+    let one = add_three(a.first, b.first, c.first);
+    let two = add_three(a.second, b.second, c.second);
+    Sums {
+        low: TwoWords {
+            first: one.low,
+            second: two.low,
+        },
+        high: TwoWords {
+            first: one.high,
+            second: two.high,
+        },
+    }
+}
+
+// Thirty-two bytes more.
+fn add_bytes(low: TwoWords, b: &[u8], at: usize) -> Sums
+    requires { ⌜ at + 32 ≤ length (now b) ⌝ }
+    ensures { λ r. ⌜ onesIn (r .low) + 2 * onesIn (r .high) ≡ onesIn low + onesOf (take 32 (drop at (now (b .entry)))) ⌝ }
+{
+    add_pairs(low, pair_at(b, at), pair_at(b, at + 16))
+}
+
+// How many ones there are so far: eights of them, each half of a pair its own, and up to 7 in each of 128 places. In this order the compiler finds the pairs.
 pub struct Tallied {
-    pub ones: u64,
-    pub twos: u64,
-    pub fours: u64,
-    pub eights: u32,
+    pub eights: TwoWords,
+    pub ones: TwoWords,
+    pub twos: TwoWords,
+    pub fours: TwoWords,
+}
+
+fn counted(x: u64) -> u64
+    ensures { λ r. ⌜ (r ≡ ones x) × (r ≤ 64) ⌝ }
+{
+    u64::count_ones(x) as u64
+}
+
+fn count_more(n: TwoWords, x: TwoWords) -> TwoWords
+    requires { ⌜ n .first + n .second ≤ dataLimit ⌝ }
+    ensures { λ r. ⌜ (r .first + r .second ≡ n .first + n .second + onesIn x) × (onesIn x ≤ 128) ⌝ }
+{
+    let first = n.first + counted(x.first);
+    let second = n.second + counted(x.second);
+    TwoWords { first, second }
 }
 
 // The bits of each place are added, and counted only when they make eights: fewer steps than to count each number.
 fn add_block(t: Tallied, b: &[u8], at: usize) -> Tallied
-    requires { ⌜ (at + 64 ≤ length (now b)) × (t .eights ≤ dataLimit) ⌝ }
-    ensures { λ r. ⌜ (onesSaid r ≡ onesSaid t + onesOf (take 64 (drop at (now (b .entry))))) × (r .eights ≤ t .eights + 64) ⌝ }
+    requires { ⌜ (at + 128 ≤ length (now b)) × (t .eights .first + t .eights .second ≤ dataLimit) ⌝ }
+    ensures { λ r. ⌜ (onesSaid r ≡ onesSaid t + onesOf (take 128 (drop at (now (b .entry))))) × (r .eights .first + r .eights .second ≤ t .eights .first + t .eights .second + 128) ⌝ }
 {
-    let first = add_sixteen(t.ones, b, at);
-    let second = add_sixteen(first.low, b, at + 16);
-    let third = add_sixteen(second.low, b, at + 32);
-    let fourth = add_sixteen(third.low, b, at + 48);
-    let half = add_three(t.twos, first.high, second.high);
-    let rest = add_three(half.low, third.high, fourth.high);
-    let last = add_three(t.fours, half.high, rest.high);
+    let first = add_bytes(t.ones, b, at);
+    let second = add_bytes(first.low, b, at + 32);
+    let third = add_bytes(second.low, b, at + 64);
+    let fourth = add_bytes(third.low, b, at + 96);
+    let half = add_pairs(t.twos, first.high, second.high);
+    let rest = add_pairs(half.low, third.high, fourth.high);
+    let last = add_pairs(t.fours, half.high, rest.high);
+    let eights = count_more(t.eights, last.high);
+    let ones = fourth.low;
+    let twos = rest.low;
+    let fours = last.low;
     Tallied {
-        ones: fourth.low,
-        twos: rest.low,
-        fours: last.low,
-        eights: t.eights + u64::count_ones(last.high),
+        eights,
+        ones,
+        twos,
+        fours,
     }
 }
 
-fn total(t: Tallied) -> u32
-    requires { ⌜ t .eights ≤ dataLimit ⌝ }
-    ensures { λ r. ⌜ (r ≡ onesSaid t) × (r ≤ 8 * t .eights + 448) ⌝ }
+fn count_pair(x: TwoWords) -> u32
+    ensures { λ r. ⌜ (r ≡ onesIn x) × (r ≤ 128) ⌝ }
 {
-    let small = u64::count_ones(t.ones) + 2 * u64::count_ones(t.twos);
-    small + 4 * u64::count_ones(t.fours) + 8 * t.eights
+    u64::count_ones(x.first) + u64::count_ones(x.second)
 }
 
-// The ones of all bytes, where there are blocks of 64.
+fn total(t: Tallied) -> u32
+    requires { ⌜ t .eights .first + t .eights .second ≤ dataLimit ⌝ }
+    ensures { λ r. ⌜ (r ≡ onesSaid t) × (r ≤ 8 * (t .eights .first + t .eights .second) + 896) ⌝ }
+{
+    let eights = (t.eights.first + t.eights.second) as u32;
+    let small = count_pair(t.ones) + 2 * count_pair(t.twos);
+    small + 4 * count_pair(t.fours) + 8 * eights
+}
+
+// The ones of all bytes, where there are blocks of 128, from the last one to the first: a place that starts at a constant would pass for half a pair.
 fn ones_in_blocks(b: &[u8]) -> u32
     requires { ⌜ length (now b) ≤ dataLimit ⌝ }
     ensures { λ r. ⌜ r ≡ onesOf (now (b .entry)) ⌝ }
 {
-    let mut t = Tallied {
-        ones: 0,
-        twos: 0,
-        fours: 0,
-        eights: 0,
+    let none = TwoWords {
+        first: 0,
+        second: 0,
     };
-    let mut i = 0;
-    while i + 64 <= b.len() {
-        t = add_block(t, b, i);
-        i += 64;
+    let mut t = Tallied {
+        eights: none,
+        ones: none,
+        twos: none,
+        fours: none,
+    };
+    let mut left = b.len();
+    while 128 <= left {
+        left -= 128;
+        t = add_block(t, b, left);
     }
-    total(t) + ones_from(b, i)
+    total(t) + ones_by_words(&b[..left])
 }
 
 pub(crate) fn ones_in(b: &[u8]) -> u32
     requires { ⌜ length (now b) ≤ dataLimit ⌝ }
     ensures { λ r. ⌜ r ≡ onesOf (now (b .entry)) ⌝ }
 {
-    if b.len() < 64 {
-        return ones_from(b, 0);
+    if b.len() < 128 {
+        return ones_by_words(b);
     }
     ones_in_blocks(b)
 }

@@ -162,7 +162,27 @@ impl Inside {
         }
     }
 
-    // Over two runs at a time, which have both colours, to the one that does not leave the row unfinished or the last two bytes.
+    // Over one run, if it leaves the row unfinished and is not the last byte.
+    fn pass_one(self, src: &[u8]) -> Inside
+        requires { ⌜ self .at < length (now src) ⌝ }
+        ensures { λ r. ⌜ PassesRuns (now (src .entry)) self r ⌝ }
+    {
+        let at = self.at;
+        if src.len() - at < 2 {
+            return self;
+        }
+        let run = wide(src[at]);
+        if self.left <= run {
+            return self;
+        }
+        Inside {
+            at: at + 1,
+            left: self.left - run,
+            black: !self.black,
+        }
+    }
+
+    // Over two runs at a time, which have both colours, to the one that does not leave the row unfinished or the last byte.
     fn pass_pairs(self, src: &[u8]) -> Inside
         requires { ⌜ self .at < length (now src) ⌝ }
         ensures { λ r. ⌜ PassesRuns (now (src .entry)) self r ⌝ }
@@ -190,11 +210,12 @@ impl Inside {
             left -= first + second;
             at += 2;
         }
-        Inside {
+        let stop = Inside {
             at: at,
             left: left,
             black: self.black,
-        }
+        };
+        stop.pass_one(src)
     }
 
     // Over the runs that leave the row unfinished.

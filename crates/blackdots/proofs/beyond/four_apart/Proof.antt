@@ -1,4 +1,6 @@
-use Rattle.blackdots.proofs.ByteOnes.{apart-joined}
+use Rattle.blackdots.proofs.ByteOnes.{masked-joined}
+use Prim.Native.Nat.{_+_, _*_}
+use mathlib.Core.Path.{_≡_}
 use native.Mathlib.Omega.{arith}
 use denote.Ref.{now}
 use borrow.Author.Needs.{needs}
@@ -9,17 +11,12 @@ returns : tie.Need-returns
 returns c =
     let v = c .two-apart2 in
     let w = c .before .two-apart in
-    let a = c .before .before .before .args in
-    (apart-joined 16 2 (a .n) (a .mask) (w .result) (v .result) (a .at) (now (a .b)) (w .ensures .0) (v .ensures .0) (w .ensures .1), omega (arith, w .ensures .1, v .ensures .1))
+    let a = c .before .before .before .args in (
+      λ m l.
+          let e : 16843009 * m ≡ 257 * m * 65536 + 257 * m = omega arith in
+          rw e (masked-joined 16 2 (a .n) m (257 * m) (w .result) (v .result) (a .at) (now (a .b)) (w .ensures .1) (omega (arith, l)) (w .ensures .0 m l) (v .ensures .0 m l)),
+      omega (arith, w .ensures .1, v .ensures .1),
+    )
 
 pub four-apart-spec : {M : Type 1} → statement M
-four-apart-spec =
-    tie.close
-    (tie.spec
-    (λ c κs. search needs)
-    (λ c. search needs)
-    (λ c. search needs)
-    (λ c κs. search needs)
-    (λ c. search needs)
-    (λ c. search needs)
-    returns)
+four-apart-spec = tie.close (tie.spec (λ c κs. search needs) (λ c. search needs) (λ c. search needs) (λ c κs. search needs) (λ c. search needs) (λ c. search needs) returns)

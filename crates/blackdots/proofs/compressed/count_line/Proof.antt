@@ -9,46 +9,44 @@ use Rattle.blackdots.proofs.compressed.count_line.Statement.{statement}
 use Rattle.blackdots.proofs.compressed.count_line.Tie as tie
 
 abbrev Inv-loop : tie.InvT-loop
-Inv-loop bytes from width at₀ filled₀ black₀ at filled black = Counting width bytes from at filled black
+Inv-loop bytes from width at₀ left₀ black₀ at left black = Counting width bytes from at left black
 
 abbrev μ-loop : tie.MeasureT-loop
-μ-loop bytes from width at₀ filled₀ black₀ at filled black = length bytes - at
+μ-loop bytes from width at₀ left₀ black₀ at left black = length bytes - at
 
 loop-holds : tie.Need-loop-holds Inv-loop μ-loop
 loop-holds c = c .begin-line .ensures
 
-add-filled : tie.Need-add-filled Inv-loop μ-loop
-add-filled c = omega (arith, c .before .before .before .loop .inv .fits, c .wide .ensures)
-
 returns : tie.Need-returns Inv-loop μ-loop
-returns c = c .ended .ensures ∙ white-last _ _ _ _ _ _ (c .before .before .before .before .before .loop .inv) (c .before .before .before .before .loop-test .taken) _ (c .before .before .wide .ensures .0) (c .before .if1 .taken)
+returns c =
+    let w = c .before .before in
+    let l = w .before .before .before in
+    c .ended .ensures ∙ white-last _ _ _ _ _ _ (l .loop .inv) (w .before .before .loop-test .taken) _ (w .wide .ensures .0) (c .before .if1 .taken)
 
 returns-2 : tie.Need-returns-2 Inv-loop μ-loop
-returns-2 c = white-unfinished _ _ _ _ _ _ (c .before .before .before .before .before .loop .inv) (c .before .before .before .before .loop-test .taken) _ (c .before .before .wide .ensures .0) (c .before .if1 .left) (c .if2 .taken)
-
-shared-slice-read-wide-2 : tie.Need-shared-slice-read-wide-2 Inv-loop μ-loop
-shared-slice-read-wide-2 c = omega arith
-
-add-filled-2 : tie.Need-add-filled-2 Inv-loop μ-loop
-add-filled-2 c = omega (arith, c .before .before .before .before .before .before .before .loop .inv .fits, c .before .before .before .before .wide .ensures, c .wide2 .ensures)
+returns-2 c =
+    let w = c .before .before in
+    let l = w .before .before .before in
+    white-unfinished _ _ _ _ _ _ (l .loop .inv) (w .before .before .loop-test .taken) _ (w .wide .ensures .0) (c .before .if1 .left) (c .if2 .taken)
 
 add-black : tie.Need-add-black Inv-loop μ-loop
-add-black c = omega (arith, c .before .before .before .before .before .before .before .loop .inv .fits, c .before .before .before .before .before .before .before .loop .inv .less, c .wide2 .ensures)
-
-add-ended-2 : tie.Need-add-ended-2 Inv-loop μ-loop
-add-ended-2 c = omega arith
+add-black c = omega (arith, c .before .before .before .before .before .before .before .loop .inv .less, c .wide2 .ensures)
 
 returns-3 : tie.Need-returns-3 Inv-loop μ-loop
-returns-3 c = c .ended2 .ensures ∙ black-last _ _ _ _ _ _ (c .before .before .before .before .before .before .before .before .before .loop .inv) (c .before .before .before .before .before .before .before .before .loop-test .taken) _ (c .before .before .before .before .before .before .wide .ensures .0) (c .before .before .before .before .before .if1 .left) (omega arith) _ (c .before .before .wide2 .ensures .0) (c .before .if3 .taken)
-
-add-at : tie.Need-add-at Inv-loop μ-loop
-add-at c = omega arith
-
-loop-less : tie.Need-loop-less Inv-loop μ-loop
-loop-less c = omega arith
+returns-3 c =
+    let s = c .before .before in
+    let i = s .before .before .before in
+    let w = i .before in
+    let l = w .before .before .before in
+    c .ended2 .ensures ∙ black-last _ _ _ _ _ _ (l .loop .inv) (w .before .before .loop-test .taken) _ (w .wide .ensures .0) (i .if1 .left) (omega arith) _ (s .wide2 .ensures .0) (c .before .if3 .taken)
 
 loop-again : tie.Need-loop-again Inv-loop μ-loop
-loop-again c = black-next _ _ _ _ _ _ (c .before .before .before .before .before .before .before .before .loop .inv) (c .before .before .before .before .before .before .before .loop-test .taken) _ (c .before .before .before .before .before .wide .ensures .0) (c .before .before .before .before .if1 .left) (omega arith) _ (c .before .wide2 .ensures .0) (c .if3 .left) (search needs)
+loop-again c =
+    let s = c .before in
+    let i = s .before .before .before in
+    let w = i .before in
+    let l = w .before .before .before in
+    black-next _ _ _ _ _ _ (l .loop .inv) (w .before .before .loop-test .taken) _ (w .wide .ensures .0) (i .if1 .left) (omega arith) _ (s .wide2 .ensures .0) (c .if3 .left)
 
 returns-4 : tie.Need-returns-4 Inv-loop μ-loop
 returns-4 c = counting-ends _ _ _ _ _ _ (c .before .loop .inv) (c .loop-test .left)
@@ -63,21 +61,21 @@ count-line-spec =
     loop-holds
     (λ c. search needs)
     (λ c κs. search needs)
-    add-filled
     (λ c. search needs)
     (λ c κs. search needs)
     returns
     (λ c. search needs)
     returns-2
     (λ c. search needs)
-    shared-slice-read-wide-2
+    (λ c. search needs)
+    (λ c. search needs)
     (λ c κs. search needs)
-    add-filled-2
     add-black
-    add-ended-2
+    (λ c. search needs)
     (λ c κs. search needs)
     returns-3
-    add-at
-    loop-less
+    (λ c. search needs)
+    (λ c. search needs)
+    (λ c. search needs)
     loop-again
     returns-4)

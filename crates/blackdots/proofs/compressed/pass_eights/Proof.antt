@@ -8,10 +8,10 @@ use Rattle.blackdots.proofs.compressed.pass_eights.Statement.{statement
 use Rattle.blackdots.proofs.compressed.pass_eights.Tie as tie
 
 abbrev Inv-loop : tie.InvT-loop
-Inv-loop bytes from width last at₀ filled₀ black₀ at filled black = Counting width bytes from at filled black
+Inv-loop bytes from width last at₀ left₀ black₀ at left black = Counting width bytes from at left black
 
 abbrev μ-loop : tie.MeasureT-loop
-μ-loop bytes from width last at₀ filled₀ black₀ at filled black = length bytes - at
+μ-loop bytes from width last at₀ left₀ black₀ at left black = length bytes - at
 
 loop-holds : tie.Need-loop-holds Inv-loop μ-loop
 loop-holds c = counting-starts _ _ _
@@ -27,9 +27,6 @@ four-runs-requires-2 c κs = omega (arith, c .before .before .before .less .ensu
 
 add-sum : tie.Need-add-sum Inv-loop μ-loop
 add-sum c = omega (arith, c .four-runs2 .ensures .1, c .before .four-runs .ensures .1)
-
-add-if1 : tie.Need-add-if1 Inv-loop μ-loop
-add-if1 c = omega (arith, c .four-runs2 .ensures .1, c .before .four-runs .ensures .1, c .before .before .before .loop .inv .fits)
 
 returns : tie.Need-returns Inv-loop μ-loop
 returns c = c .before .before .before .before .loop .inv
@@ -49,12 +46,7 @@ add-black c = omega (arith, c .black-of-four2 .ensures .1, c .before .black-of-f
 add-black-2 : tie.Need-add-black-2 Inv-loop μ-loop
 add-black-2 c =
     let l = c .before .before .before .before .before .before in
-    omega (arith, c .black-of-four2 .ensures .1, c .before .black-of-four .ensures .1, l .loop .inv .fits, l .loop .inv .less)
-
-add-filled : tie.Need-add-filled Inv-loop μ-loop
-add-filled c =
-    let l = c .before .before .before .before .before .before in
-    omega (arith, c .before .before .before .four-runs2 .ensures .1, c .before .before .before .before .four-runs .ensures .1, l .loop .inv .fits)
+    omega (arith, c .black-of-four2 .ensures .1, c .before .black-of-four .ensures .1, l .loop .inv .less)
 
 add-at : tie.Need-add-at Inv-loop μ-loop
 add-at c = omega (arith, c .before .before .before .before .before .before .before .less .ensures)
@@ -67,7 +59,7 @@ loop-again c =
     let f = c .before .before .before in
     let l = f .before .before .before in
     eight-next _ _ _ _ _ _ _ _ (l .loop .inv) (omega (arith, l .before .less .ensures)) (omega (arith, f .four-runs2 .ensures .0, f .before .four-runs .ensures .0))
-    (omega (arith, c .black-of-four2 .ensures .0, c .before .black-of-four .ensures .0)) (c .before .before .if1 .left) (search needs)
+    (omega (arith, c .black-of-four2 .ensures .0, c .before .black-of-four .ensures .0)) (c .before .before .if1 .left)
 
 returns-2 : tie.Need-returns-2 Inv-loop μ-loop
 returns-2 c = c .before .loop .inv
@@ -84,14 +76,13 @@ pass-eights-spec =
     add-four-runs
     four-runs-requires-2
     add-sum
-    add-if1
     returns
     black-of-four-requires
     add-black-of-four
     black-of-four-requires-2
     add-black
     add-black-2
-    add-filled
+    (λ c. search needs)
     add-at
     loop-less
     loop-again

@@ -1,7 +1,7 @@
 use Prim.Native.Nat.{_-_}
 use native.Mathlib.Omega.{arith}
 use Rattle.pictures.specs.Passing.{PassesRuns}
-use Rattle.pictures.proofs.Passing.{inside, runs-none, runs-then, runs-one, runs-two}
+use Rattle.pictures.proofs.Passing.{inside, runs-none, runs-then, runs-one, runs-two, runs-within}
 use borrow.Author.Needs.{needs}
 use Rattle.pictures.proofs.runs.Inside.pass_pairs.Statement.{statement}
 use Rattle.pictures.proofs.runs.Inside.pass_pairs.Tie as tie
@@ -30,11 +30,11 @@ shared-slice-read-wide-2 c = omega (arith, c .before .before .before .before .lo
 sub-if2 : tie.Need-sub-if2 Inv-loop μ-loop
 sub-if2 c = omega (arith, c .before .before .if1 .left)
 
-add-t15 : tie.Need-add-t15 Inv-loop μ-loop
-add-t15 c = omega (arith, c .before .before .before .before .before .before .loop-test .taken, c .before .before .before .before .before .before .before .before .before-last .ensures)
+add-t16 : tie.Need-add-t16 Inv-loop μ-loop
+add-t16 c = omega (arith, c .before .before .before .before .before .before .loop-test .taken, c .before .before .before .before .before .before .before .before .before-last .ensures)
 
-sub-t16 : tie.Need-sub-t16 Inv-loop μ-loop
-sub-t16 c = omega (arith, c .before .before .before .if1 .left)
+sub-t17 : tie.Need-sub-t17 Inv-loop μ-loop
+sub-t17 c = omega (arith, c .before .before .before .if1 .left)
 
 returns-2 : tie.Need-returns-2 Inv-loop μ-loop
 returns-2 c = let k = c .before .before .before .before .before .before .before .before .loop in
@@ -58,8 +58,11 @@ loop-again c = let k = c .before .before .before .before .before .before .before
     let b = c .before .before .before .before .before .before .before .before .before .before .args .self .black in
     rw (c .before .before .before .before .wide .ensures .0, c .before .wide2 .ensures .0) (runs-then _ _ (inside (k .at) (k .left) b) _ (k .inv) (runs-two _ (k .at) (k .left) b (omega (arith, c .before .before .before .before .before .before .loop-test .taken, c .before .before .before .before .before .before .before .before .before-last .ensures)) (omega (arith, c .before .before .before .if1 .left, c .if2 .left, c .before .before .before .before .wide .ensures .0, c .before .wide2 .ensures .0))))
 
+pass-one-requires : tie.Need-pass-one-requires Inv-loop μ-loop
+pass-one-requires c κs = runs-within _ _ _ (c .before .loop .inv)
+
 returns-3 : tie.Need-returns-3 Inv-loop μ-loop
-returns-3 c = c .before .loop .inv
+returns-3 c = runs-then _ _ _ _ (c .before .before .loop .inv) (c .pass-one .ensures)
 
 pub pass-pairs-spec : {M : Type 1} → statement M
 pass-pairs-spec =
@@ -76,12 +79,13 @@ pass-pairs-spec =
     shared-slice-read-wide-2
     (λ c κs. search needs)
     sub-if2
-    add-t15
-    sub-t16
+    add-t16
+    sub-t17
     returns-2
     add-left
     sub-left
     add-at
     loop-less
     loop-again
+    pass-one-requires
     returns-3)

@@ -2,16 +2,16 @@ use Rattle.blackdots.proofs.ByteOnes.{ones-split}
 use native.Mathlib.Omega.{arith}
 use denote.Ref.{now}
 use borrow.Author.Needs.{needs}
-use Rattle.blackdots.proofs.ones.add_sixteen.Statement.{statement}
-use Rattle.blackdots.proofs.ones.add_sixteen.Tie as tie
+use Rattle.blackdots.proofs.ones.add_bytes.Statement.{statement}
+use Rattle.blackdots.proofs.ones.add_bytes.Tie as tie
 
 returns : tie.Need-returns
 returns c =
     let a = c .before .before .before .before .args in
-    omega (arith, c .add-three .ensures, c .before .eight-at2 .ensures .0, c .before .before .eight-at .ensures .0, ones-split 8 8 (a .at) (now (a .b)))
+    omega (arith, c .add-pairs .ensures, c .before .pair-at2 .ensures, c .before .before .pair-at .ensures, ones-split 16 16 (a .at) (now (a .b)))
 
-pub add-sixteen-spec : {M : Type 1} → statement M
-add-sixteen-spec =
+pub add-bytes-spec : {M : Type 1} → statement M
+add-bytes-spec =
     tie.close
     (tie.spec
     (λ c κs. search needs)
