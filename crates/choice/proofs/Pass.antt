@@ -3,16 +3,17 @@ use Prim.Native.Nat.{ℕ, _+_, _≤_, _<_}
 use mathlib.Core.Path.{_≡_, refl, sym, ap, _∙_}
 use mathlib.Core.Logic.{_⊎_, inl, inr, ⊎-elim}
 use mathlib.Core.List.{List, [], _∷_, _++_}
-use mathlib.Core.Bool.{Bool, true, false, _&&_, _||_}
+use mathlib.Core.Bool.{Bool, true, false, cond, _&&_, _||_}
 use native.Mathlib.Omega.{arith}
 use lib.Dec.{eqb, ltb}
-use borrow.Author.Tests.{ltb-true, ltb-false, eqb-true, eqb-false, eq-eqb, ne-eqb, le-ltb}
+use borrow.Author.Tests.{lt-ltb, ltb-true, ltb-false, eqb-true, eqb-false, eq-eqb, ne-eqb, le-ltb}
 use Rattle.choice.specs.Candidates.{Candidate}
 use Rattle.choice.specs.Lists.{In}
 use Rattle.choice.specs.Steps.{hasSet, hasSpacing, fontsLeft, choice, takesPart}
-use Rattle.choice.specs.Scores.{majorOf, minorOf, scoreOf, comesBefore, better, noMajor, noScore, weighed, pass, scoreAnswer}
+use Rattle.choice.specs.Scores.{majorOf, minorOf, scoreOf, comesBefore, better, betterAt, noMajor, noScore, weighed, weighedAt, pass, scoreAnswer}
 use Rattle.choice.specs.Right.{Keyed}
 use Rattle.choice.specs.declared.Request.{Request}
+use Rattle.choice.specs.declared.BestSoFar.{BestSoFar}
 use Rattle.choice.specs.declared.Score.{Score}
 use Rattle.choice.specs.declared.Chosen.the-variants.{Number}
 use Rattle.choice.proofs.Least.{whether, carry, not-both, miss-bound}
@@ -47,8 +48,7 @@ which b s =
     (whether (comesBefore s b))
 
 -- a score that a higher number of steps 1 to 3 puts behind needs no other number
-behind : (b s : Score) → b .major < s .major → better b s ≡ b
-unfolding better
+behind : (b s : Score) → b .major < s .major → comesBefore s b ≡ false
 behind b s h = simp (le-ltb (s .major) (b .major) (omega arith), ne-eqb (s .major) (b .major) (λ e. omega arith))
 
 major-bound : (r : Request) (f : Candidate) → majorOf r f < noMajor
@@ -135,26 +135,130 @@ module _ (r : Request) where
       passes l (weighed r b f) (n .0) (n .1) (n .2) ∙ n .3
 
   -- the pass over all the fonts gives the choice
-  pub once : (l : List Candidate) → Keyed l → scoreAnswer (pass r noScore l) ≡ choice r l
-  once l kd = passes l noScore [] (nothing refl) kd
+  pub once : (p : Bool) (l : List Candidate) → Keyed l → scoreAnswer (pass r (noScore p) l) ≡ choice r l
+  once p l kd = passes l (noScore p) [] (nothing refl) kd
 
--- a pass over two lists, one after the other
-pub pass-append : (r : Request) (b : Score) (l k : List Candidate) → pass r b (l ++ k) ≡ pass r (pass r b l) k
-unfolding pass
-pass-append r b [] k = refl
-pass-append r b (f ∷ l) k = pass-append r (weighed r b f) l k
+-- ── a pass over two lists is the better of a pass over each
+-- the test by two numbers and what follows, from the order
+decides : (a b : ℕ) (rest : Bool) → a ≤ b → (b ≤ a → rest ≡ true) → (ltb a b || (eqb a b && rest)) ≡ true
+decides a b rest h f = go (ltb a b) refl (eqb a b) refl
+  where
+    go : (p : Bool) → ltb a b ≡ p → (q : Bool) → eqb a b ≡ q → (p || (q && rest)) ≡ true
+    go true e q u = refl
+    go false e true u = f (ltb-false a b e)
+    go false e false u = absurd (omega (arith, ltb-false a b e, eqb-false a b u))
+
+undecides : (a b : ℕ) (rest : Bool) → b ≤ a → (a ≤ b → rest ≡ false) → (ltb a b || (eqb a b && rest)) ≡ false
+undecides a b rest h f = rw (le-ltb a b h) (go (eqb a b) refl)
+  where
+    go : (q : Bool) → eqb a b ≡ q → (q && rest) ≡ false
+    go true u = f (omega (arith, eqb-true a b u))
+    go false u = refl
+
+module _ (a b c : ℕ) {p q r : Bool} where
+  decided-both : (ltb a b || (eqb a b && p)) ≡ true → (ltb b c || (eqb b c && q)) ≡ true → (p ≡ true → q ≡ true → r ≡ true)
+      → (ltb a c || (eqb a c && r)) ≡ true
+  decided-both h k f =
+      let x = decided a b p h (λ u. u) in
+      let y = decided b c q k (λ u. u) in
+      decides a c r (omega (arith, x .0, y .0)) (λ z. f (x .1 (omega (arith, y .0))) (y .1 (omega (arith, x .0))))
+
+  undecided-both : (ltb a b || (eqb a b && p)) ≡ false → (ltb b c || (eqb b c && q)) ≡ false → (p ≡ false → q ≡ false → r ≡ false)
+      → (ltb a c || (eqb a c && r)) ≡ false
+  undecided-both h k f =
+      let x = undecided a b p h (λ u. u) in
+      let y = undecided b c q k (λ u. u) in
+      undecides a c r (omega (arith, x .0, y .0)) (λ z. f (x .1 (omega (arith, y .0))) (y .1 (omega (arith, x .0))))
+
+before-before : (a b c : Score) → comesBefore a b ≡ true → comesBefore b c ≡ true → comesBefore a c ≡ true
+before-before a b c h k =
+    decided-both (a .major) (b .major) (c .major) h k
+    (λ u v. decided-both (a .minor) (b .minor) (c .minor) u v
+    (λ x y. lt-ltb (a .number) (c .number) (omega (arith, ltb-true (a .number) (b .number) x, ltb-true (b .number) (c .number) y))))
+
+not-not-before : (a b c : Score) → comesBefore a b ≡ false → comesBefore b c ≡ false → comesBefore a c ≡ false
+not-not-before a b c h k =
+    undecided-both (a .major) (b .major) (c .major) h k
+    (λ u v. undecided-both (a .minor) (b .minor) (c .minor) u v
+    (λ x y. le-ltb (a .number) (c .number) (omega (arith, ltb-false (a .number) (b .number) x, ltb-false (b .number) (c .number) y))))
+
+better-of-three : (b x y : Score) → better (better b x) y ≡ better b (better x y)
+unfolding better
+better-of-three b x y = go (comesBefore x b) refl (comesBefore y x) refl
+  where
+    go : (p : Bool) → comesBefore x b ≡ p → (q : Bool) → comesBefore y x ≡ q
+        → cond (comesBefore y (cond p x b)) y (cond p x b) ≡ cond (comesBefore (cond q y x) b) (cond q y x) b
+    go true e true u = rw (u, before-before y x b u e) refl
+    go true e false u = rw (u, e) refl
+    go false e true u = refl
+    go false e false u = rw (e, not-not-before y x b u e) refl
+
+-- no font, or the score of one
+Known : Score → Type 0
+Known b = ((p : Bool) × (b ≡ noScore p)) ⊎ (b .major < noMajor)
+
+better-than-none : (p : Bool) (b : Score) → Known b → better b (noScore p) ≡ b
+unfolding better Known
+better-than-none p b (inl (q, e)) = rw e refl
+better-than-none p b (inr h) = rw (behind b (noScore p) h) refl
+
+none-so-far : (p : Bool) (s : Score) → s .major < noMajor → better (noScore p) s ≡ s
+unfolding better
+none-so-far p s h = rw (lt-ltb (s .major) noMajor h) refl
+
+module _ (r : Request) where
+  bound : (f : Candidate) → scoreOf r f .major < noMajor
+  unfolding scoreOf
+  bound f = major-bound r f
+
+  known-font : (f : Candidate) → Known (scoreOf r f)
+  unfolding Known
+  known-font f = inr (bound f)
+
+  known-next : (b : Score) (f : Candidate) → Known b → Known (weighed r b f)
+  unfolding weighed
+  known-next b f k = go (takesPart r f)
+    where
+      better-known : Known (better b (scoreOf r f))
+      better-known = ⊎-elim (λ w. rw (w .0) (known-font f)) (λ w. rw (w .0) k) (which b (scoreOf r f))
+
+      go : (t : Bool) → Known (cond t (better b (scoreOf r f)) b)
+      go true = better-known
+      go false = k
+
+  pass-from : (p : Bool) (l : List Candidate) (b : Score) → Known b → pass r b l ≡ better b (pass r (noScore p) l)
+  unfolding pass weighed
+  pass-from p [] b k = sym (better-than-none p b k)
+  pass-from p (f ∷ l) b k =
+      ⊎-elim
+      (λ t.
+      pass-from p l (weighed r b f) (known-next b f k)
+      ∙ rw t (better-of-three b (scoreOf r f) (pass r (noScore p) l)
+      ∙ ap (better b) (sym (pass-from p l (scoreOf r f) (known-font f)))
+      ∙ ap (λ (x : Score). better b (pass r x l)) (sym (none-so-far p (scoreOf r f) (bound f)))))
+      (λ t. rw t (pass-from p l b k))
+      (whether (takesPart r f))
+
+  passes-joined : (p : Bool) (l k : List Candidate) (b : Score) → Known b → pass r b (l ++ k) ≡ better (pass r b l) (pass r (noScore p) k)
+  unfolding pass
+  passes-joined p [] k b h = pass-from p k b h
+  passes-joined p (f ∷ l) k b h = passes-joined p l k (weighed r b f) (known-next b f h)
+
+  pub of-two-lists : (l k : List Candidate) → pass r (noScore true) (l ++ k) ≡ better (pass r (noScore true) l) (pass r (noScore false) k)
+  unfolding Known
+  of-two-lists l k = passes-joined false l k (noScore true) (inl (true, refl))
 
 -- one font more, from what the code's calls give
-module _ (r : Request) (b : Score) (f : Candidate) where
-  pub weighed-out : takesPart r f ≡ false → b ≡ weighed r b f
-  unfolding weighed
+module _ (r : Request) (b : BestSoFar) (f : Candidate) (k : ℕ) where
+  pub weighed-out : takesPart r f ≡ false → b ≡ weighedAt r b f k
+  unfolding weighedAt
   weighed-out t = rw t
 
   module _ (t : takesPart r f ≡ true) (m : ℕ) (em : m ≡ majorOf r f) where
-    pub weighed-behind : b .major < m → b ≡ weighed r b f
-    unfolding weighed scoreOf
-    weighed-behind h = rw (t, behind b (scoreOf r f) (rw em at h))
+    pub weighed-behind : b .best .major < m → b ≡ weighedAt r b f k
+    unfolding weighedAt betterAt scoreOf
+    weighed-behind h = rw (t, behind (b .best) (scoreOf r f) (rw em at h))
 
-    pub weighed-in : (k : ℕ) → k ≡ minorOf r f → (s : Score) → s ≡ better b (record { major = m; minor = k; number = f .number; soft = f .soft }) → s ≡ weighed r b f
-    unfolding weighed scoreOf
-    weighed-in k ek s es = rw (t, ← em, ← ek) es
+    pub weighed-in : (n : ℕ) → n ≡ minorOf r f → (x : BestSoFar) → x ≡ betterAt b (record { major = m; minor = n; number = f .number; soft = f .soft }) k → x ≡ weighedAt r b f k
+    unfolding weighedAt scoreOf
+    weighed-in n en x ex = rw (t, ← em, ← en) ex

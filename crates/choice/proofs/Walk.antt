@@ -1,13 +1,12 @@
 -- The pass along the run of a store's records, from what the store promises of each font. Assumes nothing.
 use Prim.Native.Nat.{ℕ, _+_, _-_}
 use mathlib.Core.Path.{_≡_, refl, sym, ap, _∙_}
-use mathlib.Core.Logic.{_⊎_, inl, inr, ⊎-elim}
 use mathlib.Core.List.{List}
 use mathlib.Core.Bool.{Bool, true, false, cond}
 use native.Mathlib.Omega.{arith}
 use lib.ListN.{take, drop}
 use lib.Dec.{eqb}
-use borrow.Author.Tests.{eqb-true, eqb-false, eq-eqb}
+use borrow.Author.Tests.{eqb-false}
 use Rattle.form.specs.Records.{Begun}
 use Rattle.form.specs.Fonts.{Font, fontsAt, fontsOf, Onward}
 use Rattle.form.specs.declared.records.Begin.{Begin}
@@ -21,15 +20,16 @@ use Rattle.choice.specs.Request.{inRange}
 use Rattle.choice.specs.Choosing.{choosingAmong, choosing}
 use Rattle.choice.specs.Steps.{takesPart}
 use Rattle.choice.specs.Right.{Keyed}
-use Rattle.choice.specs.Scores.{scoreOf, comesBefore, better, noMajor, noScore, weighed, pass, scoreAnswer, keptPlace, StandsAt, earlier, here, PickedAt}
+use Rattle.choice.specs.Scores.{scoreOf, comesBefore, better, betterAt, noMajor, noScore, weighed, weighedAt, pass, scoreAnswer, keptPlace, StandsAt, nowhere, here, PickedAt}
 use Rattle.choice.specs.declared.Request.{Request}
+use Rattle.choice.specs.declared.BestSoFar.{BestSoFar}
 use Rattle.choice.specs.declared.Score.{Score}
 use Rattle.choice.specs.declared.Picked.{Picked}
 use Rattle.choice.specs.declared.Chosen.{Chosen}
 use Rattle.choice.specs.declared.Chosen.the-variants.{Number, NotStore as not-store, OutOfRange, NoFont}
 use Rattle.choice.proofs.Least.{not-both}
 use Rattle.choice.proofs.Choice.{rising-keyed, two-keyed}
-use Rattle.choice.proofs.Pass.{once, pass-append}
+use Rattle.choice.proofs.Pass.{once, of-two-lists}
 
 module _ (s : List ℕ) (at : ℕ) (v : NextFont) (h : Onward s at v) where
   -- a font was met
@@ -51,72 +51,70 @@ module _ (s : List ℕ) (at : ℕ) (v : NextFont) (h : Onward s at v) where
   stops e soft r best end i = let none-left : Onward s at End = rw e at h in sym (ap (λ (l : List Font). pass r best (candidates soft l)) none-left) ∙ i
 
 -- ── where the best stands
-weighed-or : (r : Request) (b : Score) (f : Candidate) → (weighed r b f ≡ b) ⊎ (weighed r b f ≡ scoreOf r f)
-unfolding weighed better
-weighed-or r b f = go (takesPart r f) (comesBefore (scoreOf r f) b)
-  where
-    go : (t u : Bool) → (cond t (cond u (scoreOf r f) b) b ≡ b) ⊎ (cond t (cond u (scoreOf r f) b) b ≡ scoreOf r f)
-    go true true = inr refl
-    go true false = inl refl
-    go false u = inl refl
+module _ (r : Request) (b : BestSoFar) (f : Candidate) (k : ℕ) where
+  -- one font more, whose kept bytes stand at k
+  abbrev weighing : Bool → Bool → BestSoFar
+  weighing t u = cond t (cond u (record { best = scoreOf r f; kept = k }) b) b
 
-module _ (s : List ℕ) (soft : Bool) (first best new : Score) (n : ℕ) where
-  -- one font more, number n, whose kept bytes stand at k
-  pub stands-next : (r : Request) (h : List ℕ) → new ≡ weighed r best (record { soft = soft; number = n; kept = h }) → (at k : ℕ) → StandsAt s soft first best at → k ≡ keptPlace n s
-      → StandsAt s soft first new (cond (eqb (new .number) n) k at)
-  unfolding scoreOf
-  stands-next r h e at k x i = ⊎-elim (λ q. stays (e ∙ q) x) (λ q. fresh (e ∙ q)) (weighed-or r best (record { soft = soft; number = n; kept = h }))
+  pub weighed-best : weighedAt r b f k .best ≡ weighed r (b .best) f
+  unfolding weighedAt betterAt weighed better
+  weighed-best = go (takesPart r f) (comesBefore (scoreOf r f) (b .best))
     where
-      by : (t : Bool) → eqb (new .number) n ≡ t → new .soft ≡ soft → at ≡ keptPlace (new .number) s → StandsAt s soft first new (cond t k at)
-      by true q p z = here p (i ∙ ap (λ (y : ℕ). keptPlace y s) (sym (eqb-true _ _ q)))
-      by false q p z = here p z
+      go : (t u : Bool) → weighing t u .best ≡ cond t (cond u (scoreOf r f) (b .best)) (b .best)
+      go true true = refl
+      go true false = refl
+      go false u = refl
 
-      fresh : new ≡ scoreOf r (record { soft = soft; number = n; kept = h }) → StandsAt s soft first new (cond (eqb (new .number) n) k at)
-      fresh q =
-          let m : new .number ≡ n = ap (λ (y : Score). y .number) q in
-          here (ap (λ (y : Score). y .soft) q) (rw (eq-eqb (new .number) n m) (i ∙ ap (λ (y : ℕ). keptPlace y s) (sym m)))
-
-      stays : new ≡ best → StandsAt s soft first best at → StandsAt s soft first new (cond (eqb (new .number) n) k at)
-      stays q (earlier z) = earlier (q ∙ z)
-      stays q (here p z) = by (eqb (new .number) n) refl (ap (λ (y : Score). y .soft) q ∙ p) (z ∙ ap (λ (y : Score). keptPlace (y .number) s) (sym q))
+  pub stands-next : (s : List ℕ) → StandsAt s (f .soft) (b .best) (b .kept) → k ≡ keptPlace (f .number) s
+      → StandsAt s (f .soft) (weighedAt r b f k .best) (weighedAt r b f k .kept)
+  unfolding weighedAt betterAt scoreOf
+  stands-next s x i = go (takesPart r f) (comesBefore (scoreOf r f) (b .best))
+    where
+      go : (t u : Bool) → StandsAt s (f .soft) (weighing t u .best) (weighing t u .kept)
+      go true true = here refl i
+      go true false = x
+      go false u = x
 
 -- the score that an answer names
-named : (x : Score) (p : Bool) (n : ℕ) → scoreAnswer x ≡ Number p n → (x .soft ≡ p) × (x .number ≡ n) × (x ≡ noScore → ⊥)
+named : (x : Score) (p : Bool) (n : ℕ) → scoreAnswer x ≡ Number p n → (x .soft ≡ p) × (x .number ≡ n) × (x .major ≡ noMajor → ⊥)
 named x p n e = go (eqb (x .major) noMajor) refl e
   where
-    go : (t : Bool) → eqb (x .major) noMajor ≡ t → cond t NoFont (Number (x .soft) (x .number)) ≡ Number p n → (x .soft ≡ p) × (x .number ≡ n) × (x ≡ noScore → ⊥)
+    go : (t : Bool) → eqb (x .major) noMajor ≡ t → cond t NoFont (Number (x .soft) (x .number)) ≡ Number p n → (x .soft ≡ p) × (x .number ≡ n) × (x .major ≡ noMajor → ⊥)
     go true q f = let z : _≡_ {A = ℕ} 0 1 = cc in absurd (omega arith)
-    go false q f = (cc, cc, λ z. eqb-false (x .major) noMajor q (ap (λ (y : Score). y .major) z))
+    go false q f = (cc, cc, eqb-false (x .major) noMajor q)
 
--- the best of two passes, from no font on
-module _ (s t : List ℕ) (none one two : Score) (a b : ℕ) (e : none ≡ noScore) (x : StandsAt s true none one a) (y : StandsAt t false one two b) where
-  in-soft : (n : ℕ) → scoreAnswer two ≡ Number true n → a ≡ keptPlace n s
-  in-soft n q = second y
+stood : (s : List ℕ) (soft : Bool) (x : Score) (at : ℕ) → StandsAt s soft x at → (p : Bool) (n : ℕ) → scoreAnswer x ≡ Number p n → (soft ≡ p) × (at ≡ keptPlace n s)
+stood s soft x at (nowhere e) p n q = absurd (named x p n q .2 e)
+stood s soft x at (here e i) p n q = (sym e ∙ named x p n q .0, i ∙ ap (λ (m : ℕ). keptPlace m s) (named x p n q .1))
+
+-- the better of the best of two stores
+module _ (a b : BestSoFar) where
+  pub better-best : betterAt a (b .best) (b .kept) .best ≡ better (a .best) (b .best)
+  unfolding betterAt better
+  better-best = go (comesBefore (b .best) (a .best))
     where
-      first : two ≡ one → StandsAt s true none one a → a ≡ keptPlace n s
-      first z (earlier w) = absurd (named two true n q .2 (z ∙ w ∙ e))
-      first z (here p w) = w ∙ ap (λ (m : ℕ). keptPlace m s) (ap (λ (u : Score). u .number) (sym z) ∙ named two true n q .1)
+      go : (u : Bool) → cond u b a .best ≡ cond u (b .best) (a .best)
+      go true = refl
+      go false = refl
 
-      second : StandsAt t false one two b → a ≡ keptPlace n s
-      second (earlier z) = first z x
-      second (here p z) = absurd (not-both (two .soft) (named two true n q .0) p)
-
-  in-cartridge : (n : ℕ) → scoreAnswer two ≡ Number false n → b ≡ keptPlace n t
-  in-cartridge n q = second y
+  pub picked : (s t : List ℕ) → StandsAt s true (a .best) (a .kept) → StandsAt t false (b .best) (b .kept) → (p : Picked)
+      → p .chosen ≡ scoreAnswer (betterAt a (b .best) (b .kept) .best) → p .kept ≡ betterAt a (b .best) (b .kept) .kept → PickedAt s t p
+  unfolding betterAt
+  picked s t x y p f g n = go (comesBefore (b .best) (a .best)) f g
     where
-      not-one : two ≡ one → StandsAt s true none one a → ⊥
-      not-one z (earlier w) = named two false n q .2 (z ∙ w ∙ e)
-      not-one z (here p w) = not-both (two .soft) (ap (λ (u : Score). u .soft) z ∙ p) (named two false n q .0)
+      not-both-stores : true ≡ false → ⊥
+      not-both-stores z = not-both true refl z
 
-      second : StandsAt t false one two b → b ≡ keptPlace n t
-      second (earlier z) = absurd (not-one z x)
-      second (here p z) = z ∙ ap (λ (m : ℕ). keptPlace m t) (named two false n q .1)
-
-  pub picked : (p : Picked) → p .chosen ≡ scoreAnswer two → p .kept ≡ cond (two .soft) a b → PickedAt s t p
-  picked p f g n = (
-    λ h. let q : scoreAnswer two ≡ Number true n = sym f ∙ h in g ∙ rw (named two true n q .0) (in-soft n q),
-    λ h. let q : scoreAnswer two ≡ Number false n = sym f ∙ h in g ∙ rw (named two false n q .0) (in-cartridge n q),
-  )
+      go : (u : Bool) → p .chosen ≡ scoreAnswer (cond u b a .best) → p .kept ≡ cond u b a .kept
+          → (p .chosen ≡ Number true n → p .kept ≡ keptPlace n s) × (p .chosen ≡ Number false n → p .kept ≡ keptPlace n t)
+      go true f g = (
+        λ h. absurd (not-both-stores (sym (stood t false (b .best) (b .kept) y true n (sym f ∙ h) .0))),
+        λ h. g ∙ stood t false (b .best) (b .kept) y false n (sym f ∙ h) .1,
+      )
+      go false f g = (
+        λ h. g ∙ stood s true (a .best) (a .kept) x true n (sym f ∙ h) .1,
+        λ h. absurd (not-both-stores (stood s true (a .best) (a .kept) x false n (sym f ∙ h) .0)),
+      )
 
 pub picked-none : (s t : List ℕ) (p : Picked) → p .chosen ≡ OutOfRange → PickedAt s t p
 picked-none s t p e n = (λ h. let z : _≡_ {A = ℕ} 0 1 = cc in absurd (omega arith), λ h. let z : _≡_ {A = ℕ} 0 1 = cc in absurd (omega arith))
@@ -127,9 +125,9 @@ module _ (l : List Candidate) (r : Request) where
   unfolding choosingAmong
   out-of-range t = rw t
 
-  pub chooses : Keyed l → inRange r ≡ true → (best : Score) → best ≡ pass r noScore l → (a : Chosen) → a ≡ scoreAnswer best → a ≡ choosingAmong l r
+  pub chooses : Keyed l → inRange r ≡ true → (p : Bool) (best : Score) → best ≡ pass r (noScore p) l → (a : Chosen) → a ≡ scoreAnswer best → a ≡ choosingAmong l r
   unfolding choosingAmong
-  chooses kd t best b a f = rw t (f ∙ ap scoreAnswer b ∙ once r l kd)
+  chooses kd t p best b a f = rw t (f ∙ ap scoreAnswer b ∙ once r p l kd)
 
 -- those of one store have numbers of their own, and those of two
 pub store-keyed : (p : Bool) (s : List ℕ) → Keyed (candidates p (fontsOf s))
@@ -139,16 +137,15 @@ pub stores-keyed : (s t : List ℕ) → Keyed (ofBoth (fontsOf s) (fontsOf t))
 stores-keyed s t = two-keyed (fontsOf s) (fontsOf t) (store-keyed true s) (store-keyed false t)
 
 -- one pass over the fonts of a store, whose run begins at p
-pub one-pass : (s : List ℕ) (r : Request) (p : ℕ) → Begun s (At p) → (none best : Score) → none ≡ noScore → best ≡ pass r none (candidates true (fontsAt s p))
-    → best ≡ pass r noScore (candidates true (fontsOf s))
-one-pass s r p h none best e f = f ∙ rw (e, fonts-begun s p h)
+pub one-pass : (s : List ℕ) (r : Request) (p : ℕ) → Begun s (At p) → (soft : Bool) (best : Score) → best ≡ pass r (noScore soft) (candidates soft (fontsAt s p))
+    → best ≡ pass r (noScore soft) (candidates soft (fontsOf s))
+one-pass s r p h soft best f = f ∙ rw (fonts-begun s p h)
 
--- and one over those of another that goes on from there
-pub two-passes : (s t : List ℕ) (r : Request) (p q : ℕ) → Begun s (At p) → Begun t (At q) → (none first best : Score) → none ≡ noScore
-    → first ≡ pass r none (candidates true (fontsAt s p)) → best ≡ pass r first (candidates false (fontsAt t q)) → best ≡ pass r noScore (ofBoth (fontsOf s) (fontsOf t))
+-- the better of the best of each is the best of both
+pub two-passes : (s t : List ℕ) (r : Request) (a b best : Score) → a ≡ pass r (noScore true) (candidates true (fontsOf s))
+    → b ≡ pass r (noScore false) (candidates false (fontsOf t)) → best ≡ better a b → best ≡ pass r (noScore true) (ofBoth (fontsOf s) (fontsOf t))
 unfolding ofBoth
-two-passes s t r p q h k none first best e f g =
-    g ∙ rw (one-pass s r p h none first e f, fonts-begun t q k) (sym (pass-append r noScore (candidates true (fontsOf s)) (candidates false (fontsOf t))))
+two-passes s t r a b best e f g = g ∙ rw (e, f) (sym (of-two-lists r (candidates true (fontsOf s)) (candidates false (fontsOf t))))
 
 -- the answers on a buffer, by where the run begins
 module _ (s : List ℕ) (r : Request) (v : Begin) (h : Begun s v) where

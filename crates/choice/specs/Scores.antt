@@ -17,6 +17,7 @@ use Rattle.choice.specs.Fields.{headerOf, isFixed, isFine, comparedPitch
 use Rattle.choice.specs.Steps.{hasSet, hasSpacing, qualifies, heightOff, hasStyle, exact, isThicker, isThinner, hasTypeface, hasOrientation, takesPart}
 use Rattle.choice.specs.declared.Request.{Request}
 use Rattle.choice.specs.declared.Score.{Score}
+use Rattle.choice.specs.declared.BestSoFar.{BestSoFar}
 use Rattle.choice.specs.declared.Picked.{Picked}
 use Rattle.choice.specs.declared.Chosen.{Chosen}
 use Rattle.choice.specs.declared.Chosen.the-variants.{Number, NoFont}
@@ -103,16 +104,23 @@ comesBefore a b =
 unfoldable pub better : Score → Score → Score
 better best s = cond (comesBefore s best) s best
 
--- no font so far: a number of the steps up to pitch that is above that of every font
+-- no font so far, in a store: a number of the steps up to pitch that is above that of every font
 abbrev pub noMajor : ℕ
 noMajor = 4 * pitchBase
 
-abbrev pub noScore : Score
-noScore = record { major = noMajor; minor = 0; number = 0; soft = true }
+abbrev pub noScore : Bool → Score
+noScore p = record { major = noMajor; minor = 0; number = 0; soft = p }
 
 -- the best so far after one more font, and after all fonts of a list
 unfoldable pub weighed : Request → Score → Candidate → Score
 weighed r best f = cond (takesPart r f) (better best (scoreOf r f)) best
+
+-- the same with the place k where its kept bytes stand
+unfoldable pub betterAt : BestSoFar → Score → ℕ → BestSoFar
+betterAt b s k = cond (comesBefore s (b .best)) (record { best = s; kept = k }) b
+
+unfoldable pub weighedAt : Request → BestSoFar → Candidate → ℕ → BestSoFar
+weighedAt r b f k = cond (takesPart r f) (betterAt b (scoreOf r f) k) b
 
 unfoldable pub pass : Request → Score → List Candidate → Score
 pass r best [] = best
@@ -126,10 +134,10 @@ scoreAnswer s = cond (eqb (s .major) noMajor) NoFont (Number (s .soft) (s .numbe
 abbrev pub keptPlace : ℕ → List ℕ → ℕ
 keptPlace n s = fontPlace n (recordsIn s) + fontKeptAt
 
--- after a pass over fonts of the store s the best is the one before it, or one of s, whose kept bytes stand at a place
-pub data StandsAt (s : List ℕ) (soft : Bool) (first best : Score) (at : ℕ) : Type 0 where
-  earlier : best ≡ first → StandsAt s soft first best at
-  here : best .soft ≡ soft → at ≡ keptPlace (best .number) s → StandsAt s soft first best at
+-- after a pass over fonts of the store s the best is none, or one of s, whose kept bytes stand at a place
+pub data StandsAt (s : List ℕ) (soft : Bool) (best : Score) (at : ℕ) : Type 0 where
+  nowhere : best .major ≡ noMajor → StandsAt s soft best at
+  here : best .soft ≡ soft → at ≡ keptPlace (best .number) s → StandsAt s soft best at
 
 -- the font that a choice from the stores s and t names stands where it says
 abbrev pub PickedAt : List ℕ → List ℕ → Picked → Type 0

@@ -5,7 +5,7 @@ use form::kept_fonts::NextFont;
 use form::records::Begin;
 ghost use Prim.Native.Nat.{ℕ, _+_, _*_, _%_, _^_, _<_, _≤_};
 ghost use mathlib.Core.Path.{_≡_};
-ghost use mathlib.Core.Bool.{Bool, true, cond};
+ghost use mathlib.Core.Bool.{Bool, true};
 ghost use lib.Dec.{eqb, leb, ltb};
 ghost use lib.ListN.{length};
 ghost use Rattle.blocks.specs.Field.{byte, word, join as joinOf};
@@ -18,7 +18,7 @@ ghost use Rattle.choice.specs.Fields.{asBytes, isFine, compared as compa
 ghost use Rattle.choice.specs.Steps.{pitchTestLimit, heightDistance, inMode, takesPart};
 ghost use Rattle.choice.specs.Candidates.{candidates, ofBoth};
 ghost use Rattle.choice.specs.Choosing.{choosingAmong, choosing};
-ghost use Rattle.choice.specs.Scores.{miss as missOf, mostCompared, pitchBase, pitchNumber, heightBound, weightBase, weightNumber, weightScore, majorOf, minorOf, better as betterOf, noScore, weighed, pass, scoreAnswer, StandsAt, PickedAt};
+ghost use Rattle.choice.specs.Scores.{miss as missOf, mostCompared, pitchBase, pitchNumber, heightBound, weightBase, weightNumber, weightScore, majorOf, minorOf, betterAt, noScore, weighedAt, pass, scoreAnswer, StandsAt, PickedAt};
 
 const ROMAN_8: u32 = 277;
 
@@ -97,7 +97,7 @@ struct Score {
     soft: bool,
 }
 
-// The best of all fonts up to here, and where its kept bytes stand, if it is of the store that was passed over last.
+// The best of all fonts up to here, and where its kept bytes stand in the store that holds it.
 struct BestSoFar {
     best: Score,
     kept: usize,
@@ -281,14 +281,22 @@ fn minor_of(f: &[u8], soft: bool, r: Request) -> u64
     ((looks * 2 + resolution) * 2 + store) * 2 + orientation
 }
 
-// The one of the two that comes first; best, where they are level.
-fn better(best: Score, s: Score) -> Score
-    ensures { λ r. ⌜ r ≡ betterOf best s ⌝ }
+// The one of the two that comes first, with the place where its kept bytes stand; the best so far, where they are level.
+fn better(b: BestSoFar, s: Score, kept: usize) -> BestSoFar
+    ensures { λ r. ⌜ r ≡ betterAt b s kept ⌝ }
 {
+    let best = b.best;
     let level = (s.minor == best.minor) & (s.number < best.number);
     let later = (s.major == best.major) & ((s.minor < best.minor) | level);
     let first = (s.major < best.major) | later;
-    if first { s } else { best }
+    if first {
+        BestSoFar {
+            best: s,
+            kept: kept,
+        }
+    } else {
+        b
+    }
 }
 
 // Whether the mode lets a font take part.
@@ -308,65 +316,61 @@ fn takes_part(f: &[u8], r: Request) -> bool
     ((set == r.symbol_set) | (set == ROMAN_8)) & in_mode(f, r)
 }
 
-// The best so far after one more font, whose kept bytes f are.
-fn weigh(best: Score, f: &[u8], soft: bool, number: u32, r: Request) -> Score
+// The best so far after one more font, whose kept bytes f are and stand at a place.
+fn weigh(b: BestSoFar, f: &[u8], soft: bool, number: u32, kept: usize, r: Request) -> BestSoFar
     requires { ⌜ (length (now f) ≡ headerBytes) × (inRange r ≡ true) ⌝ }
-    ensures { λ s. ⌜ s ≡ weighed r best (record { soft = soft; number = number; kept = now (f .entry) }) ⌝ }
+    ensures { λ x. ⌜ x ≡ weighedAt r b (record { soft = soft; number = number; kept = now (f .entry) }) kept ⌝ }
 {
     if takes_part(f, r) {
         let major = major_of(f, r);
+        let best = b.best;
         if best.major < major {
-            return best;
+            return b;
         }
         let minor = minor_of(f, soft, r);
         better(
-            best,
+            b,
             Score {
                 major,
                 minor,
                 number,
                 soft,
             },
+            kept,
         )
     } else {
-        best
+        b
     }
-}
-
-// One of two places.
-fn either(first: bool, a: usize, b: usize) -> usize
-    ensures { λ r. ⌜ r ≡ cond first a b ⌝ }
-{
-    if first { a } else { b }
 }
 
 // No font so far.
-fn nothing() -> Score
-    ensures { λ b. ⌜ b ≡ noScore ⌝ }
+fn nothing(soft: bool) -> BestSoFar
+    ensures { λ b. ⌜ b .best ≡ noScore soft ⌝ }
 {
-    Score {
-        major: NO_MAJOR,
-        minor: 0,
-        number: 0,
-        soft: true,
+    BestSoFar {
+        best: Score {
+            major: NO_MAJOR,
+            minor: 0,
+            number: 0,
+            soft,
+        },
+        kept: 0,
     }
 }
 
-// The best of the best so far and the fonts from a place of a store on, in one pass; and where its kept bytes stand, if it is one of these.
-fn scan(s: &[u8], from: usize, soft: bool, first: Score, r: Request) -> BestSoFar
+// The best of the fonts from a place of a store on, in one pass.
+fn scan(s: &[u8], from: usize, soft: bool, r: Request) -> BestSoFar
     requires { ⌜ RecordPlace (now s) from × (inRange r ≡ true) ⌝ }
-    ensures { λ b. ⌜ (b .best ≡ pass r first (candidates soft (fontsAt (now (s .entry)) from))) × StandsAt (now (s .entry)) soft first (b .best) (b .kept) ⌝ }
+    ensures { λ b. ⌜ (b .best ≡ pass r (noScore soft) (candidates soft (fontsAt (now (s .entry)) from))) × StandsAt (now (s .entry)) soft (b .best) (b .kept) ⌝ }
 {
-    let mut best = first;
-    let mut place = 0;
+    let mut b = nothing(soft);
     let mut at = from;
     loop {
         let NextFont::Font { number, kept, next } = form::kept_fonts::next_font(s, at) else {
-            return BestSoFar { best, kept: place };
+            return b;
         };
         let end = kept + header::KEPT;
-        best = weigh(best, &s[kept..end], soft, number, r);
-        place = either(best.number == number, kept, place);
+        b = weigh(b, &s[kept..end], soft, number, kept, r);
         at = next;
     }
 }
@@ -408,25 +412,30 @@ pub fn choose_among(s: &[u8], from: usize, r: Request) -> Chosen
     ensures { λ a. ⌜ a ≡ choosingAmong (candidates true (fontsOf (now (s .entry)))) r ⌝ }
 {
     if in_range(r) {
-        let a = scan(s, from, true, nothing(), r);
+        let a = scan(s, from, true, r);
         answer(a.best)
     } else {
         Chosen::OutOfRange
     }
 }
 
-// The number of the font that is chosen among the kept fonts of a store.
+// The number of the font that is chosen among the kept fonts of a store. It makes the pass itself: through `choose_among` the request and the store
+// would be copied once more, which a store of one font shows.
 pub fn choose(s: &[u8], r: Request) -> Chosen
     ensures { λ a. ⌜ a ≡ choosing (now (s .entry)) r ⌝ }
 {
     let Begin::At(from) = form::records::begin_records(s) else {
         return Chosen::NotStore;
     };
-    choose_among(s, from, r)
+    if in_range(r) {
+        let a = scan(s, from, true, r);
+        answer(a.best)
+    } else {
+        Chosen::OutOfRange
+    }
 }
 
-// The choice on two buffers that are known to be stores, whose fonts begin at these places: one pass over the soft fonts, and one over the
-// cartridge's that goes on from the best of the first.
+// The choice on two buffers that are known to be stores, whose fonts begin at these places: the better of the best of each.
 pub fn choose_among_two(
     soft: &[u8],
     soft_from: usize,
@@ -438,14 +447,13 @@ pub fn choose_among_two(
     ensures { λ p. ⌜ (p .chosen ≡ choosingAmong (ofBoth (fontsOf (now (soft .entry))) (fontsOf (now (cartridge .entry)))) r) × PickedAt (now (soft .entry)) (now (cartridge .entry)) p ⌝ }
 {
     if in_range(r) {
-        let a = scan(soft, soft_from, true, nothing(), r);
-        let first = a.best;
-        let b = scan(cartridge, cartridge_from, false, first, r);
-        let best = b.best;
-        let chosen = answer(best);
+        let a = scan(soft, soft_from, true, r);
+        let b = scan(cartridge, cartridge_from, false, r);
+        let both = better(a, b.best, b.kept);
+        let chosen = answer(both.best);
         Picked {
             chosen,
-            kept: either(best.soft, a.kept, b.kept),
+            kept: both.kept,
         }
     } else {
         Picked {

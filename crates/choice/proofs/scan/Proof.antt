@@ -1,26 +1,28 @@
 use Prim.Native.Nat.{_-_}
-use mathlib.Core.Path.{_≡_, refl}
+use mathlib.Core.Path.{_≡_, ap, _∙_}
 use native.Mathlib.Omega.{arith}
 use lib.ListN.{length, length-take, length-drop}
 use borrow.Author.Needs.{needs}
 use Rattle.form.specs.Records.{RecordPlace}
 use Rattle.form.specs.Fonts.{fontsAt}
 use Rattle.choice.specs.Candidates.{candidates}
-use Rattle.choice.specs.Scores.{pass, StandsAt, earlier}
-use Rattle.choice.proofs.Walk.{met, again, stops, stands-next}
+use Rattle.choice.specs.Scores.{noScore, pass, StandsAt, nowhere}
+use Rattle.choice.specs.declared.Score.{Score}
+use Rattle.choice.specs.declared.BestSoFar.{BestSoFar}
+use Rattle.choice.proofs.Walk.{met, again, stops, weighed-best, stands-next}
 use Rattle.choice.proofs.scan.Statement.{statement}
 use Rattle.choice.proofs.scan.Tie as tie
 
 -- the pass from here gives what the whole pass gives
 abbrev Inv-loop : tie.InvT-loop
-Inv-loop s from soft r first place₀ at₀ best place at =
-    RecordPlace s at × (pass r best (candidates soft (fontsAt s at)) ≡ pass r first (candidates soft (fontsAt s from))) × StandsAt s soft first best place
+Inv-loop s from soft r b₀ at₀ b at =
+    RecordPlace s at × (pass r (b .best) (candidates soft (fontsAt s at)) ≡ pass r (noScore soft) (candidates soft (fontsAt s from))) × StandsAt s soft (b .best) (b .kept)
 
 abbrev μ-loop : tie.MeasureT-loop
-μ-loop s from soft r first place₀ at₀ best place at = length s - at
+μ-loop s from soft r b₀ at₀ b at = length s - at
 
 loop-holds : tie.Need-loop-holds Inv-loop μ-loop
-loop-holds c = (c .before .pre .0, refl, earlier refl)
+loop-holds c = (c .before .before .pre .0, rw (c .nothing .ensures), nowhere (ap (λ (x : Score). x .major) (c .nothing .ensures)))
 
 next-font-requires : tie.Need-next-font-requires Inv-loop μ-loop
 next-font-requires c κs = c .loop .inv .0
@@ -45,27 +47,26 @@ weigh-requires c κs =
     let n = c .before .before in
     let b = n .before .before in
     let m = met _ _ _ (b .next-font .ensures) _ _ _ (n .number .given .1) in
-    (simp (length-take, length-drop) (omega (arith, m .4)), b .before .before .before .pre .1)
+    (simp (length-take, length-drop) (omega (arith, m .4)), b .before .before .before .before .pre .1)
 
 loop-less : tie.Need-loop-less Inv-loop μ-loop
 loop-less c =
-    let n = c .before .before .before .before .before in
+    let n = c .before .before .before in
     let m = met _ _ _ (n .before .before .next-font .ensures) _ _ _ (n .number .given .1) in
     omega (arith, m .2, m .3)
 
 loop-again : tie.Need-loop-again Inv-loop μ-loop
 loop-again c =
-    let w = c .before .before in
-    let n = w .before .before .before in
+    let n = c .before .before .before in
     let b = n .before .before in
     let m = met _ _ _ (b .next-font .ensures) _ _ _ (n .number .given .1) in (
       m .1,
-      again _ _ _ (b .next-font .ensures) _ _ _ (n .number .given .1) _ _ _ _ _ (w .weigh .ensures) (b .before .loop .inv .1),
-      rw (c .either .ensures) (stands-next _ _ _ _ _ _ _ _ (w .weigh .ensures) _ _ (b .before .loop .inv .2) (m .6)),
+      again _ _ _ (b .next-font .ensures) _ _ _ (n .number .given .1) _ _ _ _ _ (ap (λ (x : BestSoFar). x .best) (c .weigh .ensures) ∙ weighed-best _ _ _ _) (b .before .loop .inv .1),
+      rw (c .weigh .ensures) (stands-next _ _ _ _ _ (b .before .loop .inv .2) (m .6)),
     )
 
 pub scan-spec : {M : Type 1} → statement M
 scan-spec =
     tie.close
-    (tie.spec Inv-loop μ-loop loop-holds next-font-requires (λ c. search needs) (λ c. search needs) returns add-end (λ c. search needs) (λ c. search needs)
-    part-weigh-end weigh-requires (λ c κs. search needs) loop-less loop-again)
+    (tie.spec Inv-loop μ-loop (λ c κs. search needs) loop-holds next-font-requires (λ c. search needs) (λ c. search needs) returns add-end (λ c. search needs) (λ c. search needs)
+    part-weigh-end weigh-requires loop-less loop-again)
