@@ -13,7 +13,7 @@ use lib.ListN.{length, take, drop, getD, replicate, drop-of-length-le}
 use lib.Seq.{drop-cons, drop-drop, take-nil}
 use lib.Count.{ones, ones-cat, ones-le}
 use Rattle.blackdots.specs.Black.{onesOf}
-use Rattle.blackdots.specs.Counting.{overhang, onesApart, onesIn, onesSaid}
+use Rattle.blackdots.specs.Counting.{overhang, onesApart, onesOfTwo, onesSaid}
 
 -- a list's ones are those of its front and of its rest
 pub ones-parts : (j : ℕ) (s : List ℕ) → onesOf s ≡ onesOf (take j s) + onesOf (drop j s)
@@ -57,8 +57,11 @@ ones-back i k j b e =
     omega (arith, ones-parts k (drop i b), r)
 
 -- two numbers as one: the low one has m bits
+high-first : (m x y : ℕ) → x + 2 ^ m * y ≡ y * 2 ^ m + x
+high-first m x y = add-comm x (2 ^ m * y) ∙ ap (λ (z : ℕ). z + x) (mul-comm (2 ^ m) y)
+
 ones-sum : (m x y : ℕ) → x < 2 ^ m → ones (x + 2 ^ m * y) ≡ ones y + ones x
-ones-sum m x y l = ap ones (add-comm x (2 ^ m * y) ∙ ap (λ (z : ℕ). z + x) (mul-comm (2 ^ m) y)) ∙ ones-cat m y x l
+ones-sum m x y l = ap ones (high-first m x y) ∙ ones-cat m y x l
 
 pub ones-joined : (m k x y at : ℕ) (b : List ℕ) → ones x ≡ onesOf (take k (drop at b)) → ones y ≡ onesOf (take k (drop (at + k) b)) → x < 2 ^ m
     → ones (x + 2 ^ m * y) ≡ onesOf (take (k + k) (drop at b))
@@ -91,7 +94,7 @@ ones-last i b h l = omega (arith, ones-back i 1 (i + 1) b refl, ones-byte i b h,
 -- before the first block
 pub said-none : (b : List ℕ)
     → onesSaid (record { eights = record { first = 0; second = 0 }; ones = record { first = 0; second = 0 }; twos = record { first = 0; second = 0 }; fours = record { first = 0; second = 0 } }) ≡ onesOf (drop (length b) b)
-unfolding onesSaid onesIn ones
+unfolding onesSaid onesOfTwo ones
 said-none b = sym (ones-past (length b) b (omega arith))
 
 -- ── the last bytes of rows
@@ -166,9 +169,8 @@ apart-add n mask at j (suc k) b =
 pub masked-joined : (bits j n mask m x y at : ℕ) (b : List ℕ) → x < 2 ^ bits → m < 2 ^ bits → ones (bitAnd x m) ≡ onesApart n mask b at j
     → ones (bitAnd y m) ≡ onesApart n mask b (at + j * n) j → ones (bitAnd (x + 2 ^ bits * y) (m * 2 ^ bits + m)) ≡ onesApart n mask b at (j + j)
 masked-joined bits j n mask m x y at b l k ex ey =
-    let number : x + 2 ^ bits * y ≡ y * 2 ^ bits + x = add-comm x (2 ^ bits * y) ∙ ap (λ (z : ℕ). z + x) (mul-comm (2 ^ bits) y) in
     let e : ones (bitAnd (x + 2 ^ bits * y) (m * 2 ^ bits + m)) ≡ ones (bitAnd y m) + ones (bitAnd x m) =
-    ap (λ (z : ℕ). ones (bitAnd z (m * 2 ^ bits + m))) number
+    ap (λ (z : ℕ). ones (bitAnd z (m * 2 ^ bits + m))) (high-first bits x y)
     ∙ ap ones (and-block bits y m x m l k) ∙ ones-cat bits (bitAnd y m) (bitAnd x m) (and-lt bits x m l k) in
     omega (arith, e, ex, ey, apart-add n mask at j j b)
 

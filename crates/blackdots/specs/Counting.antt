@@ -28,12 +28,12 @@ abbrev pub MaskedOnes : ℕ → ℕ → List ℕ → ℕ → ℕ → ℕ → Typ
 MaskedOnes times n d at k r = (mask : ℕ) → mask < 2 ^ 8 → ones (bitAnd r (times * mask)) ≡ onesApart n mask d at k
 
 -- the ones of two numbers
-unfoldable pub onesIn : TwoWords → ℕ
-onesIn p = ones (p .first) + ones (p .second)
+unfoldable pub onesOfTwo : TwoWords → ℕ
+onesOfTwo p = ones (p .first) + ones (p .second)
 
 -- what ones by places, and eights of them, come to
 unfoldable pub onesSaid : Tallied → ℕ
-onesSaid t = onesIn (t .ones) + 2 * onesIn (t .twos) + 4 * onesIn (t .fours) + 8 * (t .eights .first + t .eights .second)
+onesSaid t = onesOfTwo (t .ones) + 2 * onesOfTwo (t .twos) + 4 * onesOfTwo (t .fours) + 8 * (t .eights .first + t .eights .second)
 
 -- what reading a row of class 2 data counts
 abbrev pub endsAt : Bool → ℕ → ℕ → BlackLine

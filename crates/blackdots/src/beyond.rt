@@ -68,7 +68,7 @@ fn by_eights(b: &[u8], n: usize, mask: u8) -> u32
     k + beyond_from(b, at, n, mask)
 }
 
-// Those of all rows of n bytes. Few rows are counted one by one: what eights of them need is not made ready.
+// Those of all rows of n bytes. Fewer than eight rows are counted one by one, without the mask for eight.
 pub(crate) fn ones_beyond(b: &[u8], n: usize, mask: u8) -> u32
     requires { ⌜ (0 < n) × (n ≤ dataLimit) × (length (now b) ≤ dataLimit) ⌝ }
     ensures { λ r. ⌜ ((h pad : ℕ) → mask ≡ 2 ^ pad - 1 → length (now (b .entry)) ≤ h * n → r ≡ overhang n pad (now (b .entry)) h) × (r ≤ 16 * length (now (b .entry))) ⌝ }

@@ -5,7 +5,7 @@ ghost use lib.ListN.{length, take, drop};
 ghost use lib.Count.{ones};
 ghost use Rattle.pictures.specs.Size.{dataLimit};
 ghost use Rattle.blackdots.specs.Black.{onesOf};
-ghost use Rattle.blackdots.specs.Counting.{onesIn, onesSaid};
+ghost use Rattle.blackdots.specs.Counting.{onesOfTwo, onesSaid};
 
 pub(crate) fn wide(x: u8) -> u64
     ensures { λ r. ⌜ (r ≡ x) × (r < 2 ^ 8) ⌝ }
@@ -104,7 +104,7 @@ pub struct TwoWords {
 
 fn pair_at(b: &[u8], at: usize) -> TwoWords
     requires { ⌜ at + 16 ≤ length (now b) ⌝ }
-    ensures { λ r. ⌜ onesIn r ≡ onesOf (take 16 (drop at (now (b .entry)))) ⌝ }
+    ensures { λ r. ⌜ onesOfTwo r ≡ onesOf (take 16 (drop at (now (b .entry)))) ⌝ }
 {
     let first = eight_at(b, at);
     let second = eight_at(b, at + 8);
@@ -117,7 +117,7 @@ pub struct Sums {
 }
 
 fn add_pairs(a: TwoWords, b: TwoWords, c: TwoWords) -> Sums
-    ensures { λ r. ⌜ onesIn (r .low) + 2 * onesIn (r .high) ≡ onesIn a + onesIn b + onesIn c ⌝ }
+    ensures { λ r. ⌜ onesOfTwo (r .low) + 2 * onesOfTwo (r .high) ≡ onesOfTwo a + onesOfTwo b + onesOfTwo c ⌝ }
 {
     let one = add_three(a.first, b.first, c.first);
     let two = add_three(a.second, b.second, c.second);
@@ -136,7 +136,7 @@ fn add_pairs(a: TwoWords, b: TwoWords, c: TwoWords) -> Sums
 // Thirty-two bytes more.
 fn add_bytes(low: TwoWords, b: &[u8], at: usize) -> Sums
     requires { ⌜ at + 32 ≤ length (now b) ⌝ }
-    ensures { λ r. ⌜ onesIn (r .low) + 2 * onesIn (r .high) ≡ onesIn low + onesOf (take 32 (drop at (now (b .entry)))) ⌝ }
+    ensures { λ r. ⌜ onesOfTwo (r .low) + 2 * onesOfTwo (r .high) ≡ onesOfTwo low + onesOf (take 32 (drop at (now (b .entry)))) ⌝ }
 {
     add_pairs(low, pair_at(b, at), pair_at(b, at + 16))
 }
@@ -157,7 +157,7 @@ fn counted(x: u64) -> u64
 
 fn count_more(n: TwoWords, x: TwoWords) -> TwoWords
     requires { ⌜ n .first + n .second ≤ dataLimit ⌝ }
-    ensures { λ r. ⌜ (r .first + r .second ≡ n .first + n .second + onesIn x) × (onesIn x ≤ 128) ⌝ }
+    ensures { λ r. ⌜ (r .first + r .second ≡ n .first + n .second + onesOfTwo x) × (onesOfTwo x ≤ 128) ⌝ }
 {
     let first = n.first + counted(x.first);
     let second = n.second + counted(x.second);
@@ -189,7 +189,7 @@ fn add_block(t: Tallied, b: &[u8], at: usize) -> Tallied
 }
 
 fn count_pair(x: TwoWords) -> u32
-    ensures { λ r. ⌜ (r ≡ onesIn x) × (r ≤ 128) ⌝ }
+    ensures { λ r. ⌜ (r ≡ onesOfTwo x) × (r ≤ 128) ⌝ }
 {
     u64::count_ones(x.first) + u64::count_ones(x.second)
 }

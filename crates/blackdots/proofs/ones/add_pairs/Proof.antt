@@ -1,11 +1,11 @@
-use Rattle.blackdots.specs.Counting.{onesIn}
+use Rattle.blackdots.specs.Counting.{onesOfTwo}
 use native.Mathlib.Omega.{arith}
 use borrow.Author.Needs.{needs}
 use Rattle.blackdots.proofs.ones.add_pairs.Statement.{statement}
 use Rattle.blackdots.proofs.ones.add_pairs.Tie as tie
 
 returns : tie.Need-returns
-unfolding onesIn
+unfolding onesOfTwo
 returns c = omega (arith, c .add-three2 .ensures, c .before .add-three .ensures)
 
 pub add-pairs-spec : {M : Type 1} → statement M

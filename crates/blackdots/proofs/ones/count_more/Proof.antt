@@ -1,11 +1,11 @@
-use Rattle.blackdots.specs.Counting.{onesIn}
+use Rattle.blackdots.specs.Counting.{onesOfTwo}
 use native.Mathlib.Omega.{arith}
 use borrow.Author.Needs.{needs}
 use Rattle.blackdots.proofs.ones.count_more.Statement.{statement}
 use Rattle.blackdots.proofs.ones.count_more.Tie as tie
 
 returns : tie.Need-returns
-unfolding onesIn
+unfolding onesOfTwo
 returns c =
     let s = c .before .counted2 .ensures in
     let f = c .before .before .before .counted .ensures in

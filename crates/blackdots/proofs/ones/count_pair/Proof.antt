@@ -1,4 +1,4 @@
-use Rattle.blackdots.specs.Counting.{onesIn}
+use Rattle.blackdots.specs.Counting.{onesOfTwo}
 use lib.Count.{ones-le}
 use native.Mathlib.Omega.{arith}
 use Rattle.blackdots.proofs.ones.count_pair.Statement.{statement}
@@ -10,7 +10,7 @@ add-result c =
     record { fits = omega (arith, ones-le 64 (x .first) (omega arith), ones-le 64 (x .second) (omega arith)) }
 
 returns : tie.Need-returns
-unfolding onesIn
+unfolding onesOfTwo
 returns c =
     let x = c .before .before .args .x in
     (omega arith, omega (arith, ones-le 64 (x .first) (omega arith), ones-le 64 (x .second) (omega arith)))

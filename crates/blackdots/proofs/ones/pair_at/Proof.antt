@@ -1,5 +1,5 @@
 use Rattle.blackdots.proofs.ByteOnes.{ones-split}
-use Rattle.blackdots.specs.Counting.{onesIn}
+use Rattle.blackdots.specs.Counting.{onesOfTwo}
 use native.Mathlib.Omega.{arith}
 use denote.Ref.{now}
 use borrow.Author.Needs.{needs}
@@ -7,7 +7,7 @@ use Rattle.blackdots.proofs.ones.pair_at.Statement.{statement}
 use Rattle.blackdots.proofs.ones.pair_at.Tie as tie
 
 returns : tie.Need-returns
-unfolding onesIn
+unfolding onesOfTwo
 returns c =
     let a = c .before .before .before .args in
     omega (arith, c .eight-at2 .ensures .0, c .before .eight-at .ensures .0, ones-split 8 8 (a .at) (now (a .b)))
