@@ -10,7 +10,7 @@ ghost use Rattle.blackdots.specs.Counting.{ends_at, black_line_of, dark_four, Co
 const WIDE: u16 = 64;
 
 // Where a row of the data ends and how many of its dots are black, if it is whole.
-#[derive(Drop)]
+#[derive(Clone, Copy)]
 pub enum BlackLine {
     Ends { next: usize, black: u32 },
     Unfinished,
@@ -56,7 +56,7 @@ fn black_of_four(bytes: &[u8], at: usize) -> u32
 }
 
 // A white run of a row: its place in the data, the dots that the row lacks there, and its black dots so far.
-#[derive(Drop)]
+#[derive(Clone, Copy)]
 pub struct Upto {
     pub at: usize,
     pub left: u32,

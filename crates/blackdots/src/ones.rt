@@ -79,7 +79,7 @@ fn ones_by_words(b: &[u8]) -> u32
 }
 
 // The sum of three bits, in each of 64 places: its low bits and its high ones.
-#[derive(Drop)]
+#[derive(Clone, Copy)]
 pub struct Sum {
     pub low: u64,
     pub high: u64,
@@ -96,7 +96,7 @@ fn add_three(a: u64, b: u64, c: u64) -> Sum
 }
 
 // Two numbers, with both of which the same is done: the compiler puts them into one wide register.
-#[derive(Drop)]
+#[derive(Clone, Copy)]
 pub struct TwoWords {
     pub first: u64,
     pub second: u64,
@@ -111,7 +111,7 @@ fn pair_at(b: &[u8], at: usize) -> TwoWords
     TwoWords { first, second }
 }
 
-#[derive(Drop)]
+#[derive(Clone, Copy)]
 pub struct Sums {
     pub low: TwoWords,
     pub high: TwoWords,
@@ -143,7 +143,7 @@ fn add_bytes(low: TwoWords, b: &[u8], at: usize) -> Sums
 }
 
 // How many ones there are so far: eights of them, each half of a pair its own, and up to 7 in each of 128 places. In this order the compiler finds the pairs.
-#[derive(Drop)]
+#[derive(Clone, Copy)]
 pub struct Tallied {
     pub eights: TwoWords,
     pub ones: TwoWords,

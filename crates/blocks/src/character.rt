@@ -47,7 +47,7 @@ const BITMAP_OPENING: u32 = OPENING + 16777216 * (size::BITMAP as u32);
 
 const RUNS_OPENING: u32 = OPENING + 16777216 * (size::RUNS as u32);
 
-#[derive(Drop)]
+#[derive(Clone, Copy)]
 pub enum Kind {
     First,
     Continuation,

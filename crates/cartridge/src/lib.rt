@@ -1,4 +1,6 @@
 // W-208, the old cartridge as a second place: the choice from two stores, with the chosen font's record as a part of whichever holds it.
+#![tactic(auto)]
+
 ghost use Rattle.std.specs.Prelude.{◌≡◌, Bool, cond, List, ℕ, ◌-◌};
 ghost use Rattle.form.specs.Layout.{font_kept_at};
 ghost use Rattle.choice.specs.declared.Chosen.TheVariants.{Number};
@@ -15,7 +17,7 @@ const CARTRIDGE: u32 = 2;
 
 // The numbers of an answer: the chosen font, the store that holds it, 1 soft or 2 cartridge, and its record's place there; or the refusal.
 #[repr(C)]
-#[derive(Drop)]
+#[derive(Clone, Copy)]
 pub struct RecordAnswer {
     pub refusal: u32,
     pub font: u32,
@@ -24,7 +26,7 @@ pub struct RecordAnswer {
 }
 
 // The whole answer: its numbers, and the chosen font's record itself, in the store that holds it.
-#[derive(Drop)]
+#[derive(Clone, Copy)]
 pub struct ChosenRecord<'a> {
     pub part: &'a [u8],
     pub answer: RecordAnswer,

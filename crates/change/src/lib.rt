@@ -1,4 +1,6 @@
 // Changes of a buffer: moving, clearing and writing bytes, and the one splice that every change of the record run is made of.
+#![tactic(auto)]
+
 ghost use Rattle.std.specs.Prelude.{◌≡◌, ◌+◌, ◌-◌, ◌≤◌, ◌<◌, ◌++◌, length, take, drop, replicate, cond};
 ghost use Rattle.std.proofs.Math.Seq.{paste};
 ghost use Rattle.blocks.specs.Header.{kept_header, own_bytes};

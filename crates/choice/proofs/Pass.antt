@@ -109,6 +109,8 @@ module _ (r : Request) where
             ((is_left r all).base c m).0),
       )
 
+  compared b (g ∷ (_ ∷ _)) f l t x7 kd = elim x7 [ ]
+
   one_more : (b : Score) (h : List Candidate) (f : Candidate) (l : List Candidate) → BestOf b h → Keyed (h ++ f ∷ l) → Carried (weighed r b f) l (h ++ f ∷ l)
   unfolding weighed Carried
   one_more b h f l hb kd =
@@ -124,6 +126,7 @@ module _ (r : Request) where
           ⊎_elim (λ a. absurd (not_both (takes_part r f) t (a.1 f (inl refl))))
           (λ c. ⊎_elim (λ i. choice_is r (f ∷ []) kd c.0 c.1 ∙ ap (λ (x : Candidate). Number x.soft x.number) i) (λ n. absurd n) ((is_left r (f ∷ [])).base c.0 c.1).0)
           (either r (f ∷ []))
+  passes [] b (f ∷ (_ ∷ _)) hb kd = elim hb [ ]
   passes (f ∷ l) b h hb kd =
       let n = one_more b h f l hb kd in
       passes l (weighed r b f) n.0 n.1 n.2 ∙ n.3

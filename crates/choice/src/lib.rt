@@ -1,4 +1,6 @@
 // The choice of a font.
+#![tactic(auto)]
+
 ghost use Rattle.std.specs.Prelude.{◌≡◌, ℕ, ◌+◌, ◌*◌, ◌%◌, ◌^◌, ◌<◌, ◌≤◌, Bool, true, length, ◌==◌, nat_le, nat_lt};
 ghost use Rattle.blocks.specs.Field.{byte, word, high_low as join_of};
 ghost use Rattle.blocks.specs.Header.{header_bytes, style, typeface, resolution};
@@ -65,7 +67,7 @@ const NO_MAJOR: u64 = 4 * PITCH_BASE;
 
 // What is asked for, as C lays it out. The weight is signed, as 32 bits in two's complement.
 #[repr(C)]
-#[derive(Drop)]
+#[derive(Clone, Copy)]
 pub struct Request {
     pub symbol_set: u32,
     pub spacing: u32,
@@ -79,7 +81,7 @@ pub struct Request {
 }
 
 // The font that is chosen, of the soft store or of the cartridge, or why there is none.
-#[derive(Drop)]
+#[derive(Clone, Copy)]
 pub enum Chosen {
     Number { soft: bool, number: u32 },
     NotStore,
@@ -88,7 +90,7 @@ pub enum Chosen {
 }
 
 // A font's numbers for the steps, of which the least is chosen: those up to pitch, those from height on, the font number; and whether the soft store holds it.
-#[derive(Drop)]
+#[derive(Clone, Copy)]
 struct Score {
     major: u64,
     minor: u64,
@@ -97,14 +99,14 @@ struct Score {
 }
 
 // The best of all fonts up to here, and where its kept bytes stand in the store that holds it.
-#[derive(Drop)]
+#[derive(Clone, Copy)]
 struct BestSoFar {
     best: Score,
     kept: usize,
 }
 
 // The choice from two stores, and where the kept bytes of the font that it names stand in the store that holds it.
-#[derive(Drop)]
+#[derive(Clone, Copy)]
 pub struct Picked {
     pub chosen: Chosen,
     pub kept: usize,

@@ -30,7 +30,7 @@ fn add_character(k: &[u8], d: &[u8], b: &mut [u8], code: u32)
 }
 
 // Whether a record stands at a place of the run, and the place of the next one.
-#[derive(Drop)]
+#[derive(Clone, Copy)]
 pub enum NextRecord {
     At(usize),
     End,

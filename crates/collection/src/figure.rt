@@ -10,7 +10,7 @@ use form::layout::{DOUBLE_END, WORD_END};
 use form::number;
 
 // Of the characters of one code: how many there are, the black dots, the least and greatest width, the sum of delta X.
-#[derive(Drop)]
+#[derive(Clone, Copy)]
 pub struct Figure {
     pub count: usize,
     pub dots: usize,

@@ -86,7 +86,7 @@ module _ {n : ℕ} {x : Change} (w : Inside n x) (rs : List Rec) (k : ℕ) where
   find_new l h = find_parts ∙ rw (le-ltb k x.lo l, lt-leb x.hi k h) (first_none (find k x.new))
 
   find_old : Outside x.lo x.hi k → find k (records_after x rs) ≡ find k rs
-  find_old o = go o (w.nowhere-else k o)
+  find_old o = go o (w.nowhere_else k o)
     where
       go : Outside x.lo x.hi k → find k x.new ≡ none → find k (records_after x rs) ≡ find k rs
       go (inl l) e = find_parts ∙ rw (lt-ltb k x.lo l, lt-leb x.hi k (omega (arith, w.order)), e) (first_none (find k rs))

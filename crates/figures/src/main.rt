@@ -1,4 +1,6 @@
 // W-210, the program: reads a store from standard input and prints its figures. With an argument it only says how it is called; a failed write is told.
+#![tactic(auto)]
+
 mod line;
 mod lines;
 mod table;

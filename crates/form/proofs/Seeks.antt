@@ -205,4 +205,4 @@ module _ (n c : ℕ) (s : List ℕ) (w : Places) where
 
   pub char_call : {A : Type 0} (refuse : ℕ → A) (f : Store → Rec → A) (x : KeptChar n c s w) → on_character refuse n c s f ≡ f x.ready.store (character n c x.kept x.bytes)
   unfolding on_character on_store finding
-  char_call refuse f x = rw (x.ready.is, le-leb n last_font x.low, le-leb c last_code x.code, x.font-there, x.there)
+  char_call refuse f x = rw (x.ready.is, le-leb n last_font x.low, le-leb c last_code x.code, x.font_there, x.there)

@@ -7,7 +7,7 @@ use crate::layout::{CHARACTER_RECORD, FONT_KEPT_AT, FONT_KIND, FONT_RECORD, KIND
 use crate::number;
 
 // A font met on the run: its number, where its kept bytes stand, and the place behind it.
-#[derive(Drop)]
+#[derive(Clone, Copy)]
 pub enum NextFont {
     Font {
         number: u32,

@@ -1,4 +1,6 @@
 // The form of a store: a run of records in one lent buffer. It is checked, and its records are met and sought.
+#![tactic(auto)]
+
 pub mod kept_fonts;
 pub mod layout;
 pub mod locate;

@@ -10,7 +10,7 @@ use crate::number;
 use crate::walk::{Places, RunEnd};
 
 // What is known of a store: where its records end, where a font's place is, and where the place of one more key is.
-#[derive(Drop)]
+#[derive(Clone, Copy)]
 pub struct Cursor {
     pub used: usize,
     pub font: usize,

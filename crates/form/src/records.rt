@@ -10,7 +10,7 @@ use crate::walk::Checked;
 use crate::{number, walk};
 
 // Where the run of records begins.
-#[derive(Drop)]
+#[derive(Clone, Copy)]
 pub enum Begin {
     At(usize),
     NotStore,
@@ -18,7 +18,7 @@ pub enum Begin {
 
 // What stands at a place of the run: a font with the place of its kept bytes, or a character with those of its kept bytes and of its data, and
 // the place behind it.
-#[derive(Drop)]
+#[derive(Clone, Copy)]
 pub enum Met {
     Font {
         number: u32,

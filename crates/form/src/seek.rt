@@ -7,7 +7,7 @@ use crate::layout::{LAST_CODE_ASKED, LAST_FONT_ASKED};
 use crate::walk;
 use crate::walk::{Inspected, Lookup, Places};
 
-#[derive(Drop)]
+#[derive(Clone, Copy)]
 pub enum Sought {
     Here(Places),
     Refused(u32),

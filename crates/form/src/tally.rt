@@ -6,7 +6,7 @@ ghost use Rattle.form.specs.Model.{same_tally, tally_in};
 use crate::layout::{FONT_BYTES_AT, FONT_CHARACTERS_AT};
 use crate::number;
 
-#[derive(Drop)]
+#[derive(Clone, Copy)]
 pub struct Tally {
     pub characters: usize,
     pub bytes: usize,

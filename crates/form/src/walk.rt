@@ -19,7 +19,7 @@ use pictures::picture::Held;
 
 // What stands at a place of the run: the font number, 0 or the code and 1, the length, the font's orientation, whether it is incomplete, and the
 // numbers that a font's record holds.
-#[derive(Drop)]
+#[derive(Clone, Copy)]
 pub struct Item {
     pub font: usize,
     pub place: usize,
@@ -29,7 +29,7 @@ pub struct Item {
     pub held: Tally,
 }
 
-#[derive(Drop)]
+#[derive(Clone, Copy)]
 pub enum Head {
     End,
     Rec(Item),
@@ -38,7 +38,7 @@ pub enum Head {
 
 // How far a walk has come: the place; that of the last font up to the one asked for, and of the last record; whether the open character was met; the least key, the font and the orientation that the next record must
 // have; the numbers that the font's record holds, and those of its characters met so far.
-#[derive(Drop)]
+#[derive(Clone, Copy)]
 pub struct Pos {
     pub at: usize,
     pub near: usize,
@@ -52,7 +52,7 @@ pub struct Pos {
 }
 
 // Where the records end; where a font with its characters starts and ends; where one record starts and ends.
-#[derive(Drop)]
+#[derive(Clone, Copy)]
 pub struct Places {
     pub used: usize,
     pub lo: usize,
@@ -62,7 +62,7 @@ pub struct Places {
 }
 
 // Where the records end, and the least key that may stand there; where the last font up to the one asked for stands, and the last record.
-#[derive(Drop)]
+#[derive(Clone, Copy)]
 pub struct RunEnd {
     pub used: usize,
     pub least: usize,
@@ -71,20 +71,20 @@ pub struct RunEnd {
 }
 
 // How the records end, and whether the open character was met.
-#[derive(Drop)]
+#[derive(Clone, Copy)]
 pub enum Walk {
     Run(RunEnd, bool),
     NotStore,
 }
 
-#[derive(Drop)]
+#[derive(Clone, Copy)]
 pub enum Step {
     Go(Pos),
     Stop(Walk),
 }
 
 // The open mark: closed, naming the character with a key, or neither.
-#[derive(Drop)]
+#[derive(Clone, Copy)]
 pub enum MarkSeen {
     Shut,
     Open(usize),
@@ -92,20 +92,20 @@ pub enum MarkSeen {
 }
 
 // A font or a character that was looked up: its places, or none.
-#[derive(Drop)]
+#[derive(Clone, Copy)]
 pub enum Lookup {
     At(Places),
     Missing,
 }
 
 // A store, and how its records end.
-#[derive(Drop)]
+#[derive(Clone, Copy)]
 pub enum Checked {
     Store(RunEnd),
     NotStore,
 }
 
-#[derive(Drop)]
+#[derive(Clone, Copy)]
 pub enum Inspected {
     Found(Places),
     NotStore,

@@ -1,5 +1,7 @@
 // The listing program of document 01: reads a stream from standard input into a fresh store, and lists the fonts that are kept. With an argument it only says how it is
 // called; a failed write is told.
+#![tactic(auto)]
+
 mod column;
 mod line;
 mod lines;

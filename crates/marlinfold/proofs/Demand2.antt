@@ -211,4 +211,4 @@ profiled_comes_back n out s t z l =
     let d = demand2 n out s t (sym (ap (λ (o : Outcome). o.refusal) same) ∙ z) l in
     let stream : stream_by (write_profiled n out) s ≡ stream_of n out s = ap (λ (o : Outcome). take (get_or o.numbers 0 0) o.out) same in
     let o = outcome (read_stream (stream_of n out s)) (leaves make_fresh t) in
-    rw stream (met, same, d.0, d.1, d.2, ap (λ (a : Answer). answered a.refusal a.numbers o.store a.out) (d.2.profile-checked ∙ ap check_as p.1))
+    rw stream (met, same, d.0, d.1, d.2, ap (λ (a : Answer). answered a.refusal a.numbers o.store a.out) (d.2.profile_checked ∙ ap check_as p.1))

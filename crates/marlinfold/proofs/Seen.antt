@@ -129,13 +129,13 @@ drawn_out = replicate data_limit 0
 module _ (s : List ℕ) (st : Store) (e : decode s ≡ some st) (n c : ℕ) (h d : List ℕ) (x : Kept st.recs n c h d) where
   told_is : (telling_character n c s told_out).out ≡ onto h told_out
   unfolding telling_character on_character on_store finding
-  told_is = rw (e, le-leb n last_font x.low, le-leb c last_code x.code, x.font-there, x.there)
+  told_is = rw (e, le-leb n last_font x.low, le-leb c last_code x.code, x.font_there, x.there)
 
   drawn_is : (drawing_picture n c s drawn_out).bytes ≡ onto (picture (class h) (width h) d (height h)) drawn_out
   unfolding drawing_picture on_character on_store finding picture_of
   drawn_is =
       let p : picture_size (width h) (height h) ≤ length drawn_out = rw (length-replicate {A = ℕ} data_limit 0) (kept_picture h x.orientation x.kept) in
-      rw (e, le-leb n last_font x.low, le-leb c last_code x.code, x.font-there, x.there, le-leb _ _ p)
+      rw (e, le-leb n last_font x.low, le-leb c last_code x.code, x.font_there, x.there, le-leb _ _ p)
 
   -- the whole of an output of 16 bytes, and the ones of a larger one of zeros
   onto_all : onto h told_out ≡ h
@@ -182,7 +182,7 @@ module _ (s : List ℕ) (st : Store) (e : decode s ≡ some st) (c : ℕ) (lc : 
 
   tells_kept : (n : ℕ) (h d : List ℕ) → Kept st.recs n c h d → finds n ≡ true
   unfolding telling_character on_character on_store finding
-  tells_kept n h d x = rw (e, le-leb n last_font x.low, le-leb c last_code x.code, x.font-there, x.there)
+  tells_kept n h d x = rw (e, le-leb n last_font x.low, le-leb c last_code x.code, x.font_there, x.there)
 
   tells_none : (n : ℕ) → find (key_of n (c + 1)) st.recs ≡ none → finds n ≡ false
   unfolding telling_character on_character on_store finding

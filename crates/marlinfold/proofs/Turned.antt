@@ -58,7 +58,7 @@ module _ (t w h size : ℕ) where
 
   can_turn : Good t w h size → CannotTurn t w h size → ⊥
   can_turn g (inl l) = omega (arith, l, g.turn_low)
-  can_turn g (inr (inl l)) = omega (arith, l, g.turn-high)
+  can_turn g (inr (inl l)) = omega (arith, l, g.turn_high)
   can_turn g (inr (inr (inl l))) = omega (arith, l, g.wide)
   can_turn g (inr (inr (inr (inl l)))) = omega (arith, l, g.narrow)
   can_turn g (inr (inr (inr (inr (inl l))))) = omega (arith, l, g.high)

@@ -1,4 +1,6 @@
 // The calls that C makes. Each is one call of a crate below, save the sheet, a loop of one, and its contract is its line of `outcome`. A slice is a pointer and a length in C.
+#![tactic(auto)]
+
 ghost use Rattle.std.specs.Prelude.{◌≡◌, true, false, ℕ, List, ◌∷◌, []};
 ghost use Rattle.choice.specs.Request.{request_of};
 ghost use Rattle.choice.specs.Choosing.{refusal_of, font_of};
@@ -21,7 +23,7 @@ use turning::turn;
 
 // The chosen font's number, or the refusal.
 #[repr(C)]
-#[derive(Drop)]
+#[derive(Clone, Copy)]
 pub struct FontChosen {
     pub refusal: u32,
     pub font: u32,

@@ -17,10 +17,11 @@ fn copy_padded(bytes: &[u8], from: usize, out: &mut [u8])
     }
     if out.len() <= bytes.len() - from {
         let to = from + out.len();
-        bytes::copy(&bytes[from..to], out);
+        out.copy_from_slice(&bytes[from..to]);
         return;
     }
-    let n = bytes::copy(&bytes[from..], out);
+    let n = bytes.len() - from;
+    out[..n].copy_from_slice(&bytes[from..]);
     dots::clear(&mut out[n..]);
 }
 

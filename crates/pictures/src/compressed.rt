@@ -9,7 +9,7 @@ ghost use Rattle.pictures.specs.Drawing.{line_from, line_of, dots_of, drawn_of, 
 use crate::{dots, size};
 
 // Where a row of the data ends, if it is whole.
-#[derive(Drop)]
+#[derive(Clone, Copy)]
 pub enum Line {
     Ends(usize),
     Unfinished,

@@ -8,7 +8,7 @@ use crate::runs::Scanned;
 use crate::{bitmap, compressed, runs, size};
 
 // Complete with the bytes that the picture takes, incomplete, or with a run past the width: its row, the dots filled and the run.
-#[derive(Drop)]
+#[derive(Clone, Copy)]
 pub enum Judged {
     Complete(usize),
     Incomplete,
@@ -16,7 +16,7 @@ pub enum Judged {
 }
 
 // A character's data in a store: a whole picture, an unfinished one, or what no acceptance leaves.
-#[derive(Drop)]
+#[derive(Clone, Copy)]
 pub enum Held {
     Whole,
     Unfinished,

@@ -7,7 +7,7 @@ ghost use Rattle.pictures.specs.Passing.{is_at_run, is_in_row, is_black, filled_
 const WIDE: u16 = 64;
 
 // Where the reader is: at a repeat count, in a white or a black run with dots filled, finished.
-#[derive(Drop)]
+#[derive(Clone, Copy)]
 pub enum Place {
     Count,
     White(u16),
@@ -16,7 +16,7 @@ pub enum Place {
 }
 
 // The state of the reader: the row in progress, its repeats, the place in it.
-#[derive(Drop)]
+#[derive(Clone, Copy)]
 pub struct Reader {
     pub row: u16,
     pub repeat: u8,
@@ -24,7 +24,7 @@ pub struct Reader {
 }
 
 // What a run leaves of a row.
-#[derive(Drop)]
+#[derive(Clone, Copy)]
 pub enum Filled {
     Over,
     Whole,
@@ -32,14 +32,14 @@ pub enum Filled {
 }
 
 // The next state, or a run past the width with its row, the dots filled and the run.
-#[derive(Drop)]
+#[derive(Clone, Copy)]
 pub enum Stepped {
     Next(Reader),
     Past { row: u16, filled: u16, run: u8 },
 }
 
 // Complete with the bytes used, open with the state, or a run past the width.
-#[derive(Drop)]
+#[derive(Clone, Copy)]
 pub enum Scanned {
     Complete(usize),
     Open(Reader),
@@ -47,14 +47,14 @@ pub enum Scanned {
 }
 
 // Where a scan goes on: the state and the place in the data.
-#[derive(Drop)]
+#[derive(Clone, Copy)]
 pub struct Passed {
     pub reader: Reader,
     pub at: usize,
 }
 
 // A run of the row in progress: its place in the data, the dots that the row lacks before it, its colour.
-#[derive(Drop)]
+#[derive(Clone, Copy)]
 pub struct Inside {
     pub at: usize,
     pub left: u32,

@@ -11,7 +11,7 @@ use stream::write::Written;
 
 // What checking answers: document 01's refusal number, the first broken rule, and the lowest code that breaks it.
 #[repr(C)]
-#[derive(Drop)]
+#[derive(Clone, Copy)]
 pub struct ProfileChecked {
     pub refusal: u32,
     pub rule: u32,

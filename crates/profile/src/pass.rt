@@ -21,7 +21,7 @@ const LAST_REQUIRED: u32 = 127;
 const LAST_RULE: u32 = 7;
 
 // The first broken rule and the lowest code that breaks it; 0 and 0, if none is broken.
-#[derive(Drop)]
+#[derive(Clone, Copy)]
 pub struct RuleBroken {
     pub rule: u32,
     pub code: u32,
@@ -29,7 +29,7 @@ pub struct RuleBroken {
 
 // What a pass has found: the lowest required code that has no complete character yet (or one above them, if all have), and of the rules 4 to 7 the first broken one with the
 // lowest code that breaks it.
-#[derive(Drop)]
+#[derive(Clone, Copy)]
 pub struct Findings {
     pub wanted: u32,
     pub rule: u32,
@@ -37,7 +37,7 @@ pub struct Findings {
 }
 
 // The findings behind a record, and the place behind it.
-#[derive(Drop)]
+#[derive(Clone, Copy)]
 struct RecordPassed {
     findings: Findings,
     next: usize,

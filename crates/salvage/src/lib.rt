@@ -1,4 +1,6 @@
 // W-212, reading past torn places: at a 13, on to the first later place where a whole ESC *c#D with a number within range stands.
+#![tactic(auto)]
+
 mod search;
 
 ghost use Rattle.std.specs.Prelude.{◌≡◌, ◌+◌, ◌-◌, ◌≤◌, ◌<◌, length};
@@ -17,7 +19,7 @@ use stream::reading::{CommandCounts, Ending, State, Target};
 
 // The refusal, the stretches listed, and the commands done and refused.
 #[repr(C)]
-#[derive(Drop)]
+#[derive(Clone, Copy)]
 pub struct Salvaged {
     pub refusal: u32,
     pub stretches: u64,

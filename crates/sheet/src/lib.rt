@@ -1,4 +1,6 @@
 // W-201, one sheet, one call: what is done once for a sheet of requests, and what is done for each.
+#![tactic(auto)]
+
 ghost use Rattle.std.specs.Prelude.{◌≡◌};
 ghost use Rattle.form.specs.Records.{Begun};
 ghost use Rattle.form.specs.declared.records.Begin.TheVariants.{At};
@@ -13,14 +15,14 @@ const MOST_REQUESTS: usize = 64;
 
 // The answer to one request of a sheet.
 #[repr(C)]
-#[derive(Drop)]
+#[derive(Clone, Copy)]
 pub struct SheetAnswer {
     pub font: u32,
     pub refusal: u32,
 }
 
 // The refusal of a whole sheet; where there is none, the place where the store's fonts begin.
-#[derive(Drop)]
+#[derive(Clone, Copy)]
 pub struct SheetBegin {
     pub refusal: u32,
     pub from: usize,

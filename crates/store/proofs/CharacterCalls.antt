@@ -40,11 +40,11 @@ module _ (n c : ℕ) (s : List ℕ) (w : Places) (x : KeptChar n c s w) where
       let r = x.ready in
       let st = r.store in
       let us : w.used ≡ mark_record + total st.recs = ap (λ (y : Places). y.used) r.at in
-      rw (at, to, us, r.bytes) (sym (put_nil _ (mark_record + total (below (key_of n (c + 1)) st.recs))) ∙ bytes_char n c x.header [] st r.valid x.code x.font-there no_char fits refl)
+      rw (at, to, us, r.bytes) (sym (put_nil _ (mark_record + total (below (key_of n (c + 1)) st.recs))) ∙ bytes_char n c x.header [] st r.valid x.code x.font_there no_char fits refl)
 
   pub cut_ready : Recounting (spliced_at w.from (w.to - w.from) w.used 0 s) w.lo (w.to - w.from) 0
   unfolding total
-  cut_ready = rw cut_bytes (rw (lo, at, to) (recounting n c x.header [] x.ready.store x.ready.valid x.code x.font-there no_char fits))
+  cut_ready = rw cut_bytes (rw (lo, at, to) (recounting n c x.header [] x.ready.store x.ready.valid x.code x.font_there no_char fits))
 
   pub cut_done : unmarked_at n c (recounted w.lo (w.to - w.from) 0 (spliced_at w.from (w.to - w.from) w.used 0 s)) ≡ encode (store_without_character n c x.ready.store)
   unfolding total
@@ -52,7 +52,7 @@ module _ (n c : ℕ) (s : List ℕ) (w : Places) (x : KeptChar n c s w) where
       let st = x.ready.store in
       let rs = with_character n c [] st.recs in
       let T : List ℕ = run (tally_of rs) rs ++ replicate (st.size - (mark_record + total rs)) 0 in
-      let o = order_char n c x.header [] st x.ready.valid x.code x.font-there no_char fits in
+      let o = order_char n c x.header [] st x.ready.valid x.code x.font_there no_char fits in
       ap (λ (y : List ℕ). unmarked_at n c (recounted w.lo (w.to - w.from) 0 y)) cut_bytes
-      ∙ rw (lo, at, to) (ap (unmarked_at n c) (bytes_counted n c x.header [] st x.ready.valid x.code x.font-there no_char fits))
+      ∙ rw (lo, at, to) (ap (unmarked_at n c) (bytes_counted n c x.header [] st x.ready.valid x.code x.font_there no_char fits))
       ∙ unmark_at n c st.mark T (small_mark st x.ready.valid) ∙ sym (encode_changed (closed_at n c st.mark) rs st o)

@@ -83,7 +83,7 @@ pub record Opened (n c : ℕ) (s : List ℕ) (w : Places) (x : Host n c s w) : T
 module _ (n c : ℕ) (s : List ℕ) (w : Places) (x : Host n c s w) where
   opened_char : (h d : List ℕ) → find (key_of n (c + 1)) x.ready.store.recs ≡ some (character n c h d) → is_unfinished (held_of h d) ≡ true → Opened n c s w x
   opened_char h d e q =
-      let k : KeptChar n c s w = record { ready = x.ready; low = x.low; code = x.code; header = x.header; font_there = x.font-in; kept = h; bytes = d; there = e } in
+      let k : KeptChar n c s w = record { ready = x.ready; low = x.low; code = x.code; header = x.header; font_there = x.font_in; kept = h; bytes = d; there = e } in
       let sp : w.to ≡ w.from + character_record + length d = char_span n c s w k in
       let i : kept_at s w ≡ h = char_kept n c s w k in
       let m : w.to - (w.from + character_record) ≡ length d = omega (arith, sp) in
@@ -91,7 +91,7 @@ module _ (n c : ℕ) (s : List ℕ) (w : Places) (x : Host n c s w) where
       record {
         there = e ∙ ap (λ (y : Rec). some y) (ap (λ (y : List ℕ). character n c y d) (sym i) ∙ ap (λ (y : List ℕ). character n c (kept_at s w) y) (sym j));
         held = ap (λ (y : List ℕ). held_of y (data_at s w)) i ∙ ap (held_of h) j ∙ is_unfinished_lem (held_of h d) q;
-        kept = ap (λ (y : List ℕ). is_kept_first y (orientation x.header)) i ∙ kept_under n c x.header h d x.ready.store.recs x.ready.valid.order x.code x.font-in e;
+        kept = ap (λ (y : List ℕ). is_kept_first y (orientation x.header)) i ∙ kept_under n c x.header h d x.ready.store.recs x.ready.valid.order x.code x.font_in e;
         span = omega (arith, sp, ap length j);
       }
 

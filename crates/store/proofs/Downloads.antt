@@ -77,7 +77,7 @@ pub record Space (n c : ℕ) (h d s : List ℕ) (w : Places) : Type 0 where
   pub low : n ≤ last_font
   pub code : c ≤ last_code
   pub header : List ℕ
-  pub font_in_lem : find (key_of n 0) ready.store.recs ≡ some (font n header)
+  pub font_in : find (key_of n 0) ready.store.recs ≡ some (font n header)
   pub ok : allowed (owner_after no_owner (font n header)) (character n c h d) ≡ true
 
 pub space : (n c : ℕ) (h d s : List ℕ) (w : Places) → Bytes s → Fitting n c h d s w → Space n c h d s w
@@ -85,7 +85,7 @@ space n c h d s w B f =
     let a = f.arrives in
     let r = standing n (c + 1) s B w a.stands in
     let i : a.stands.store ≡ r.store = same_store s a.stands.is r.is in
-    record { ready = r; low = a.low; code = a.code; header = a.header; font_in_lem = rw i at a.font-there; ok = new_allowed n c a.header h d a.low a.code f.ok }
+    record { ready = r; low = a.low; code = a.code; header = a.header; font_in = rw i at a.font_there; ok = new_allowed n c a.header h d a.low a.code f.ok }
 
 module _ (n c : ℕ) (h d s : List ℕ) (w : Places) (x : Space n c h d s w) where
   new_shape : (length h ≡ descriptor_bytes) × (length d ≤ data_limit) × (n ≤ last_font) × (c ≤ last_code)
@@ -135,12 +135,12 @@ module _ (n c : ℕ) (h d s : List ℕ) (w : Places) (x : Space n c h d s w) whe
         let r = x.ready in
         let new = character n c h d ∷ [] in
         rw (lo, hi, us, r.bytes, ← (append-nil (character_bytes n c h d)), ← new_total)
-        (bytes_char n c x.header new r.store r.valid x.code x.font-in (new_char h d x.ok) fits (char_run (tally_of r.store.recs) n c h d new_shape))
+        (bytes_char n c x.header new r.store r.valid x.code x.font_in (new_char h d x.ok) fits (char_run (tally_of r.store.recs) n c h d new_shape))
 
     pub place_ready : Recounting (with_bytes (spliced_at w.from (w.to - w.from) w.used (character_record + length d) s) w.from (character_bytes n c h d)) w.lo (w.to - w.from) (character_record + length d)
     place_ready =
         let r = x.ready in
-        rw put_bytes (rw (fo, lo, hi, ← new_total) (recounting n c x.header (character n c h d ∷ []) r.store r.valid x.code x.font-in (new_char h d x.ok) fits))
+        rw put_bytes (rw (fo, lo, hi, ← new_total) (recounting n c x.header (character n c h d ∷ []) r.store r.valid x.code x.font_in (new_char h d x.ok) fits))
 
     pub place_done : placed n c h d s
         ≡ record {
@@ -157,9 +157,9 @@ module _ (n c : ℕ) (h d s : List ℕ) (w : Places) (x : Space n c h d s w) whe
         let W = new_char h d x.ok in
         let T : List ℕ = run (tally_of rs) rs ++ replicate (st.size - (mark_record + total rs)) 0 in
         let b : recounted w.lo (w.to - w.from) (character_record + length d) (with_bytes (spliced_at w.from (w.to - w.from) w.used (character_record + length d) s) w.from (character_bytes n c h d)) ≡ mark_bytes st.mark ++ T =
-        ap (recounted w.lo (w.to - w.from) (character_record + length d)) put_bytes ∙ rw (fo, lo, hi, ← new_total) (bytes_counted n c x.header new st r.valid x.code x.font-in W fits) in
+        ap (recounted w.lo (w.to - w.from) (character_record + length d)) put_bytes ∙ rw (fo, lo, hi, ← new_total) (bytes_counted n c x.header new st r.valid x.code x.font_in W fits) in
         let y : encode (put_character n c h d st) ≡ remarked (mark_for n c h d) (recounted w.lo (w.to - w.from) (character_record + length d) (with_bytes (spliced_at w.from (w.to - w.from) w.used (character_record + length d) s) w.from (character_bytes n c h d))) =
-        encode_changed (mark_for n c h d) rs st (order_char n c x.header new st r.valid x.code x.font-in W fits) ∙ sym (ap (remarked (mark_for n c h d)) b ∙ remark_bytes st.mark (mark_for n c h d) T) in
+        encode_changed (mark_for n c h d) rs st (order_char n c x.header new st r.valid x.code x.font_in W fits) ∙ sym (ap (remarked (mark_for n c h d)) b ∙ remark_bytes st.mark (mark_for n c h d) T) in
         rw (r.is, le-leb _ _ fits, y)
 
 -- ── a record that grows
@@ -180,7 +180,7 @@ module _ (n c : ℕ) (t s : List ℕ) (w : Places) (B : Bytes s) (g : Growing n 
         low = growing.low;
         code = growing.code;
         header = growing.header;
-        font_there = growing.font-in;
+        font_there = growing.font_in;
         kept = kept_at s w;
         bytes = data_at s w;
         there = grow_there;

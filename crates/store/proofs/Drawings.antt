@@ -22,7 +22,7 @@ use Rattle.store.proofs.Spots.{char_span, char_kept, char_bytes}
 
 module _ (n c : ℕ) (s : List ℕ) (w : Places) (x : KeptChar n c s w) where
   char_descriptor : is_kept_first x.kept (orientation x.header) ≡ true
-  char_descriptor = kept_under n c x.header x.kept x.bytes x.ready.store.recs x.ready.valid.order x.code x.font-there x.there
+  char_descriptor = kept_under n c x.header x.kept x.bytes x.ready.store.recs x.ready.valid.order x.code x.font_there x.there
 
   pub char_width : 0 < width x.kept
   char_width = (kept_sides x.kept (orientation x.header) char_descriptor).0

@@ -40,7 +40,7 @@ block_short b e = let p = both (leb 2 (length b)) (leb (length b) block_limit) e
 module _ (n c : ℕ) (b s : List ℕ) (w : Places) (x : Host n c s w) where
   first_call : putting_first n c b s ≡ receiving_first n c x.header b s x.ready.store
   unfolding putting_first on_store finding
-  first_call = rw (x.ready.is, x.font-in)
+  first_call = rw (x.ready.is, x.font_in)
 
   pub first_refused : (k : ℕ) → read_first b (font_orientation s w) ≡ Refused k → putting_first n c b s ≡ refuse s k
   unfolding receiving_first

@@ -33,20 +33,20 @@ module _ (n c : ℕ) (b s : List ℕ) (w : Places) (r : Ready n (c + 1) s w) whe
 pub block_host : (n c : ℕ) (s : List ℕ) (w : Places) → Ready n (c + 1) s w → n ≤ last_font → c ≤ last_code → w.lo < w.hi → Host n c s w
 block_host n c s w r a d l =
     let f = font_there n r.store.recs r.valid.order (omega (arith, ap (λ (x : Places). x.lo) r.at, ap (λ (x : Places). x.hi) r.at)) in
-    record { ready = r; low = a; code = d; header = f.0; font_in_lem = f.1 }
+    record { ready = r; low = a; code = d; header = f.0; font_in = f.1 }
 
 module _ (n c : ℕ) (b s : List ℕ) (w : Places) (x : Host n c s w) (e : character_length b ≡ true) where
   pub block_unknown : kind_of b ≡ Unknown → putting_block n c b s ≡ refuse s 4
   unfolding putting_block receiving_block on_store finding
-  block_unknown k = rw (x.ready.is, e, x.font-in, k)
+  block_unknown k = rw (x.ready.is, e, x.font_in, k)
 
   pub block_first : kind_of b ≡ First → putting_block n c b s ≡ putting_first n c b s
   unfolding putting_block receiving_block putting_first receiving_first on_store finding
-  block_first k = rw (x.ready.is, e, x.font-in, k)
+  block_first k = rw (x.ready.is, e, x.font_in, k)
 
   pub block_more : kind_of b ≡ Continuation → putting_block n c b s ≡ putting_more n c b s
   unfolding putting_block receiving_block putting_more receiving_more on_store finding
-  block_more k = rw (x.ready.is, e, x.font-in, k)
+  block_more k = rw (x.ready.is, e, x.font_in, k)
 
 -- ── the whole call
 module _ (n c : ℕ) (b s : List ℕ) where

@@ -25,7 +25,7 @@ use pictures::picture::Judged;
 
 // A run past its row's end: the picture row being read, the dots filled before it, and the run; all 0 where there was none.
 #[repr(C)]
-#[derive(Drop)]
+#[derive(Clone, Copy)]
 pub struct BadRun {
     pub row: u32,
     pub filled: u32,
@@ -34,7 +34,7 @@ pub struct BadRun {
 
 // The answer to a character block.
 #[repr(C)]
-#[derive(Drop)]
+#[derive(Clone, Copy)]
 pub struct Downloaded {
     pub refusal: u32,
     pub bad: BadRun,

@@ -17,14 +17,14 @@ use form::walk::{Inspected, Places};
 use form::{locate, number, walk};
 
 // A buffer that is a store, with a cursor at its front.
-#[derive(Drop)]
+#[derive(Clone, Copy)]
 pub enum Opened {
     At(Cursor),
     NotStore,
 }
 
 // What a download answers, and the cursor behind it.
-#[derive(Drop)]
+#[derive(Clone, Copy)]
 pub struct Added {
     pub answer: Downloaded,
     pub cursor: Cursor,

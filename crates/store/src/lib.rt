@@ -1,4 +1,6 @@
 // The store's calls: download, remove, tell, draw.
+#![tactic(auto)]
+
 pub mod characters;
 pub mod download;
 pub mod drawing;

@@ -4,7 +4,7 @@ ghost use Rattle.store.specs.Calls.{onto};
 
 // Document 01's refusal number, and the characters of a font or the data bytes of a character.
 #[repr(C)]
-#[derive(Drop)]
+#[derive(Clone, Copy)]
 pub struct Told {
     pub refusal: u32,
     pub count: u32,

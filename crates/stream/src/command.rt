@@ -7,7 +7,7 @@ ghost use Rattle.stream.specs.declared.command.Command.TheVariants.{FontBlock, C
 use blocks::header::BLOCK_LIMIT;
 
 // A command and the place behind it, for a block the place where it begins too; no command; or the end of the stream.
-#[derive(Drop)]
+#[derive(Clone, Copy)]
 pub enum Command {
     SetFont { number: u32, next: usize },
     SetCode { number: u32, next: usize },
@@ -18,7 +18,7 @@ pub enum Command {
 }
 
 // The number of a command, and the place behind its digits.
-#[derive(Drop)]
+#[derive(Clone, Copy)]
 pub struct NumberRead {
     pub value: u32,
     pub next: usize,

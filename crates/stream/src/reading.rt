@@ -17,21 +17,21 @@ use store::known;
 use store::known::Opened;
 
 // The font number and the code that the next block is for.
-#[derive(Drop)]
+#[derive(Clone, Copy)]
 pub struct Target {
     pub font: u32,
     pub code: u32,
 }
 
 // The commands done and refused so far.
-#[derive(Drop)]
+#[derive(Clone, Copy)]
 pub struct CommandCounts {
     pub done: u64,
     pub refused: u64,
 }
 
 // How a reading ended: with the stream, or with a 13 at a place.
-#[derive(Drop)]
+#[derive(Clone, Copy)]
 pub enum Ending {
     AtEnd,
     BrokenAt(usize),
@@ -39,7 +39,7 @@ pub enum Ending {
 
 // The refusal, the commands done and refused, the place of a 13, and the run of the first refusal 8.
 #[repr(C)]
-#[derive(Drop)]
+#[derive(Clone, Copy)]
 pub struct StreamRead {
     pub refusal: u32,
     pub done: u64,
@@ -49,7 +49,7 @@ pub struct StreamRead {
 }
 
 // A reading under way: its place in the stream, and the cursor in the store.
-#[derive(Drop)]
+#[derive(Clone, Copy)]
 pub struct State {
     pub at: usize,
     pub target: Target,
@@ -59,7 +59,7 @@ pub struct State {
 }
 
 // A reading that has ended.
-#[derive(Drop)]
+#[derive(Clone, Copy)]
 pub struct Stopped {
     pub ending: Ending,
     pub counts: CommandCounts,
@@ -68,7 +68,7 @@ pub struct Stopped {
 }
 
 // After a command: the state behind it, or the end of the reading.
-#[derive(Drop)]
+#[derive(Clone, Copy)]
 pub enum Obeyed {
     On(State),
     Stop(Ending),

@@ -22,21 +22,21 @@ use form::{records, seek};
 
 // What writing answers: document 01's refusal number, and the length.
 #[repr(C)]
-#[derive(Drop)]
+#[derive(Clone, Copy)]
 pub struct Written {
     pub refusal: u32,
     pub length: u32,
 }
 
 // The length of what a record is written as, and the place behind the record.
-#[derive(Drop)]
+#[derive(Clone, Copy)]
 struct Measured {
     length: usize,
     next: usize,
 }
 
 // The places behind a record and behind what it was written as.
-#[derive(Drop)]
+#[derive(Clone, Copy)]
 struct Reached {
     next: usize,
     to: usize,

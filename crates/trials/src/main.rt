@@ -1,4 +1,6 @@
 // Document 01's trials that are not proved, run on the calls that C makes. Each prints what was answered; the file stdout has what must be.
+#![tactic(auto)]
+
 mod calls;
 mod compressed;
 mod print;

@@ -140,6 +140,12 @@ all_cross = tt
 
 six : (a b c d e f : Bool) → T (a && (b && (c && (d && (e && f))))) → T a × T b × T c × T d × T e × T f
 six true true true true true true t = (tt, tt, tt, tt, tt, tt)
+six false b c d e f t = elim t [ ]
+six true false c d e f t = elim t [ ]
+six true true false d e f t = elim t [ ]
+six true true true false e f t = elim t [ ]
+six true true true true false f t = elim t [ ]
+six true true true true true false t = elim t [ ]
 
 transposed_digit : (x k : ℕ) → k < 64 → digit k (fours (twos (ones x))) ≡ digit (k % 8 * 8 + k / 8) x
 unfolding crosses

@@ -1,4 +1,6 @@
 // Turns drawn pictures (W-203).
+#![tactic(auto)]
+
 mod block;
 mod mirror;
 pub mod turn;

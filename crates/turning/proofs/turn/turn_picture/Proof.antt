@@ -55,7 +55,7 @@ returns-4 c =
     let g = good a.turn a.width a.height (length a.picture.now) (passed k.before.is-turnable.ensures k.if1.false) in
     turn_done a.turn a.width a.height a.picture.now a.out.now (passed k.before.is-turnable.ensures k.if1.false)
     (omega (arith, c.before.before.before.before.before.before.turned-size.ensures)) _
-    (by_quarters a.picture.now a.out.now _ a.width a.height a.turn g.turn_low g.turn-high c.before.before.before.before.if3.false c.before.before.quarter-turn.ensures)
+    (by_quarters a.picture.now a.out.now _ a.width a.height a.turn g.turn_low g.turn_high c.before.before.before.before.if3.false c.before.before.quarter-turn.ensures)
 
 pub turn_picture_spec : {M : Type 1} → statement M
 turn_picture_spec =
