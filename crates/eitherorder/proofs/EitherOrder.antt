@@ -121,7 +121,7 @@ sent_same {n} {c} {b} e (by_more r p m f) (by_more q _ _ g) =
     let i : r ≡ q = cc in
     (ap kept_of i, ap (λ (x : Rec). data_of x ++ drop continuation_bytes b) i)
 
-does_same : {n : ℕ} {st st' : Store} {x : Call} {k k' : Change} → SameFont n st st' → Does n st x k → Does n st' x k' → k ≡ k'
+does_same : {n m : ℕ} {st st' : Store} {x : Call} {k k' : Change} → SameFont n st st' → Does n st x k → Does m st' x k' → k ≡ k'
 does_same o (puts_font b) (puts_font _) = refl
 does_same {n} o (puts_character c b h d l y) (puts_character _ _ h' d' _ y') =
     let e = sent_same (o c l) y y' in
@@ -216,8 +216,8 @@ either_order n m x y P Q o s d e =
 
 -- ── a continuation
 -- a character block leaves no character of another font open
-no_other_mark : {m k : ℕ} {b : List ℕ} {st : Store} {x : Change} → Does m st (download_character m k b) x → (n c : ℕ) → (n ≡ m → ⊥) → x.mark st.mark ≡ record { on = 1; font_of = n; code_of = c } → ⊥
-no_other_mark {m} {k} (puts_character _ _ h d l y) n c o e =
+no_other_mark : {m j k : ℕ} {b : List ℕ} {st : Store} {x : Change} → Does m st (download_character j k b) x → (n c : ℕ) → (n ≡ m → ⊥) → x.mark st.mark ≡ record { on = 1; font_of = n; code_of = c } → ⊥
+no_other_mark {m} {k = k} (puts_character _ _ h d l y) n c o e =
     ⊎_elim
     (λ z. absurd (omega (arith, ap (λ (q : Mark). q.on) (sym z ∙ e))))
     (λ z. o (sym (ap (λ (q : Mark). q.font_of) e) ∙ z))
@@ -239,5 +239,5 @@ continuation_alone n m c k b d s o z e = go f.does
     sent (by_first p) = z (first_begins b p).1
     sent (by_more r p q g) = no_other_mark a.does n c o (sym (ap (λ (w : Store). w.mark) same) ∙ q)
 
-    go : {x : Change} → Does n f.store (download_character n c b) x → ⊥
+    go : {j : ℕ} {x : Change} → Does j f.store (download_character n c b) x → ⊥
     go (puts_character _ _ h t l y) = sent y
