@@ -149,25 +149,20 @@ padded_short zero m (x ∷ d) e = absurd (omega arith)
 padded_short (suc n) m (x ∷ d) e = ap (λ (t : List ℕ). x ∷ t) (padded_short n m d (omega arith))
 
 -- the data from a place on fills the output
-pub copied_long : (from : ℕ) (d out : List ℕ) → from + length out ≤ length d
-    → take (length (take (from + length out - from) (drop from d))) (take (from + length out - from) (drop from d))
-    ++ drop (length (take (from + length out - from) (drop from d))) out
-    ≡ padded (length out) (drop from d)
+pub copied_long : (from : ℕ) (d out : List ℕ) → from + length out ≤ length d → take (from + length out - from) (drop from d) ≡ padded (length out) (drop from d)
 copied_long from d out l =
     let z : from + length out - from ≡ length out = omega arith in
     let h : length out ≤ length (drop from d) = simp length-drop (omega arith) in
-    let e : length (take (length out) (drop from d)) ≡ length out = length-take-le (length out) (drop from d) h in
-    rw z (copied_all (take (length out) (drop from d)) out (sym e) ∙ padded_long (length out) (drop from d) h)
+    rw z (padded_long (length out) (drop from d) h)
 
 -- it ends within the output
-pub copied_short : (from n m : ℕ) (d out out' ys : List ℕ) → n ≡ length (take (length d - from) (drop from d))
-    → out' ≡ take (length (take (length d - from) (drop from d))) (take (length d - from) (drop from d)) ++ drop (length (take (length d - from) (drop from d))) out
-    → ys ≡ white m → m ≡ length (take (length out' - n) (drop n out')) → length d - from ≤ length out
+pub copied_short : (from n m : ℕ) (d out out' ys : List ℕ) → n ≡ length d - from → out' ≡ take n (drop from d) ++ drop n out
+    → ys ≡ white m → m ≡ length (take (length out' - n) (drop n out')) → n ≤ length out
     → put_mid n (length out' - n) out' ys ≡ padded (length out) (drop from d)
 copied_short from n m d out out' ys e p y q l =
     let s : List ℕ = drop from d in
-    let a : n ≡ length s = e ∙ ap length (tail_lent from d) in
-    let b : out' ≡ s ++ drop n out = p ∙ rw (tail_lent from d, take-length, a) in
+    let a : n ≡ length s = e ∙ sym (length-drop from d) in
+    let b : out' ≡ s ++ drop n out = p ∙ rw (e, tail_lent from d) in
     let c : length out' ≡ length out = ap length b ∙ simp (length-append, length-drop) (omega (arith, length-drop from d)) in
     let k : length s + m ≡ length out = omega (arith, q ∙ ap length (tail_lent n out') ∙ length-drop n out', length-drop from d) in
     tail_back n out' ys ∙ rw (b, y, take_at s (drop n out) n (sym a)) (padded_short (length out) m s k)

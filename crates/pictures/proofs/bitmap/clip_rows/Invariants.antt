@@ -1,0 +1,13 @@
+use Rattle.std.proofs.Common.{◌≡◌, ℕ, ◌+◌, ◌-◌, ◌*◌, ◌<◌, ◌≤◌, List, ◌++◌, length, get_or, drop, refl, ◌∙◌, append-nil, zero-le, mul-le-mul_right, add-mul, one-mul, zero-mul, arith, length-set, drop_of_length-le, rules}
+use Rattle.pictures.specs.Size.{bitmap_class, row_size, picture_size}
+use Rattle.pictures.specs.Rows.{picture}
+use Rattle.pictures.specs.Drawing.{padded, padding_bits}
+use Rattle.pictures.proofs.Bitmaps.{clip_next, masked}
+use Rattle.pictures.proofs.bitmap.clip_rows.Given as goal
+
+abbrev pub invariant-loop-row : goal.invariant-loop-row
+invariant-loop-row l = (l.row ≤ l.height) × (l.at ≡ l.row * row_size l.width) × (length l.out ≡ length l.initial.out)
+    × ((d : List ℕ) → ((i : ℕ) → get_or d i 0 < 256) → l.initial.out ≡ padded (picture_size l.width l.height) d → l.out ≡ picture bitmap_class l.width d l.row ++ drop (l.row * row_size l.width) l.initial.out)
+
+abbrev pub decreases-loop-row : goal.decreases-loop-row
+decreases-loop-row l = l.height - l.row

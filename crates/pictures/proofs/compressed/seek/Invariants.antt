@@ -1,0 +1,10 @@
+use Rattle.std.proofs.Common.{◌≡◌, ◌+◌, ◌-◌, length, get_or, drop, sym, refl, ◌∙◌, zero-le, arith, rules}
+use Rattle.pictures.specs.Rows.{runs_row}
+use Rattle.pictures.proofs.Lines.{rows_past, rows_here, rows_below, rows_none, line_ends, line_unfinished, line_within}
+use Rattle.pictures.proofs.compressed.seek.Given as goal
+
+abbrev pub invariant-loop-at : goal.invariant-loop-at
+invariant-loop-at l = runs_row l.width (drop l.at l.bytes) l.above ≡ runs_row l.width l.bytes l.row
+
+abbrev pub decreases-loop-at : goal.decreases-loop-at
+decreases-loop-at l = length l.bytes - l.at

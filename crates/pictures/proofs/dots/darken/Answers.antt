@@ -1,0 +1,5 @@
+use Rattle.std.proofs.Common.{rules}
+use Rattle.pictures.proofs.dots.darken.Goals as goal
+
+pub returns : goal.returns
+returns c = rw c.wrapping_add_u8.ensures.value

@@ -1,0 +1,11 @@
+use Rattle.std.proofs.Common.{◌∙◌, rules, eq-eqb, ne_eqb}
+use Rattle.pictures.specs.Picture.{judge}
+use Rattle.pictures.proofs.picture.judge_first.Goals as goal
+
+pub returns-then-class-eq-BITMAP : goal.returns-then-class-eq-BITMAP
+unfolding judge
+returns-then-class-eq-BITMAP c = c.judge_bitmap.ensures ∙ rw (eq-eqb _ _ c.if-class-eq-BITMAP.true)
+
+pub returns : goal.returns
+unfolding judge
+returns c = c.judge_scan.ensures ∙ rw (ne_eqb _ _ c.if-class-eq-BITMAP.false, c.scan.ensures)

@@ -1,0 +1,5 @@
+use Rattle.std.proofs.Common.{rules}
+use Rattle.pictures.proofs.runs.Inside.stopped.Goals as goal
+
+pub returns : goal.returns
+returns c = rw c.place_of.ensures
