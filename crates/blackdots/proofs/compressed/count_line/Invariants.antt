@@ -1,0 +1,14 @@
+use Rattle.blackdots.specs.Counting.{Counting}
+use Rattle.blackdots.proofs.RunDots.{counting_ends, white_last, white_unfinished, black_last, black_next}
+use native.Mathlib.Omega.{arith}
+use borrow.Author.Rules.{rules}
+use lib.ListN.{length}
+use mathlib.Core.Path.{◌∙◌}
+use Prim.Native.Nat.{◌-◌}
+use Rattle.blackdots.proofs.compressed.count_line.Given as goal
+
+abbrev pub invariant-loop-at : goal.invariant-loop-at
+invariant-loop-at l = Counting l.width l.bytes l.from l.at l.left l.black
+
+abbrev pub decreases-loop-at : goal.decreases-loop-at
+decreases-loop-at l = length l.bytes - l.at

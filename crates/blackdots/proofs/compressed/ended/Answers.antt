@@ -1,0 +1,5 @@
+use borrow.Author.Rules.{rules}
+use Rattle.blackdots.proofs.compressed.ended.Goals as goal
+
+pub returns-then-whole : goal.returns-then-whole
+returns-then-whole c = rw c.if-whole.true

@@ -1,0 +1,13 @@
+use Rattle.blackdots.specs.Counting.{Counting}
+use Rattle.blackdots.proofs.RunDots.{counting_starts, eight_next}
+use Prim.Native.Nat.{◌-◌}
+use native.Mathlib.Omega.{arith}
+use lib.ListN.{length}
+use borrow.Author.Rules.{rules}
+use Rattle.blackdots.proofs.compressed.pass_eights.Given as goal
+
+abbrev pub invariant-loop-at : goal.invariant-loop-at
+invariant-loop-at l = Counting l.width l.bytes l.from l.at l.left l.black
+
+abbrev pub decreases-loop-at : goal.decreases-loop-at
+decreases-loop-at l = length l.bytes - l.at

@@ -1,0 +1,5 @@
+use borrow.Author.Rules.{rules}
+use Rattle.blocks.proofs.character.first_form.Goals as goal
+
+pub returns : goal.returns
+returns c = cc

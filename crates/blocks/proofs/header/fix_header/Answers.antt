@@ -1,0 +1,21 @@
+use native.Mathlib.Omega.{arith}
+use lib.ListN.{length-set}
+use Rattle.blocks.specs.Header.{fix_header}
+use borrow.Author.Rules.{rules}
+use Rattle.blocks.proofs.header.fix_header.Goals as goal
+
+pub overflow_cast-size : goal.overflow_cast-size
+overflow_cast-size c = omega (arith, c.own_bytes-size.ensures.1)
+
+pub cap_extended-requires : goal.cap_extended-requires
+cap_extended-requires c = simp length-set (omega (arith, c.put_word.auto.0))
+
+pub cap_extended-requires-2 : goal.cap_extended-requires-2
+cap_extended-requires-2 c = omega (arith, simp length-set at c.cap_extended.auto.0, c.put_word.auto.0)
+
+pub shape_of-s : goal.shape_of-s
+shape_of-s c = omega (arith, c.cap_extended-2.auto.0, simp length-set at c.cap_extended.auto.0, c.put_word.auto.0)
+
+pub returns : goal.returns
+unfolding fix_header
+returns c = cc

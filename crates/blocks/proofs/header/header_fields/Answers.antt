@@ -1,0 +1,5 @@
+use borrow.Author.Rules.{rules}
+use Rattle.blocks.proofs.header.header_fields.Goals as goal
+
+pub returns : goal.returns
+returns c = cc

@@ -1,0 +1,8 @@
+use borrow.Author.Rules.{rules}
+use Rattle.turning.proofs.block.flip.Goals as goal
+
+pub returns-then-back : goal.returns-then-back
+returns-then-back c = rw c.if-back.true
+
+pub returns-else-back : goal.returns-else-back
+returns-else-back c = rw c.if-back.false
