@@ -16,7 +16,7 @@ returns-then-width-eq0 c =
     let b : List ℕ = c.args.b.now in
     let even : w % 8 ≡ 0 = omega (arith, c.if-width-eq0.true) in
     let e : black_dots 1 w c.args.height b + overhang (row_size w) 0 b c.args.height ≡ ones_of b = black_bitmap w b c.requires.0 (λ i. (c.shared_slice_known-1.given i).fits) 0 c.args.height (omega arith) c.requires.1 in
-    omega (arith, e, overhang_zero (row_size w) b c.args.height, c.ones_in_lem.ensures)
+    omega (arith, e, overhang_zero (row_size w) b c.args.height, c.ones_in-all.ensures)
 
 -- all ones are black dots, or lie beyond the width
 pub overflow_sub-result : goal.overflow_sub-result
@@ -30,7 +30,7 @@ overflow_sub-result c =
     let n : c.row_size.result ≡ row_size w = c.row_size.ensures in
     let o : c.ones_beyond.result ≡ overhang c.row_size.result pad b h = c.ones_beyond.ensures.0 h pad c.beyond.ensures (rw n c.requires.1) in
     omega (arith, e, o ∙ ap (λ (x : ℕ). overhang x pad b h) n) in
-    omega (arith, sums, c.ones_in_lem.ensures)
+    omega (arith, sums, c.ones_in-all.ensures)
 
 -- all ones are black dots, or lie beyond the width
 pub returns : goal.returns
@@ -44,4 +44,4 @@ returns c =
     let n : c.row_size.result ≡ row_size w = c.row_size.ensures in
     let o : c.ones_beyond.result ≡ overhang c.row_size.result pad b h = c.ones_beyond.ensures.0 h pad c.beyond.ensures (rw n c.requires.1) in
     omega (arith, e, o ∙ ap (λ (x : ℕ). overhang x pad b h) n) in
-    omega (arith, sums, c.ones_in_lem.ensures)
+    omega (arith, sums, c.ones_in-all.ensures)

@@ -8,10 +8,10 @@ use borrow.Author.Rules.{rules}
 use Rattle.blocks.proofs.field.cap_extended.Goals as goal
 
 pub bounds-s-extended : goal.bounds-s-extended
-bounds-s-extended c = omega (arith, c.put_word.auto.0)
+bounds-s-extended c = omega (arith, c.put_word.auto.s)
 
 pub shape_of-s-then-limit-word : goal.shape_of-s-then-limit-word
-shape_of-s-then-limit-word c = simp length-set (omega (arith, c.put_word.auto.0))
+shape_of-s-then-limit-word c = simp length-set (omega (arith, c.put_word.auto.s))
 
 pub returns-then-limit-word : goal.returns-then-limit-word
 returns-then-limit-word c =

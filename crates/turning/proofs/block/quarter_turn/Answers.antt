@@ -20,7 +20,7 @@ pub loop-column-preserved : goal.loop-column-preserved
 loop-column-preserved c =
     (
       search rules,
-      c.turn_column.auto.1.0 ∙ c.loop-column.invariant.1,
+      c.turn_column.auto.out ∙ c.loop-column.invariant.1,
       λ a q l m k. c.turn_column.ensures.0 c.loop-column.invariant.2 a q l m (omega arith),
       λ j l. c.turn_column.ensures.1 j l ∙ c.loop-column.invariant.3 j l,
     )

@@ -50,4 +50,4 @@ pub returns : goal.returns
 returns c =
     let a = c.args in
     let e : c.loop-i.i ≡ a.count = omega arith in
-    rw e c.loop-i c.loop-i.invariant.2
+    rw e at c.loop-i.invariant.2

@@ -25,11 +25,11 @@ scatter_block-requires c = (omega arith, omega arith, omega arith, rw c.bytes_ac
 pub loop-q-preserved : goal.loop-q-preserved
 loop-q-preserved c =
     let a = c.args in
-    let put = rw c.bytes_across-m.ensures c.loop-q c.scatter_block.ensures in (
+    let put = rw c.bytes_across-m.ensures at c.scatter_block.ensures in (
       search rules,
-      c.scatter_block.auto.1.0 ∙ c.loop-q.invariant.1,
+      c.scatter_block.auto.out ∙ c.loop-q.invariant.1,
       λ t. columns_next a.up a.width a.height a.picture.now a.column (λ i. (c.shared_slice_known-1.given i).fits) c.loop-q.q c.gather_block.result c.transpose-block.result _ _ (omega arith)
-          (rw c.bytes_across-n.ensures c.loop-q c.gather_block.ensures) c.transpose-block.ensures put (c.loop-q.invariant.2 t),
+          (rw c.bytes_across-n.ensures at c.gather_block.ensures) c.transpose-block.ensures put (c.loop-q.invariant.2 t),
       λ j l. put.behind j l ∙ c.loop-q.invariant.3 j l,
     )
 

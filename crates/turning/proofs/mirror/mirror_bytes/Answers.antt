@@ -33,7 +33,7 @@ loop-from-preserved c =
     let pre = c.requires in
     (
       omega arith,
-      c.mirror_eight.auto.1.1.0 ∙ c.loop-from.invariant.1,
+      c.mirror_eight.auto.out ∙ c.loop-from.invariant.1,
       run_next a.width a.height a.picture.now pre.1 pre.4 pre.5 a.out.now _ _ c.loop-from.i c.loop-from.from 8 c.loop-from.invariant.0 (omega arith) pre.6 c.mirror_eight.ensures c.loop-from.invariant.2,
     )
 
@@ -41,7 +41,7 @@ pub mirror_run-requires : goal.mirror_run-requires
 mirror_run-requires c = (c.requires.0, omega arith, omega arith, omega arith)
 
 pub shape_of-out : goal.shape_of-out
-shape_of-out c = c.mirror_run.auto.1.1.0 ∙ c.loop-from.invariant.1
+shape_of-out c = c.mirror_run.auto.out ∙ c.loop-from.invariant.1
 
 pub returns : goal.returns
 returns c =

@@ -44,14 +44,14 @@ loop-row-preserved c =
     let a = c.args in
     let e = c.bytes_across-n.ensures in (
       search rules,
-      c.mirror_row.auto.1.1.0 ∙ c.loop-row.invariant.1,
+      c.mirror_row.auto.out ∙ c.loop-row.invariant.1,
       let w = a.width in
           let h = a.height in
           let s = a.picture.now in
           let n = row_size w in
           let r = c.loop-row.row in
           half_next w h s a.out.now _ n r
-          ((rw e c.loop-row c.mirror_row.ensures) (turned 2 w h s) a.out.now (omega (arith, length_half w h s (search rules), row_fits n h r c.loop-row-test.true)) (omega (arith, row_fits n h r c.loop-row-test.true))
+          ((rw e at c.mirror_row.ensures) (turned 2 w h s) a.out.now (omega (arith, length_half w h s (search rules), row_fits n h r c.loop-row-test.true)) (omega (arith, row_fits n h r c.loop-row-test.true))
           (λ q l. rw (c.flip-from.ensures, c.power-scale.ensures, e) (half_byte_lem w h s n (n * 8 - w) refl (omega arith) (omega arith) r c.loop-row-test.true (search rules) q l)) c.loop-row.invariant.2),
     )
 
