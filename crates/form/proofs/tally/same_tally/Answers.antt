@@ -1,0 +1,9 @@
+use borrow.Author.Rules.{rules}
+use Rattle.form.specs.Num.{◌and◌}
+use Rattle.form.proofs.tally.same_tally.Reads as reads
+use Rattle.form.proofs.tally.same_tally.Lts as lts
+use Rattle.form.proofs.tally.same_tally.Goals as goal
+
+pub returns : goal.returns
+unfolding ◌and◌
+returns c = search rules

@@ -1,0 +1,32 @@
+use mathlib.Core.Path.{◌≡◌, refl, sym, ap, ◌∙◌, subst}
+use Prim.Native.Nat.{◌-◌}
+use lib.ListN.{length, drop}
+use Rattle.form.specs.Layout.{mark_record}
+use Rattle.form.specs.Walk.{walked, walk_start, walk_after, Within, Ahead}
+use Rattle.form.specs.declared.walk.Step.{Step}
+use Rattle.form.specs.declared.walk.Step.TheVariants.{Go, Stop}
+use borrow.Author.Rules.{rules}
+use native.Mathlib.Omega.{arith}
+use Rattle.form.proofs.walk.survey.Goals as goal
+
+pub loop-next-init : goal.loop-next-init
+loop-next-init c = (record { at = search rules; characters = search rules; bytes = search rules }, refl)
+
+pub loop-next-smaller : goal.loop-next-smaller
+unfolding Ahead
+loop-next-smaller c =
+    let h : Ahead (length c.args.s.now) c.loop-next.p (Go c.in-Go.next) = subst (λ (r : Step). Ahead (length c.args.s.now) c.loop-next.p r) c.in-Go.is c.walk_one.ensures.1 in
+    omega (arith, h.0, h.1.at)
+
+pub loop-next-preserved : goal.loop-next-preserved
+unfolding Ahead walk_after
+loop-next-preserved c =
+    let h : Ahead (length c.args.s.now) c.loop-next.p (Go c.in-Go.next) = subst (λ (r : Step). Ahead (length c.args.s.now) c.loop-next.p r) c.in-Go.is c.walk_one.ensures.1 in
+    let o : walk_after c.args.font c.args.mark c.args.s.now (Go c.in-Go.next) ≡ walked c.args.font c.args.mark c.loop-next.p (drop c.loop-next.p.at c.args.s.now) = sym (ap (walk_after c.args.font c.args.mark c.args.s.now) c.in-Go.is) ∙ c.walk_one.ensures.0 in
+    (h.1, o ∙ c.loop-next.invariant.1)
+
+pub returns-in-Stop : goal.returns-in-Stop
+unfolding walk_after
+returns-in-Stop c =
+    let o : walk_after c.args.font c.args.mark c.args.s.now (Stop c.in-Stop.w) ≡ walked c.args.font c.args.mark c.loop-next.p (drop c.loop-next.p.at c.args.s.now) = sym (ap (walk_after c.args.font c.args.mark c.args.s.now) c.in-Stop.is) ∙ c.walk_one.ensures.0 in
+    o ∙ c.loop-next.invariant.1
