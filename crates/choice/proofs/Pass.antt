@@ -108,7 +108,6 @@ module _ (r : Request) where
             (⊎_elim (λ i. inl (i ∙ sym (level (rw e at w.1) ((is_left r all).low f g (carry (fonts_left r all) i m) (inl refl, u))))) (λ n. inr n))
             ((is_left r all).base c m).0),
       )
-
   compared b (g ∷ (_ ∷ _)) f l t x7 kd = elim x7 [ ]
 
   one_more : (b : Score) (h : List Candidate) (f : Candidate) (l : List Candidate) → BestOf b h → Keyed (h ++ f ∷ l) → Carried (weighed r b f) l (h ++ f ∷ l)
