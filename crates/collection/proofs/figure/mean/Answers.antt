@@ -1,0 +1,6 @@
+use Rattle.collection.proofs.Bytes.{mean_some}
+use borrow.Author.Rules.{rules}
+use Rattle.collection.proofs.figure.mean.Goals as goal
+
+pub returns : goal.returns
+returns c = mean_some _ _ c.if-count-eq0.false

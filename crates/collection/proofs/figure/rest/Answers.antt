@@ -1,0 +1,6 @@
+use Rattle.collection.proofs.Bytes.{rest_some}
+use borrow.Author.Rules.{rules}
+use Rattle.collection.proofs.figure.rest.Goals as goal
+
+pub returns : goal.returns
+returns c = rest_some _ _ c.if-count-eq0.false
