@@ -1,5 +1,5 @@
 -- A font meets the profile exactly when all its rules hold. Assumes nothing.
-use Prim.Native.Nat.{ℕ, ◌+◌, ◌≤◌, ◌<◌}
+use Prim.Native.Nat.{ℕ, ◌+◌, ◌≤◌}
 use mathlib.Core.Path.{◌≡◌, refl, sym, ap, ◌∙◌}
 use mathlib.Core.List.{List, [], ◌∷◌}
 use mathlib.Core.Bool.{Bool, true, false, not, ◌||◌}
@@ -15,7 +15,6 @@ use Rattle.form.specs.Layout.{last_code, key_of}
 use Rattle.form.specs.Model.{Rec, held_of}
 use Rattle.form.specs.Order.{find}
 use Rattle.store.specs.Calls.{kept_of, data_of}
-use Rattle.profile.specs.declared.pass.RuleBroken.{RuleBroken}
 use Rattle.profile.specs.Profile.{meets, of_type_zero, fixed_spaced, first_required, last_required, is_whole, complete, has_character, left_inside, right_inside, height_inside, advances_by_pitch, of_each, character_rules, first_broken, rules, broken_in, none_broken, Simple, Meets, MeetsExactly, FirstAndLowest}
 use Rattle.profile.proofs.Search.{rule_holds, none_broken_lem, breaks_first}
 
