@@ -121,7 +121,7 @@
  *   A store may be saved, copied and taken up again as plain bytes, by the same version on any
  *   machine. The first number of MF_VERSION rises when the form of a call or of the store
  *   changes: versions that have it in common take up each other's stores, and so do those of
- *   2.0.0 to 3.2.0, whose calls alone differ. A store with fonts that a version before 2.0.0 made
+ *   2.0.0 to 3.1.0, whose calls alone differ. A store with fonts that a version before 2.0.0 made
  *   is not a store any more (MF_NOT_A_STORE), since its font records have 72 or 78 bytes and not
  *   82: have that version write its fonts out, and read the streams into a fresh store, in which
  *   each font takes 10 or 4 bytes more.
@@ -139,8 +139,8 @@
 extern "C" {
 #endif
 
-#define MF_VERSION "3.2.0"
-#define MF_VERSION_NUMBER 30200 /* 10000 x first + 100 x second + third number */
+#define MF_VERSION "3.1.0"
+#define MF_VERSION_NUMBER 30100 /* 10000 x first + 100 x second + third number */
 
 enum mf_refusal {
     MF_DONE = 0,           /* done */
@@ -252,8 +252,7 @@ static inline const char *mf_refusal_name(uint32_t refusal)
     case MF_NOT_TAKEN: return "format, descriptor size or class not taken";
     case MF_FIELD_VALUE: return "a field's value not allowed";
     case MF_NO_FONT: return "no such font";
-    case MF_NO_CHARACTER:
-        return "no such character, or a continuation not for the open character";
+    case MF_NO_CHARACTER: return "no such character";
     case MF_RUN_PAST_ROW: return "a run passes the row's end";
     case MF_TOO_LARGE: return "character too large";
     case MF_NO_ROOM: return "no room";
@@ -995,10 +994,16 @@ enum mf_figure_number {
 uint32_t mf_add_figures(const uint8_t *store, size_t store_len,
                         uint8_t *figures, size_t figures_len);
 
+/* The number that begins at a byte of figures. */
+static inline uint64_t mf_figure_at(const uint8_t *figures, size_t at)
+{
+    return mf_number_at(figures, at);
+}
+
 /* How many stores were added to figures so far. */
 static inline uint64_t mf_figures_stores(const uint8_t *figures)
 {
-    return mf_number_at(figures, 0);
+    return mf_figure_at(figures, 0);
 }
 
 /* A number of a code: which is MF_FIGURE_COUNT .. MF_FIGURE_REST. For another number, and for a
@@ -1007,7 +1012,7 @@ static inline uint64_t mf_figure(const uint8_t *figures, uint32_t code, uint32_t
 {
     if (code > MF_CODE_MAX || which > MF_FIGURE_REST)
         return 0;
-    return mf_number_at(figures, 8 + 56 * (size_t)code + 8 * (size_t)which);
+    return mf_figure_at(figures, 8 + 56 * (size_t)code + 8 * (size_t)which);
 }
 
 /* ---- along a store ---- */

@@ -59,7 +59,7 @@ static const option options[] = {
      "0 portrait, 1 landscape, 2 and 3 reverse: the characters are turned (0)"}};
 
 static const description program = {
-    "marlinfold-bdf", "[--font N] [--salvage] [-o FILE] FILE... | --in FILE [OPTIONS]",
+    "marlinfold-bdf", "[--font N] [-o FILE] FILE... | --in FILE [OPTIONS]",
     "Reads the fonts of each FILE, - for standard input, and writes one of them to standard\n"
     "output as BDF, for font editors and X11: its characters upright, dot for dot, and all that\n"
     "its header has, what BDF lacks as properties that begin with _PCL_. With --in it reads a BDF\n"

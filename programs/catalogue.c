@@ -18,6 +18,7 @@
 static const char *out;
 
 static const option options[] = {
+    SALVAGE_OPTION,
     {WORD, "-o", "FILE", &out, 0, 0, "write to this file (-, standard output)"}};
 
 static const description program = {
@@ -25,9 +26,9 @@ static const description program = {
     "Reads the fonts of every file in DIR and in its folders, and writes a page of HTML to\n"
     "standard output that needs nothing but itself: each font with its fields in words, every\n"
     "character with its code, and a line of text; bold fonts marked as closed series; each\n"
-    "refused command and skipped stretch; whether fonts are fit for spine labels; which fonts are\n"
-    "equal; and the figures of all characters by code. Each file is read into a store of 65536\n"
-    "bytes, past its torn places. DIR may be a file as well.\n",
+    "refused command and broken place or skipped stretch; whether fonts are fit for spine labels;\n"
+    "which fonts are equal; and the figures of all characters by code. Each file is read into a\n"
+    "store of 65536 bytes. DIR may be a file as well.\n",
     "Pictures need libpng. Built without it, the program writes the page without them.\n"
     "Exit status: 0 if every file has fonts and was taken whole, 2 if the page was written but a\n"
     "file is damaged, has no font or cannot be read, there is no file or a picture is missing,\n"
@@ -150,7 +151,6 @@ int main(int argc, char **argv)
     if (strcmp(argv[1], "-") == 0)
         stop("-: standard input is no folder");
     look_for_older();
-    salvage = 1;
     made.body = tmpfile();
     if (!made.body)
         stop("a temporary file cannot be written: %s", strerror(errno));

@@ -1,7 +1,7 @@
-"""catalogue.py PAGE FOLDER PROGRAMS: whether a page of marlinfold-catalogue says of the folder what
-the other programs in the folder PROGRAMS say of its files, and draws what they draw: fields, notes,
-rules, samples, every character in its field, equal fonts, the figures by code. Prints what was
-compared."""
+"""catalogue.py PAGE FOLDER PROGRAMS [--salvage]: whether a page of marlinfold-catalogue says of the
+folder what the other programs in the folder PROGRAMS say of its files, and draws what they draw:
+fields, notes, rules, samples, every character in its field, equal fonts, the figures by code; with
+--salvage what all of them say and draw with it, skipped stretches too. Prints what was compared."""
 import base64
 import functools
 import html.parser
@@ -107,7 +107,7 @@ def dots_of_png(src):
 
 
 def dots_of_label(path, font, text, *options):
-    made = run("label", "--salvage", "--plain", "--bytes", "--font", font, *options, "--", text,
+    made = run("label", *salvage, "--plain", "--bytes", "--font", font, *options, "--", text,
                path)
     return made.stdout.decode().split("\n")[2:-1]
 
@@ -140,7 +140,7 @@ def code_drawn(code, scale):
 
 @functools.lru_cache(maxsize=None)
 def as_bdf(path, font):
-    return run("bdf", "--salvage", "--font", font, path).stdout.decode()
+    return run("bdf", *salvage, "--font", font, path).stdout.decode()
 
 
 def of_bdf(path, font):
@@ -223,7 +223,7 @@ def check_font(section, told, path):
             f', "{name}"' if name else ""), words(section)
     if os.path.basename(path).startswith("cm"):  # the samples are as the library writes them
         assert rows["Bytes"] == f"{os.path.getsize(path)} as a font stream", (rows["Bytes"], path)
-    said = run("specimen", "--salvage", "--profile", "--font", number,
+    said = run("specimen", *salvage, "--profile", "--font", number,
                path).stdout.decode().split("\n")[:-1]
     met = said == [f"font {number} meets the profile"]
     rules = [words(item) for item in every(section, "li")]
@@ -266,7 +266,7 @@ def note_said(told):
 
 
 def check_file(article, path):
-    ran = run("fonts", "--salvage", "--json", path)
+    ran = run("fonts", *salvage, "--json", path)
     told = [json.loads(line) for line in ran.stdout.decode("utf-8", "replace").split("\n")[:-1]]
     fonts = [each for each in told if each["kind"] == "font"]
     sections = list(every(article, "section"))
@@ -290,7 +290,6 @@ def check_file(article, path):
     assert f"commands done {told[-1]['done']}, refused {told[-1]['refused']}." in words(article)
     assert int(article["attributes"]["data-bytes"]) == os.path.getsize(path)
     counts["notes"] += len(notes)
-    counts["skipped"] += len(skipped)
     return {section["attributes"]["id"]: (path, font) for section, font in zip(sections, fonts)}
 
 
@@ -396,8 +395,8 @@ def check_figures(page, articles, fonts):
     check_chart(page, expected)
 
 
-page_name, folder, programs = sys.argv[1:]
-counts = {"pictures": 0, "notes": 0, "skipped": 0, "groups": 0, "codes": 0}
+page_name, folder, programs, *salvage = sys.argv[1:]  # --salvage, or nothing
+counts = {"pictures": 0, "notes": 0, "groups": 0, "codes": 0}
 digit_rows = digits()
 whole = Page(open(page_name, encoding="utf-8", errors="strict", newline="").read()).root
 safe(whole)
@@ -420,6 +419,5 @@ for name, part in zip(shown, parts):
 check_groups(whole, kept)
 check_sums(whole, parts, kept)
 check_figures(whole, parts, kept)
-print(f"{len(parts)} files, {len(kept)} fonts, {counts['notes']} notes, {counts['skipped']} skipped "
-      f"stretches, {counts['pictures']} pictures, {counts['groups']} groups, figures of "
-      f"{counts['codes']} codes")
+print(f"{len(parts)} files, {len(kept)} fonts, {counts['notes']} notes, {counts['pictures']} "
+      f"pictures, {counts['groups']} groups, figures of {counts['codes']} codes")

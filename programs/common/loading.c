@@ -118,10 +118,7 @@ static const char *why_broken(uint32_t found)
 
 static void tell_broken(const loading *of)
 {
-    char what[200];
-
-    snprintf(what, sizeof what, "%s; --salvage reads on", why_broken(of->of.broken));
-    tell_place(of, "broken", (int64_t)of->of.place, -1, what);
+    tell_place(of, "broken", (int64_t)of->of.place, -1, why_broken(of->of.broken));
 }
 
 /* Tells a stretch that was skipped since the stream was broken in this way. */

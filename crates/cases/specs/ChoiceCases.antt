@@ -5,7 +5,7 @@ use Rattle.choice.specs.Request.{request_of}
 use Rattle.sheet.specs.declared.SheetAnswer.{SheetAnswer}
 use Rattle.marlinfold.specs.Calls.{Call, download_font, choose_font, choose_sheet, Answer}
 use Rattle.marlinfold.specs.Trials.{A, request_with, extended, Trial, gives, names_font, not_in_range, AllHold}
-use Rattle.marlinfold.specs.Occurrences.{Occurrence, at, AllOccur}
+use Rattle.marlinfold.specs.Occurrences.{NumberGiven, given, AllGiven}
 
 -- a portrait font of set 277 under number n, by spacing, pitch, height, style, weight byte, typeface and the extended byte of the height
 unfoldable pub styled : ℕ → ℕ → ℕ → ℕ → ℕ → ℕ → ℕ → ℕ → Call
@@ -101,11 +101,11 @@ sheet_cases =
     ∷ []
 
 -- 64 requests are taken, with as many answers
-unfoldable pub full_sheets : List Occurrence
+unfoldable pub full_sheets : List NumberGiven
 full_sheets =
-    at 12 [] (choose_sheet (replicate 64 (request_with 277 1000 0 0)) (replicate 64 unused)) 0
-    ∷ at 12 [] (choose_sheet (replicate 64 (request_with 277 1000 0 0)) (replicate 63 unused)) 12
-    ∷ at 12 [] (choose_sheet (replicate 65 (request_with 277 1000 0 0)) (replicate 65 unused)) 2
+    given 12 [] (choose_sheet (replicate 64 (request_with 277 1000 0 0)) (replicate 64 unused)) 0
+    ∷ given 12 [] (choose_sheet (replicate 64 (request_with 277 1000 0 0)) (replicate 63 unused)) 12
+    ∷ given 12 [] (choose_sheet (replicate 65 (request_with 277 1000 0 0)) (replicate 65 unused)) 2
     ∷ []
 
 -- the claims
@@ -116,4 +116,4 @@ abbrev pub RangeDecides : Type 0
 RangeDecides = AllHold range_cases
 
 abbrev pub SheetsAnswer : Type 0
-SheetsAnswer = AllHold sheet_cases × AllOccur full_sheets
+SheetsAnswer = AllHold sheet_cases × AllGiven full_sheets

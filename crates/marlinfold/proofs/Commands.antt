@@ -13,7 +13,7 @@ use Rattle.stream.proofs.Counts.{counted_by_answers}
 use Rattle.store.specs.Calls.{downloading_font}
 use Rattle.store.specs.Download.{downloading_character}
 use Rattle.marlinfold.specs.Book.{call_of}
-use Rattle.marlinfold.specs.Demands.{command_answers, CommandsCounted}
+use Rattle.marlinfold.specs.Demands.{command_answers, CommandsAnswered}
 
 -- the calls of a stream as its downloads
 same_answers : (l : List Action) (s : List ℕ) → answers_in l s ≡ command_answers l s
@@ -26,8 +26,8 @@ same_answers (download (character_block n c b) ∷ l) s = ap (λ (r : List ℕ).
 pair : {a b c d : ℕ} → a ≡ c → b ≡ d → a ∷ b ∷ [] ≡ c ∷ d ∷ []
 pair p q = rw (p, q)
 
-pub commands_counted : CommandsCounted
-commands_counted b s i = go (decode s) refl (unfold is_store in i)
+pub commands_answered : CommandsAnswered
+commands_answered b s i = go (decode s) refl (unfold is_store in i)
   where
     actions : List Action
     actions = (spelled_from b 0 first_target).actions

@@ -40,7 +40,7 @@ use Rattle.collection.specs.Figures.{Adding, not_added, figures_taken, adding_fi
 use Rattle.profile.specs.Profile.{broken_in, unchecked, meets, checking_profile, writing_profiled}
 use Rattle.profile.specs.declared.check.ProfileChecked.{ProfileChecked}
 use Rattle.marlinfold.specs.Calls.{Call, make_fresh, download_font, download_character, remove_font, remove_character, choose_font, tell_font, tell_character, draw_row, draw_picture, write_font, read_stream, choose_sheet, turn_picture, check_profile, write_profiled, choose_from_two, add_figures, salvage_stream, output_of, Outcome, answered, of_change, of_download, of_choice, of_telling, of_drawing, of_writing, of_reading, of_turning, of_sheet, of_check, of_record, of_adding, of_salvage, outcome, ran}
-use Rattle.marlinfold.specs.Demands.{listed, is_in, others, unchanged, carried_out, Refusal, as_listed, no_room, past_width_lem, broken, no_place, Demand1}
+use Rattle.marlinfold.specs.Demands.{listed, is_in, others, unchanged, carried_out, Refusal, as_listed, no_room, past_width, broken, no_place, Demand1}
 use Rattle.salvage.specs.Salvage.{salvage_of, room_of, list_of, Salvaging, salvaging}
 use Rattle.salvage.proofs.Onward.{salvage_not}
 use Rattle.salvage.proofs.Made.{salvage_is}
@@ -227,7 +227,7 @@ module _ (n c : ℕ) (b s : List ℕ) where
       go (some st) e =
           character_answers n c b s (store_is s st e) (Is sent)
           (refused sent 2 refl, refused sent 3 refl, refused sent 4 refl, refused sent 5 refl, refused sent 6 refl, refused sent 7 refl, refused sent 9 refl)
-          (λ row filled run x r. inr (past_width_lem n c b row filled run x r)) (λ st h d x v. inl refl) (λ st h d x v. inr (no_room n c b st _ x.guest.is x.guest.there))
+          (λ row filled run x r. inr (past_width n c b row filled run x r)) (λ st h d x v. inl refl) (λ st h d x v. inr (no_room n c b st _ x.guest.is x.guest.there))
 
 -- ── two stores
 chooses_from_two_lem : (p : Bool) (t : List ℕ) (r : Request) (s soft cartridge : List ℕ) (a : Chosen) → Told (choose_from_two p t r) s (of_record s (record_answer soft cartridge a))

@@ -39,7 +39,7 @@ use Rattle.salvage.specs.Salvage.{salvaged_downloads}
 use Rattle.salvage.proofs.Made.{salvaged_made}
 use Rattle.marlinfold.specs.Calls.{Call, make_fresh, download_font, download_character, remove_font, remove_character, choose_font, tell_font, tell_character, draw_row, draw_picture, write_font, read_stream, choose_sheet, turn_picture, check_profile, write_profiled, choose_from_two, add_figures, salvage_stream, of_choice, outcome, leaves, ran}
 use Rattle.marlinfold.specs.Book.{noted, book_of, call_of, calls_of, spelled_calls, salvaged_calls, SalvageSingly, single, singly, answers_to, book_after, StreamSingly}
-use Rattle.marlinfold.specs.Demands.{Removes, by_removal, by_no_room, Answers, Chooses, Demand3, HeldCounts, FreshCounts}
+use Rattle.marlinfold.specs.Demands.{Removes, by_removal, by_no_room, Answers, Chooses, Demand3, HeldCounts, CountsStay, FreshCounts}
 
 -- ── a list of calls
 ran_append : (a b : List Call) (s : List ℕ) → ran (a ++ b) s ≡ ran b (ran a s)
@@ -297,7 +297,10 @@ held s i = go (decode s) refl (unfold is_store in i)
     go (some st) q z = counts_true s st q
 
 pub held_counts : HeldCounts
-held_counts c s i = let k : is_store (leaves c s) ≡ true = rw (single_ran c s) at (call_kept c s (fonts_of s) (i, refl)).0 in (k, held (leaves c s) k)
+held_counts c s = (λ i. rw (single_ran c s) at (call_kept c s (fonts_of s) (i, refl)).0, held (leaves c s))
+
+pub counts_stay : CountsStay
+counts_stay c s i = let k = (held_counts c s).0 i in (k, (held_counts c s).1 k)
 
 pub fresh_counts : FreshCounts
 fresh_counts s e = let k = (fresh_leaves s e).0 in (k, held (leaves make_fresh s) k)

@@ -224,7 +224,7 @@ from_place (suc k) b at s l n h i =
         let m : room_of (length (drop 16 l)) ≡ room = omega (arith, length-drop 16 l) in
         let c = first_restart b (p + 1) (omega (arith, w.1)) in
         one_turn b at s l st h d k room p q (omega arith) w.1
-        (rw (← m) (f (restart_from b (p + 1)) (read_at b at s).store (drop 16 l) c.inside (omega (arith, w.0, c.later)) (held_counts (read_stream (drop at b)) s i).0))
+        (rw (← m) (f (restart_from b (p + 1)) (read_at b at s).store (drop 16 l) c.inside (omega (arith, w.0, c.later)) ((held_counts (read_stream (drop at b)) s).0 i)))
 
 pub salvaged_by_reading : SalvagedByReading
 unfolding salvage_of
@@ -270,7 +270,7 @@ covers b at s l o (past_tear_lem i t m q k n r u v e f g x) h j z =
     let y : p + (q - p) ≡ q = omega (arith, g.later) in
     let a : length (stretch_to p q) ≡ 16 = omega (arith, length-append (low_first 8 p) (low_first 8 (q - p)), length_le 8 p, length_le 8 (q - p)) in
     then_stretch at k p (q - p) (stretch_to p q ++ v) (take_at (stretch_to p q) v 16 a) (omega arith) (omega (arith, g.later)) (omega (arith, y, g.inside)) (λ w c. (same_ending b at s w h j c).1 e)
-    (rw (y, drop_at (stretch_to p q) v 16 a) (covers b q (read_at b at s).store (drop 16 l) _ x g.inside (held_counts (read_stream (drop at b)) s j).0 refl))
+    (rw (y, drop_at (stretch_to p q) v 16 a) (covers b q (read_at b at s).store (drop 16 l) _ x g.inside ((held_counts (read_stream (drop at b)) s).0 j) refl))
 covers b at s l o (full_later i t m q u v e f g x) h j z = absurd (omega arith)
 
 pub stretches_cover : StretchesCover

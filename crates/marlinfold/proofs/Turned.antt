@@ -9,23 +9,23 @@ use borrow.Author.Tests.{leb-true, leb-false}
 use lib.Dec.{leb, eqb}
 use lib.ListN.{length, drop}
 use Rattle.pictures.specs.Size.{within, picture_size}
-use Rattle.turning.specs.Turn.{turnable, turned_size, turned, unturned, turning_picture}
+use Rattle.turning.specs.Turn.{turnable, turned_size, turned, unturned, turning_picture, TurnsInto}
 use Rattle.turning.proofs.Answers.{Good, good}
-use Rattle.turning.proofs.Turns.{TurnedInto, two_quarters_are_half, quarter_and_three_are_none, four_quarters_are_none, row_dots_lem, turned_dots}
-use Rattle.marlinfold.specs.Demands.{TurnsInto, FourQuarters, TwoQuarters, QuarterAndThree, TurnedPlaces, CannotTurn, TurnRefused}
+use Rattle.turning.proofs.Turns.{two_quarters_are_half, quarter_and_three_are_none, four_quarters_are_none, row_dots_lem, turned_dots}
+use Rattle.marlinfold.specs.Demands.{CallTurnsInto, FourQuarterCalls, TwoQuarterCalls, QuarterAndThreeCalls, TurnedPlaces, CannotTurn, TurnRefused}
 
-into : (t w h : ℕ) (s p : List ℕ) → TurnsInto t w h s p → TurnedInto t w h s p
+into : (t w h : ℕ) (s p : List ℕ) → CallTurnsInto t w h s p → TurnsInto t w h s p
 into t w h s p x = record { out = x.out; done = x.done; made = x.made }
 
-pub four_quarters : FourQuarters
-four_quarters w h s p₁ p₂ p₃ p₄ white a b c d =
+pub four_quarter_calls : FourQuarterCalls
+four_quarter_calls w h s p₁ p₂ p₃ p₄ white a b c d =
     four_quarters_are_none w h s p₁ p₂ p₃ p₄ white (into 1 w h s p₁ a) (into 1 h w p₁ p₂ b) (into 1 w h p₂ p₃ c) (into 1 h w p₃ p₄ d)
 
-pub two_quarters : TwoQuarters
-two_quarters w h s p₁ p₂ p a b c = two_quarters_are_half w h s p₁ p₂ p (into 1 w h s p₁ a) (into 1 h w p₁ p₂ b) (into 2 w h s p c)
+pub two_quarter_calls : TwoQuarterCalls
+two_quarter_calls w h s p₁ p₂ p a b c = two_quarters_are_half w h s p₁ p₂ p (into 1 w h s p₁ a) (into 1 h w p₁ p₂ b) (into 2 w h s p c)
 
-pub quarter_and_three : QuarterAndThree
-quarter_and_three w h s p₁ p₂ white =
+pub quarter_and_three_calls : QuarterAndThreeCalls
+quarter_and_three_calls w h s p₁ p₂ white =
     let x = quarter_and_three_are_none w h s p₁ p₂ white in
     (λ a b. x.0 (into 1 w h s p₁ a) (into 3 h w p₁ p₂ b), λ a b. x.1 (into 3 w h s p₁ a) (into 1 h w p₁ p₂ b))
 

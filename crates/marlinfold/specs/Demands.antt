@@ -117,7 +117,8 @@ stopped_at at b s =
     answered 13 (x.counts.done ∷ x.counts.refused ∷ at ∷ first_bad_run (spelled_calls b) s) x.bytes []
 
 -- The outcomes of a call on the buffer s that are refusals. Whether and with what number a call refuses is its line of `outcome`, where the exact
--- condition of each refusal stands; that each number which a call can answer occurs is the claim `NumbersOccur`.
+-- condition of each refusal stands; that each listed number occurs is the claim `ListedOccur`, that 8, 10 and 13 do is `OwnCasesOccur`, and that each
+-- number which a call can answer does is `NumbersOccur`.
 pub data Refusal (s : List ℕ) : Call → Outcome → Type 0 where
   as_listed : (c : Call) (k : ℕ) → is_in k (listed c) ≡ true → Refusal s c (unchanged c k s)
   -- 10, "character block: its font and all its characters removed"
@@ -125,7 +126,7 @@ pub data Refusal (s : List ℕ) : Call → Outcome → Type 0 where
       (n c : ℕ) (b : List ℕ) (st : Store) (r : Rec) → decode s ≡ some st → font_at n st.recs ≡ some r
       → Refusal s (download_character n c b) (answered 10 (0 ∷ 0 ∷ 0 ∷ []) (encode (store_without_font n st)) [])
   -- 8, W-209: "This amends '0 for every other number' in document 01 for refusal 8 and a stream's 13 alone."
-  past_width_lem :
+  past_width :
       (n c : ℕ) (b : List ℕ) (row filled run : ℕ) (x : BadRunIn n c b s row filled run) → ChecksPassed n c b x.store
       → Refusal s (download_character n c b) (answered 8 (row ∷ filled ∷ run ∷ []) s [])
   -- 13, "commands before it stay done"; it "gives its place and the counts so far"
@@ -374,8 +375,8 @@ command_answers (number_set k ∷ rest) s = k ∷ command_answers rest s
 command_answers (download d ∷ rest) s = (outcome (call_of d) s).refusal ∷ command_answers rest (leaves (call_of d) s)
 
 -- the first two numbers of a stream, however it ends, are those of its whole commands before any 13
-abbrev pub CommandsCounted : Type 0
-CommandsCounted =
+abbrev pub CommandsAnswered : Type 0
+CommandsAnswered =
     (b s : List ℕ) → is_store s ≡ true
     → let answers : List ℕ = command_answers (spelled_from b 0 first_target).actions s in
     take 2 (outcome (read_stream b) s).numbers ≡ done_among answers ∷ refused_among answers ∷ []
@@ -484,38 +485,38 @@ ChecksInOrder =
 
 -- ── W-203: "a drawn picture turned by a quarter, a half or three quarters, clockwise"
 -- a call that is done and has made p of the picture s; whatever buffer stands beside it
-pub record TurnsInto (t w h : ℕ) (s p : List ℕ) : Type 0 where
+pub record CallTurnsInto (t w h : ℕ) (s p : List ℕ) : Type 0 where
   pub out : List ℕ
   pub beside : List ℕ
   pub done : (outcome (turn_picture t w h s out) beside).refusal ≡ 0
   pub made : p ≡ (outcome (turn_picture t w h s out) beside).out
 
 -- "Turning a picture with white padding four times by a quarter gives it back, every byte."
-abbrev pub FourQuarters : Type 0
-FourQuarters =
+abbrev pub FourQuarterCalls : Type 0
+FourQuarterCalls =
     (w h : ℕ) (s p₁ p₂ p₃ p₄ : List ℕ) → WhitePadding w h s
-    → TurnsInto 1 w h s p₁ → TurnsInto 1 h w p₁ p₂ → TurnsInto 1 w h p₂ p₃ → TurnsInto 1 h w p₃ p₄ → take (picture_size w h) p₄ ≡ s
+    → CallTurnsInto 1 w h s p₁ → CallTurnsInto 1 h w p₁ p₂ → CallTurnsInto 1 w h p₂ p₃ → CallTurnsInto 1 h w p₃ p₄ → take (picture_size w h) p₄ ≡ s
 
 -- two quarters are a half
-abbrev pub TwoQuarters : Type 0
-TwoQuarters =
-    (w h : ℕ) (s p₁ p₂ p : List ℕ) → TurnsInto 1 w h s p₁ → TurnsInto 1 h w p₁ p₂ → TurnsInto 2 w h s p
+abbrev pub TwoQuarterCalls : Type 0
+TwoQuarterCalls =
+    (w h : ℕ) (s p₁ p₂ p : List ℕ) → CallTurnsInto 1 w h s p₁ → CallTurnsInto 1 h w p₁ p₂ → CallTurnsInto 2 w h s p
     → take (picture_size w h) p₂ ≡ take (picture_size w h) p
 
 -- a quarter and three quarters, in either order, are none
-abbrev pub QuarterAndThree : Type 0
-QuarterAndThree =
+abbrev pub QuarterAndThreeCalls : Type 0
+QuarterAndThreeCalls =
     (w h : ℕ) (s p₁ p₂ : List ℕ) → WhitePadding w h s
-    → (TurnsInto 1 w h s p₁ → TurnsInto 3 h w p₁ p₂ → take (picture_size w h) p₂ ≡ s)
-    × (TurnsInto 3 w h s p₁ → TurnsInto 1 h w p₁ p₂ → take (picture_size w h) p₂ ≡ s)
+    → (CallTurnsInto 1 w h s p₁ → CallTurnsInto 3 h w p₁ p₂ → take (picture_size w h) p₂ ≡ s)
+    × (CallTurnsInto 3 w h s p₁ → CallTurnsInto 1 h w p₁ p₂ → take (picture_size w h) p₂ ≡ s)
 
 -- where each dot of the result comes from, in a picture of h rows of w dots
 abbrev pub TurnedPlaces : Type 0
 TurnedPlaces =
     (w h : ℕ) (s p : List ℕ) (r c : ℕ)
-    → (TurnsInto 1 w h s p → r < w → c < h → dot_at h p r c ≡ dot_at w s (h - 1 - c) r)
-    × (TurnsInto 2 w h s p → r < h → c < w → dot_at w p r c ≡ dot_at w s (h - 1 - r) (w - 1 - c))
-    × (TurnsInto 3 w h s p → r < w → c < h → dot_at h p r c ≡ dot_at w s c (w - 1 - r))
+    → (CallTurnsInto 1 w h s p → r < w → c < h → dot_at h p r c ≡ dot_at w s (h - 1 - c) r)
+    × (CallTurnsInto 2 w h s p → r < h → c < w → dot_at w p r c ≡ dot_at w s (h - 1 - r) (w - 1 - c))
+    × (CallTurnsInto 3 w h s p → r < w → c < h → dot_at h p r c ≡ dot_at w s c (w - 1 - r))
 
 -- "2 for a turn not 1 to 3, a width or height not 1 to 16,384, or a picture with too few bytes"
 abbrev pub CannotTurn : ℕ → ℕ → ℕ → ℕ → Type 0
@@ -553,9 +554,14 @@ ProfiledExactly =
     × (k.refusal ≡ 0 → get_or k.numbers 0 0 ≡ 0 → o ≡ outcome (write_font n out) s)
 
 -- ── W-205: "Every download, replacement, continuation and removal, also the one for lack of room, keeps both equal to a fresh count."
--- every call, reading a stream among them, leaves of a store a store whose fonts hold true counts
+-- for every call, reading a stream among them: on a store it leaves a store; and wherever it leaves one, as making fresh does of any buffer of an
+-- allowed length, the fonts hold true counts
 abbrev pub HeldCounts : Type 0
-HeldCounts = (c : Call) (s : List ℕ) → is_store s ≡ true → (is_store (leaves c s) ≡ true) × CountsTrue (leaves c s)
+HeldCounts = (c : Call) (s : List ℕ) → (is_store s ≡ true → is_store (leaves c s) ≡ true) × (is_store (leaves c s) ≡ true → CountsTrue (leaves c s))
+
+-- so every call leaves of a store a store whose fonts hold true counts
+abbrev pub CountsStay : Type 0
+CountsStay = (c : Call) (s : List ℕ) → is_store s ≡ true → (is_store (leaves c s) ≡ true) × CountsTrue (leaves c s)
 
 -- and so does making fresh of any buffer that it accepts
 abbrev pub FreshCounts : Type 0

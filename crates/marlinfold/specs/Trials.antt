@@ -1,5 +1,9 @@
 -- Document 01, "Trials on both sides": P1 to P12, and those of the later requests, one table and one claim.
 use Rattle.std.specs.Prelude.{ℕ, zero, suc, ◌+◌, ◌/◌, ◌%◌, ◌≡◌, List, [], ◌∷◌, ◌++◌, true, length, replicate}
+use Rattle.pictures.specs.Picture.{judge}
+use Rattle.pictures.specs.Rows.{picture}
+use Rattle.pictures.specs.declared.picture.Judged.{Judged}
+use Rattle.pictures.specs.declared.picture.Judged.TheVariants.{Complete, PastWidth}
 use Rattle.form.specs.Num.{low_first}
 use Rattle.choice.specs.Request.{request_of}
 use Rattle.choice.specs.declared.Request.{Request}
@@ -135,6 +139,8 @@ pub data Trial : Type 0 where
   gives_on : (buffer : List ℕ) (call : Call) (given : Answer) → Trial
   -- W-208: what choosing from two stores answers, after some calls on each
   chooses_from_two : (soft cartridge : List Call) (r : Request) (given : Answer) → Trial
+  -- what the rules of rows make of class 2 data, w dots wide and h rows high: how it is judged, and its picture
+  draws : (w h : ℕ) (d : List ℕ) (judged : Judged) (rows : List ℕ) → Trial
 
 -- the answer that names a font, and the answers 11 and 2
 unfoldable pub names_font : ℕ → Answer
@@ -157,8 +163,8 @@ no_record = record { refusal = 11; numbers = 0 ∷ 0 ∷ 0 ∷ []; out = [] }
 unfoldable pub drawn : List ℕ → Answer
 drawn rows = record { refusal = 0; numbers = []; out = rows }
 
-unfoldable pub past_width : ℕ → ℕ → ℕ → Answer
-past_width row filled run = record { refusal = 8; numbers = row ∷ filled ∷ run ∷ []; out = [] }
+unfoldable pub run_too_long : ℕ → ℕ → ℕ → Answer
+run_too_long row filled run = record { refusal = 8; numbers = row ∷ filled ∷ run ∷ []; out = [] }
 
 unfoldable pub none_open : Answer
 none_open = record { refusal = 7; numbers = 0 ∷ 0 ∷ 0 ∷ []; out = [] }
@@ -175,6 +181,7 @@ abbrev pub Holds : Trial → Type 0
 Holds (gives cs c a) = answer c (store_after 500 cs) ≡ a
 Holds (gives_on s c a) = answer c s ≡ a
 Holds (chooses_from_two soft cartridge r a) = answer (choose_from_two true (store_after 500 cartridge) r) (store_after 500 soft) ≡ a
+Holds (draws w h d j rows) = (judge 2 w h d ≡ j) × (picture 2 w d h ≡ rows)
 
 unfoldable pub table : List Trial
 table =
@@ -269,12 +276,15 @@ table =
     ∷ gives_on (spine (4 ∷ 0 ∷ 14 ∷ 1 ∷ 0 ∷ 0 ∷ 0 ∷ 0 ∷ 0 ∷ 0 ∷ 0 ∷ 8 ∷ 0 ∷ 1 ∷ 0 ∷ 121 ∷ []) (255 ∷ [])) (check_profile 5) (breaks 7 65)
     ∷ gives_on (spine plain_letter (255 ∷ [])) (check_profile 5) (breaks 0 0)
     -- P10 width 10, height 3, data 1 2 3 5 0 0 10: rows 56 0, 56 0, 255 192.
+    ∷ draws 10 3 (1 ∷ 2 ∷ 3 ∷ 5 ∷ 0 ∷ 0 ∷ 10 ∷ []) (Complete 7) (56 ∷ 0 ∷ 56 ∷ 0 ∷ 255 ∷ 192 ∷ [])
     ∷ gives (A ∷ sending 10 3 (1 ∷ 2 ∷ 3 ∷ 5 ∷ 0 ∷ 0 ∷ 10 ∷ []) ∷ []) (draw_picture 5 65 (replicate 6 7)) (drawn (56 ∷ 0 ∷ 56 ∷ 0 ∷ 255 ∷ 192 ∷ []))
     -- P11 width 300, height 1, data 0 255 0 45: a white row, complete.
+    ∷ draws 300 1 (0 ∷ 255 ∷ 0 ∷ 45 ∷ []) (Complete 4) (replicate 38 0)
     ∷ gives (A ∷ sending 300 1 (0 ∷ 255 ∷ 0 ∷ 45 ∷ []) ∷ []) (draw_picture 5 65 (replicate 38 7)) (drawn (replicate 38 0))
     ∷ gives (A ∷ sending 300 1 (0 ∷ 255 ∷ 0 ∷ 45 ∷ []) ∷ []) sending_more none_open
     -- P12 width 10, data 0 4 7: 8. (In row 0, 4 dots filled, a run of 7; it names no height: 1.)
-    ∷ gives (A ∷ []) (sending 10 1 (0 ∷ 4 ∷ 7 ∷ [])) (past_width 0 4 7)
+    ∷ draws 10 1 (0 ∷ 4 ∷ 7 ∷ []) (PastWidth 0 4 7) (0 ∷ 0 ∷ [])
+    ∷ gives (A ∷ []) (sending 10 1 (0 ∷ 4 ∷ 7 ∷ [])) (run_too_long 0 4 7)
     ∷ []
 
 abbrev pub AllHold : List Trial → Type 0

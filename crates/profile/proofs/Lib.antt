@@ -3,3 +3,4 @@ pub mod Passes
 pub mod Characters
 pub mod Fonts
 pub mod Profile
+pub mod Meets

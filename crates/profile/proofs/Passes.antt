@@ -19,10 +19,10 @@ use Rattle.form.proofs.Codec.{Sorted, sorted_inv}
 use Rattle.form.proofs.Lookup.{find_here, find_other, find_behind}
 use Rattle.form.proofs.FontRecords.{of_in, of_out}
 use Rattle.stream.proofs.RoundTrip.{kept_of_lem}
-use Rattle.profile.specs.Profile.{first_required, last_required, is_whole, complete, left_inside, right_inside, height_inside, advances_by_pitch, of_each, character_rules, rules, has_character, none_broken, first_broken, broken_in}
+use Rattle.profile.specs.Profile.{rule_at, first_required, last_required, is_whole, complete, left_inside, right_inside, height_inside, advances_by_pitch, of_each, character_rules, rules, has_character, none_broken, first_broken, broken_in}
 use Rattle.profile.specs.Pass.{broken_by, next_wanted, behind_character, behind_record, passed_over, nothing_found, found_broken, broken_with, broken_among}
 use Rattle.profile.specs.declared.pass.Findings.{Findings}
-use Rattle.profile.proofs.Search.{rule_at, rule_holds, rule_breaks, rules_hold, rules_break}
+use Rattle.profile.proofs.Search.{rule_holds, rule_breaks, rules_hold, rules_break}
 
 -- ── the rules of one character
 abbrev Test : ℕ → List ℕ → ℕ → Option Rec → Bool

@@ -10,7 +10,7 @@ use lib.Dec.{eqb}
 use Rattle.form.specs.Layout.{last_code}
 use Rattle.form.specs.Model.{Rec}
 use Rattle.profile.specs.declared.pass.RuleBroken.{RuleBroken}
-use Rattle.profile.specs.Profile.{Rule, lowest_breaking, none_broken, broken_or, first_broken}
+use Rattle.profile.specs.Profile.{Rule, rule_at, lowest_breaking, none_broken, broken_or, first_broken, BreaksFirst}
 
 -- ── one rule over the codes
 -- a test that holds at each of n codes from c on
@@ -70,21 +70,6 @@ same_lowest zero c t u f = refl
 same_lowest (suc n) c t u f = rw (f c (omega arith) (omega arith), same_lowest n (c + 1) t u (λ d a b. f d (omega arith) (omega arith)))
 
 -- ── a list of rules
--- rules by their place, counted from 0
-abbrev pub rule_at : List Rule → ℕ → Rule
-rule_at [] j h c o = true
-rule_at (t ∷ ts) zero h c o = t h c o
-rule_at (t ∷ ts) (suc j) h c o = rule_at ts j h c o
-
--- the first that is broken, by the tests, of rules numbered from i on
-pub record BreaksFirst (ts : List Rule) (i : ℕ) (h : List ℕ) (at : ℕ → Option Rec) (b : RuleBroken) : Type 0 where
-  pub place : ℕ
-  pub number : b.rule ≡ i + place
-  pub code : b.code ≤ last_code
-  pub broken : rule_at ts place h b.code (at b.code) ≡ false
-  pub lowest : (c : ℕ) → c < b.code → rule_at ts place h c (at c) ≡ true
-  pub first : (j c : ℕ) → j < place → c ≤ last_code → rule_at ts j h c (at c) ≡ true
-
 -- no rule looks beyond code 255
 pub same_broken : (ts : List Rule) (i : ℕ) (h : List ℕ) (at to : ℕ → Option Rec) → ((c : ℕ) → c ≤ last_code → at c ≡ to c) → first_broken ts i h at ≡ first_broken ts i h to
 unfolding first_broken
@@ -140,7 +125,7 @@ module _ (h : List ℕ) (at : ℕ → Option Rec) where
           record { place = 0; number = omega arith; code = omega (arith, l.within); broken = l.fails; lowest = λ c m. l.before c (omega arith) m; first = λ j c m k. absurd (omega arith) }
 
   -- where no rule is broken, each holds at each code
-  none_broken_lem : (t : Rule) (ts : List Rule) (i : ℕ) → 0 < i → (first_broken (t ∷ ts) i h at).rule ≡ 0 → ((c : ℕ) → c ≤ last_code → Holds t c) × ((first_broken ts (i + 1) h at).rule ≡ 0)
+  pub none_broken_lem : (t : Rule) (ts : List Rule) (i : ℕ) → 0 < i → (first_broken (t ∷ ts) i h at).rule ≡ 0 → ((c : ℕ) → c ≤ last_code → Holds t c) × ((first_broken ts (i + 1) h at).rule ≡ 0)
   unfolding first_broken
   none_broken_lem t ts i l e = go (lowest_breaking (λ c. t h c (at c)) 0 (last_code + 1)) refl e
     where

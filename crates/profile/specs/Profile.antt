@@ -126,6 +126,40 @@ writing_profiled n s out =
     on_font (unwritten out) n s
     (λ st r. checked (unwritten out) (meets (broken_in n (kept_of r) st.recs)) 14 (writing_bytes (written n st.recs) out))
 
+-- ── laws of them. A font meets the profile "exactly when all that holds"
+pub record Simple (h k : List ℕ) : Type 0 where
+  pub left : left_inside h k ≡ true
+  pub right : right_inside h k ≡ true
+  pub tall : height_inside h k ≡ true
+  pub advance : advances_by_pitch h k ≡ true
+
+pub record Meets (n : ℕ) (h : List ℕ) (rs : List Rec) : Type 0 where
+  pub plain : font_type h ≡ 0
+  pub fixed : spacing h ≡ 0
+  pub present : (c : ℕ) → first_required ≤ c → c ≤ last_required → (r : Rec) × (character_at n c rs ≡ some r) × (held_of (kept_of r) (data_of r) ≡ Whole)
+  pub simple : (c : ℕ) (r : Rec) → c ≤ last_code → character_at n c rs ≡ some r → Simple h (kept_of r)
+
+abbrev pub MeetsExactly : Type 0
+MeetsExactly = (n : ℕ) (h : List ℕ) (rs : List Rec) → (meets (broken_in n h rs) ≡ true → Meets n h rs) × (Meets n h rs → broken_in n h rs ≡ none_broken)
+
+-- "or else the first broken rule .. and the lowest code that breaks it": rules by their place, counted from 0
+abbrev pub rule_at : List Rule → ℕ → Rule
+rule_at [] j h c o = true
+rule_at (t ∷ ts) zero h c o = t h c o
+rule_at (t ∷ ts) (suc j) h c o = rule_at ts j h c o
+
+-- of rules numbered from i on
+pub record BreaksFirst (ts : List Rule) (i : ℕ) (h : List ℕ) (at : ℕ → Option Rec) (b : RuleBroken) : Type 0 where
+  pub place : ℕ
+  pub number : b.rule ≡ i + place
+  pub code : b.code ≤ last_code
+  pub broken : rule_at ts place h b.code (at b.code) ≡ false
+  pub lowest : (c : ℕ) → c < b.code → rule_at ts place h c (at c) ≡ true
+  pub first : (j c : ℕ) → j < place → c ≤ last_code → rule_at ts j h c (at c) ≡ true
+
+abbrev pub FirstAndLowest : Type 0
+FirstAndLowest = (n : ℕ) (h : List ℕ) (rs : List Rec) → meets (broken_in n h rs) ≡ false → BreaksFirst rules 1 h (λ c. character_at n c rs) (broken_in n h rs)
+
 -- ── the rules by numbers: rule i is broken at code c of a font with the header h, where o is the character of that code, if one is kept
 pub data Breaks (h : List ℕ) (c : ℕ) (o : Option Rec) (i : ℕ) : Type 0 where
   -- "type 0"; "fixed spacing"

@@ -5,6 +5,7 @@ use mathlib.Core.Bool.{Bool, true, false, cond}
 use mathlib.Core.Option.{Option, none, some}
 use Prim.Native.Nat.{ℕ, zero, suc, ◌+◌, ◌-◌, ◌<◌, ◌≤◌}
 use native.Mathlib.Omega.{arith}
+use native.Mathlib.Nat.{zero-add}
 use lib.ListN.{length}
 use lib.Dec.{leb}
 use borrow.Author.Tests.{le-leb, lt-leb, leb-true, leb-false}
@@ -18,8 +19,8 @@ use Rattle.form.specs.Cursor.{Points}
 use Rattle.form.specs.declared.locate.Cursor.{Cursor}
 use Rattle.stream.specs.Command.{command_at}
 use Rattle.stream.specs.CommandEnds.{CommandEnds}
-use Rattle.stream.specs.Reading.{Download, font_block, character_block, Action, number_set, download, Spelled, spell, part, onward, spelled_in, spelled_from, first_target, range_answer, with_number, with_code, Progress, none_counted, count_answer, making, obey, obey_all, read_from, Reading, reading_of, reading, first_run}
-use Rattle.stream.specs.Downloads.{downloads_in, spelled_downloads, made_all, DownloadsMade}
+use Rattle.stream.specs.Reading.{Download, font_block, character_block, Action, number_set, download, Spelled, spell, part, onward, spelled_in, spelled_from, first_target, range_answer, with_number, with_code, Progress, none_counted, count_answer, making, obey, obey_all, read_from, Reading, end_answer, reading_of, reading, first_run}
+use Rattle.stream.specs.Downloads.{downloads_in, spelled_downloads, made_all, DownloadsMade, CommandsCounted}
 use Rattle.stream.specs.Underway.{read_on, Underway, state_behind, read_after, EndsWithin, Leads}
 use Rattle.stream.specs.declared.command.Command.{Command}
 use Rattle.stream.specs.declared.command.Command.TheVariants.{SetFont, SetCode, FontBlock, CharacterBlock, Broken, End}
@@ -118,12 +119,32 @@ downloads_made b s = go (decode s) refl
     go none e = ap (λ (r : Reading). r.bytes) (read_not b s e) ∙ sym (made_not (downloads_in (spelled_from b 0 first_target).actions) s e)
     go (some st) e = ap (λ (r : Reading). r.bytes) (read_store b s st e) ∙ obeyed_made (spelled_from b 0 first_target).actions (record { counts = none_counted; bad = no_run; bytes = s })
 
--- ── the numbers and the counts
 count_more : (k : ℕ) (x : CommandCounts) → (count_answer k x).done + (count_answer k x).refused ≡ x.done + x.refused + 1
 unfolding count_answer
 count_more zero x = omega arith
 count_more (suc k) x = omega arith
 
+obeyed_counted : (rest : List Action) (x : Progress) → (obey_all rest x).counts.done + (obey_all rest x).counts.refused ≡ x.counts.done + x.counts.refused + length rest
+unfolding obey_all obey
+obeyed_counted [] x = omega arith
+obeyed_counted (number_set k ∷ rest) x = obeyed_counted rest (obey (number_set k) x) ∙ omega (arith, count_more k x.counts)
+obeyed_counted (download d ∷ rest) x = obeyed_counted rest (obey (download d) x) ∙ omega (arith, count_more (making d x.bytes).answer x.counts)
+
+end_counts : (e : Ending) (x : CommandCounts) (run : BadRun) → (end_answer e x run).done + (end_answer e x run).refused ≡ x.done + x.refused
+unfolding end_answer
+end_counts AtEnd x run = refl
+end_counts (BrokenAt at) x run = refl
+
+pub commands_counted : CommandsCounted
+unfolding read_from
+commands_counted b s st e =
+    let w = spelled_from b 0 first_target in
+    ap (λ (r : Reading). r.answer.done + r.answer.refused) (read_store b s st e)
+    ∙ end_counts w.ending (obey_all w.actions (record { counts = none_counted; bad = no_run; bytes = s })).counts _
+    ∙ obeyed_counted w.actions (record { counts = none_counted; bad = no_run; bytes = s })
+    ∙ zero-add (length w.actions)
+
+-- ── the numbers and the counts
 pub count_done : (x : CommandCounts) → count_answer 0 x ≡ record { done = x.done + 1; refused = x.refused }
 unfolding count_answer
 count_done x = refl

@@ -1,5 +1,5 @@
 -- A stream is a list of downloads: "the downloads spelled by its whole commands before any 13", in the words of demand 3.
-use Rattle.std.specs.Prelude.{ℕ, zero, suc, ◌+◌, ◌≡◌, List, [], ◌∷◌, cond, eqb}
+use Rattle.std.specs.Prelude.{ℕ, zero, suc, ◌+◌, ◌≡◌, List, [], ◌∷◌, cond, eqb, length}
 use Rattle.std.proofs.Math.Option.{some}
 use Rattle.form.specs.Model.{Store, decode}
 use Rattle.store.specs.Answer.{no_run}
@@ -31,6 +31,12 @@ first_bad (d ∷ ds) s = cond (eqb (making d s).answer 8) (making d s).bad (firs
 -- reading answers it, whatever buffer it gets and however it ends
 abbrev pub FirstBadTold : Type 0
 FirstBadTold = (b s : List ℕ) → (reading b s).answer.bad ≡ first_bad (spelled_downloads b) s
+
+-- and it counts each whole command before any 13 once
+abbrev pub CommandsCounted : Type 0
+CommandsCounted =
+    (b s : List ℕ) (st : Store) → decode s ≡ some st
+    → (reading b s).answer.done + (reading b s).answer.refused ≡ length (spelled_from b 0 first_target).actions
 
 -- ── the counts. The answers that commands get one by one: a number its own, 0 or 2, a block what its download answers
 unfoldable pub answers_in : List Action → List ℕ → List ℕ

@@ -1,4 +1,4 @@
--- Turns of turns. Assumes nothing.
+-- W-203's claims, and turns of turns. Assumes nothing.
 use Prim.Native.Nat.{ℕ, ◌+◌, ◌*◌, ◌-◌, ◌%◌, ◌/◌, ◌<◌, ◌≤◌}
 use mathlib.Core.Path.{◌≡◌, refl, sym, ap, ◌∙◌}
 use mathlib.Core.List.{List, [], append-nil}
@@ -12,7 +12,7 @@ use Rattle.pictures.specs.Size.{row_size, picture_size}
 use Rattle.pictures.specs.Dots.{unpack}
 use Rattle.pictures.specs.Rows.{bitmap_row}
 use Rattle.pictures.proofs.Bitmaps.{bitmap_take}
-use Rattle.turning.specs.Turn.{each, picture_rows, pack_rows, turned_width, turned_height, turned, turned_size, turn_rows, turning_picture, WhitePadding}
+use Rattle.turning.specs.Turn.{each, picture_rows, pack_rows, turned_width, turned_height, turned, turned_size, turn_rows, WhitePadding, TurnsInto, FourQuarters, TwoQuarters, QuarterAndThree}
 use Rattle.turning.proofs.Answers.{Good, was_done}
 use Rattle.turning.proofs.DotLaws.{dot_in, dot_bits, byte_is, unpack_at}
 use Rattle.turning.proofs.PictureLaws.{dot, each_at, each_past, each_same, length_drawn, drawn_at, dot_at_lem, filled}
@@ -122,12 +122,6 @@ module _ (w h : ℕ) (s : List ℕ) (enough : picture_size w h ≤ length s) whe
         ∙ rw (drop_of_length-le s z) (append-nil whole)
 
 -- ---- the calls
--- a call that is done and has made p of the picture s
-pub record TurnedInto (t w h : ℕ) (s p : List ℕ) : Type 0 where
-  pub out : List ℕ
-  pub done : (turning_picture t w h s out).answer ≡ 0
-  pub made : p ≡ (turning_picture t w h s out).bytes
-
 -- bytes behind the picture are not looked at
 turned_take : (t w h : ℕ) (s : List ℕ) → turned t w h (take (picture_size w h) s) ≡ turned t w h s
 unfolding turned picture_rows
@@ -136,7 +130,7 @@ turned_take t w h s =
     (each_same h (bitmap_row w (take (picture_size w h) s)) (bitmap_row w s) (λ r l. bitmap_take w h s r l))
 
 -- what a call makes of the picture at the front of its bytes
-made_of : (t w h : ℕ) (s q p : List ℕ) → TurnedInto t w h q p → take (picture_size w h) q ≡ take (picture_size w h) s
+made_of : (t w h : ℕ) (s q p : List ℕ) → TurnsInto t w h q p → take (picture_size w h) q ≡ take (picture_size w h) s
     → (take (turned_size t w h) p ≡ turned t w h s) × Good t w h (length q)
 made_of t w h s q p c e =
     let d = was_done t w h q c.out c.done in
@@ -150,7 +144,7 @@ unfolding dot picture_rows bitmap_row
 row_dots_lem w h q r c l m = ap (λ (row : List Bool). get_or row c false) (each_at [] h (bitmap_row w q) r l) ∙ get_or-take w (unpack (drop (r * row_size w) q)) c false m
 
 -- where each dot of what a call made comes from
-pub turned_dots : (t w h : ℕ) (s p : List ℕ) → TurnedInto t w h s p → (r c : ℕ) → r < turned_height t w h → c < turned_width t w h
+pub turned_dots : (t w h : ℕ) (s p : List ℕ) → TurnsInto t w h s p → (r c : ℕ) → r < turned_height t w h → c < turned_width t w h
     → get_or (unpack (drop (r * row_size (turned_width t w h)) p)) c false ≡ dot_from t w h (picture_rows w h s) r c
 turned_dots t w h s p x r c l m =
     let W : ℕ = turned_width t w h in
@@ -170,7 +164,7 @@ front_of : (n : ℕ) (x p : List ℕ) → take n p ≡ x → length x ≡ n → 
 front_of n x p e l = e ∙ sym (take_all n x (omega arith))
 
 -- what two calls make
-made_twice : (t u w h : ℕ) (s p₁ p₂ : List ℕ) → TurnedInto t w h s p₁ → TurnedInto u (turned_width t w h) (turned_height t w h) p₁ p₂
+made_twice : (t u w h : ℕ) (s p₁ p₂ : List ℕ) → TurnsInto t w h s p₁ → TurnsInto u (turned_width t w h) (turned_height t w h) p₁ p₂
     → take (turned_size u (turned_width t w h) (turned_height t w h)) p₂ ≡ turned u (turned_width t w h) (turned_height t w h) (turned t w h s)
 made_twice t u w h s p₁ p₂ a b =
     let m = made_of t w h s s p₁ a refl in
@@ -180,22 +174,19 @@ made_twice t u w h s p₁ p₂ a b =
 own : (w h : ℕ) (s : List ℕ) → WhitePadding w h s → picture_size w h ≤ length s
 own w h s white = omega (arith, white.size)
 
-pub two_quarters_are_half : (w h : ℕ) (s p₁ p₂ p : List ℕ) → TurnedInto 1 w h s p₁ → TurnedInto 1 h w p₁ p₂ → TurnedInto 2 w h s p
-    → take (picture_size w h) p₂ ≡ take (picture_size w h) p
+pub two_quarters_are_half : TwoQuarters
 two_quarters_are_half w h s p₁ p₂ p a b c =
     let m = made_of 1 w h s s p₁ a refl in
     made_twice 1 1 w h s p₁ p₂ a b ∙ two_quarters w h s m.1.enough ∙ sym (made_of 2 w h s s p c refl).0
 
-pub quarter_and_three_are_none : (w h : ℕ) (s p₁ p₂ : List ℕ) → WhitePadding w h s
-    → (TurnedInto 1 w h s p₁ → TurnedInto 3 h w p₁ p₂ → take (picture_size w h) p₂ ≡ s) × (TurnedInto 3 w h s p₁ → TurnedInto 1 h w p₁ p₂ → take (picture_size w h) p₂ ≡ s)
+pub quarter_and_three_are_none : QuarterAndThree
 quarter_and_three_are_none w h s p₁ p₂ white =
     (λ a b. made_twice 1 3 w h s p₁ p₂ a b ∙ quarter_and_three w h s (own w h s white) ∙ back 1 a, λ a b. made_twice 3 1 w h s p₁ p₂ a b ∙ three_and_quarter w h s (own w h s white) ∙ back 3 a)
   where
-    back : (t : ℕ) → TurnedInto t w h s p₁ → whole w h s (own w h s white) ≡ s
+    back : (t : ℕ) → TurnsInto t w h s p₁ → whole w h s (own w h s white) ≡ s
     back t a = sym (whole_same w h s (own w h s white) (made_of t w h s s p₁ a refl).1.wide white)
 
-pub four_quarters_are_none : (w h : ℕ) (s p₁ p₂ p₃ p₄ : List ℕ) → WhitePadding w h s → TurnedInto 1 w h s p₁ → TurnedInto 1 h w p₁ p₂
-    → TurnedInto 1 w h p₂ p₃ → TurnedInto 1 h w p₃ p₄ → take (picture_size w h) p₄ ≡ s
+pub four_quarters_are_none : FourQuarters
 four_quarters_are_none w h s p₁ p₂ p₃ p₄ white a b c d =
     let enough : picture_size w h ≤ length s = own w h s white in
     let half : List ℕ = turned 2 w h s in

@@ -1,5 +1,5 @@
 -- W-203, "Labels on a turned page": a drawn picture turned clockwise by a quarter (1), a half (2) or three quarters (3).
-use Rattle.std.specs.Prelude.{ℕ, zero, suc, ◌*◌, ◌<◌, ◌≤◌, ◌≡◌, List, [], ◌∷◌, ◌++◌, map, reverse, Bool, false, ◌&&◌, cond, leb, eqb, length, get_or, drop}
+use Rattle.std.specs.Prelude.{ℕ, zero, suc, ◌*◌, ◌<◌, ◌≤◌, ◌≡◌, List, [], ◌∷◌, ◌++◌, map, reverse, Bool, false, ◌&&◌, cond, leb, eqb, length, get_or, drop, take}
 use Rattle.pictures.specs.Size.{within, side_limit, row_size, picture_size}
 use Rattle.pictures.specs.Dots.{pack, unpack}
 use Rattle.pictures.specs.Rows.{bitmap_row}
@@ -71,8 +71,29 @@ turning_picture t w h s out =
     (unturned out 12))
     (unturned out 2)
 
+-- ---- claims
 -- "a picture with white padding": just its bytes, and no dot beyond the width is black
 pub record WhitePadding (w h : ℕ) (s : List ℕ) : Type 0 where
   pub size : length s ≡ picture_size w h
   pub bytes : (i : ℕ) → get_or s i 0 < 256
   pub padding : (r c : ℕ) → r < h → w ≤ c → c < row_size w * 8 → get_or (unpack (drop (r * row_size w) s)) c false ≡ false
+
+-- a call that is done and has made p of the picture s
+pub record TurnsInto (t w h : ℕ) (s p : List ℕ) : Type 0 where
+  pub out : List ℕ
+  pub done : (turning_picture t w h s out).answer ≡ 0
+  pub made : p ≡ (turning_picture t w h s out).bytes
+
+-- "Turning a picture with white padding four times by a quarter gives it back, every byte."
+abbrev pub FourQuarters : Type 0
+FourQuarters = (w h : ℕ) (s p₁ p₂ p₃ p₄ : List ℕ) → WhitePadding w h s
+    → TurnsInto 1 w h s p₁ → TurnsInto 1 h w p₁ p₂ → TurnsInto 1 w h p₂ p₃ → TurnsInto 1 h w p₃ p₄ → take (picture_size w h) p₄ ≡ s
+
+-- two quarters are a half
+abbrev pub TwoQuarters : Type 0
+TwoQuarters = (w h : ℕ) (s p₁ p₂ p : List ℕ) → TurnsInto 1 w h s p₁ → TurnsInto 1 h w p₁ p₂ → TurnsInto 2 w h s p → take (picture_size w h) p₂ ≡ take (picture_size w h) p
+
+-- a quarter and three quarters, in either order, are none
+abbrev pub QuarterAndThree : Type 0
+QuarterAndThree = (w h : ℕ) (s p₁ p₂ : List ℕ) → WhitePadding w h s
+    → (TurnsInto 1 w h s p₁ → TurnsInto 3 h w p₁ p₂ → take (picture_size w h) p₂ ≡ s) × (TurnsInto 3 w h s p₁ → TurnsInto 1 h w p₁ p₂ → take (picture_size w h) p₂ ≡ s)
