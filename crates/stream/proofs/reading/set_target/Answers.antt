@@ -1,0 +1,5 @@
+use borrow.Author.Rules.{rules}
+use Rattle.stream.proofs.reading.set_target.Goals as goal
+
+pub returns : goal.returns
+returns c = rw c.count-counts.ensures

@@ -1,0 +1,12 @@
+use Prim.Native.Nat.{◌*◌, ◌-◌, ◌≤◌}
+use native.Mathlib.Nat.{zero-add}
+use Rattle.form.proofs.FontRecords.{between_some}
+use Rattle.stream.proofs.Writes.{Counted, count_next, counted}
+use native.Mathlib.Omega.{arith}
+use Rattle.stream.proofs.write.written_length.Given as goal
+
+abbrev pub invariant-loop-at : goal.invariant-loop-at
+invariant-loop-at l = Counted l.s l.lo l.hi l.at l.n × (l.n ≤ 2 * l.at)
+
+abbrev pub decreases-loop-at : goal.decreases-loop-at
+decreases-loop-at l = l.hi - l.at
