@@ -41,6 +41,8 @@ label = target/programs/marlinfold-label --height 10
 soname = libmarlinfold.so.$(firstword $(subst ., ,$(VERSION)))
 shared = target/shared/libmarlinfold.so.$(VERSION)
 links = libmarlinfold.so $(soname)
+# Here each is a copy, since rt ci takes no links in the checkout.
+copies = for link in $(1); do rm -f $$link && cp $(@F) $$link || exit 1; done
 
 # The text layer: a library of its own, in C over the header.
 text_archive = target/text/libmarlinfold-text.a
@@ -90,7 +92,7 @@ $(shared): $(archive)
 	@echo '{ global: mf_*; local: *; };' >$(@D)/exports
 	$(CC) -shared $(LDFLAGS) -Wl,-soname,$(soname) -Wl,--version-script,$(@D)/exports \
 	    -Wl,-z,defs -Wl,--whole-archive $(archive) -Wl,--no-whole-archive -o $@
-	@for link in $(links); do ln -sf $(@F) $(@D)/$$link || exit 1; done
+	@cd $(@D) && $(call copies,$(links))
 
 # The text layer's modules are compiled once for both of its libraries.
 target/text/%.o: text/%.c $(text_headers)
@@ -107,7 +109,7 @@ $(text_shared): $(text_modules) $(shared)
 	$(CC) -shared $(LDFLAGS) -Wl,-soname,$(text_soname) \
 	    -Wl,--version-script,$(@D)/text-exports -Wl,-z,defs $(text_modules) -L$(@D) -lmarlinfold \
 	    -o $@
-	@for link in $(text_links); do ln -sf $(@F) $(@D)/$$link || exit 1; done
+	@cd $(@D) && $(call copies,$(text_links))
 
 # What the programs share is compiled once.
 target/objects/%.o: programs/common/%.c $(headers)
