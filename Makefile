@@ -6,7 +6,7 @@
 #                  file, programs, man pages, bash completion; needs no rt once all is built;
 #                  the same of the text layer
 # make uninstall   removes what make install put there, if given the same folders
-# make clean       removes target/
+# make clean       removes target/, and what the prover keeps in crates/*/out
 PREFIX = /usr/local
 BINDIR = $(PREFIX)/bin
 LIBDIR = $(PREFIX)/lib
@@ -28,7 +28,7 @@ programs = $(patsubst programs/%.c,target/programs/marlinfold-%,$(wildcard progr
 modules = $(patsubst programs/common/%.c,target/objects/%.o,$(wildcard programs/common/*.c))
 common = target/objects/common.a
 examples = $(patsubst %.c,target/%,$(wildcard examples/*.c))
-crates = crates.txt $(shell find crates -type f)
+crates = crates.txt $(shell find crates -name out -prune -o -type f -print)
 headers = include/marlinfold.h include/marlinfold-text.h $(wildcard programs/common/*.h)
 # The programs that draw write PNG too, if libpng is there.
 with_png := $(shell pkg-config --exists libpng 2>/dev/null && echo yes)
@@ -41,6 +41,8 @@ label = target/programs/marlinfold-label --height 10
 soname = libmarlinfold.so.$(firstword $(subst ., ,$(VERSION)))
 shared = target/shared/libmarlinfold.so.$(VERSION)
 links = libmarlinfold.so $(soname)
+# Here each is a copy, since rt ci takes no links in the checkout.
+copies = for link in $(1); do rm -f $$link && cp $(@F) $$link || exit 1; done
 
 # The text layer: a library of its own, in C over the header.
 text_archive = target/text/libmarlinfold-text.a
@@ -62,25 +64,27 @@ all: build
 build: $(archive) $(listing) $(figures) $(shared) $(programs) $(examples)
 build: $(text_archive) $(text_shared)
 
-# $(call prove,COMMAND,LOG): what the prover says goes to a file; its last lines are shown
-# if it fails. rt proves again only what has changed, and then leaves a file as old as it was.
+# $(call prove,CRATE,COMMAND,FILE): what the prover says goes to a file; its last lines are shown
+# if it fails. It leaves what it builds in the crate's out/, and proves again only what has changed.
+# A program is run as well, with nothing to read.
 define prove
 	@:$(call needs,rt,the Rattle toolchain)
-	@mkdir -p target
-	@echo "$(1): its notes are in $(2)"
-	@$(1) >$(2) 2>&1 || { tail -n 20 $(2); exit 1; }
-	@touch $@
+	@mkdir -p $(@D)
+	@echo "rt $(2) in crates/$(1): its notes are in target/prover-$(1).log"
+	@(cd crates/$(1) && rt $(2) </dev/null) >target/prover-$(1).log 2>&1 || \
+	    { tail -n 20 target/prover-$(1).log; exit 1; }
+	@cp crates/$(1)/out/$(3) $@
 endef
 
 $(archive): $(crates)
-	$(call prove,rt staticlib marlinfold,target/prover-marlinfold.log)
+	$(call prove,marlinfold_c,lib,libmarlinfold_c.a)
 
-# One after the other: all of them write to target/.
+# One after the other, since each takes all processors.
 $(listing): $(crates) | $(archive)
-	$(call prove,rt check listing,target/prover-listing.log)
+	$(call prove,listing,run,listing)
 
 $(figures): $(crates) | $(archive) $(listing)
-	$(call prove,rt check figures,target/prover-figures.log)
+	$(call prove,figures,run,figures)
 
 # Only the header's calls are to be seen from outside.
 $(shared): $(archive)
@@ -88,7 +92,7 @@ $(shared): $(archive)
 	@echo '{ global: mf_*; local: *; };' >$(@D)/exports
 	$(CC) -shared $(LDFLAGS) -Wl,-soname,$(soname) -Wl,--version-script,$(@D)/exports \
 	    -Wl,-z,defs -Wl,--whole-archive $(archive) -Wl,--no-whole-archive -o $@
-	@for link in $(links); do ln -sf $(@F) $(@D)/$$link || exit 1; done
+	@cd $(@D) && $(call copies,$(links))
 
 # The text layer's modules are compiled once for both of its libraries.
 target/text/%.o: text/%.c $(text_headers)
@@ -105,7 +109,7 @@ $(text_shared): $(text_modules) $(shared)
 	$(CC) -shared $(LDFLAGS) -Wl,-soname,$(text_soname) \
 	    -Wl,--version-script,$(@D)/text-exports -Wl,-z,defs $(text_modules) -L$(@D) -lmarlinfold \
 	    -o $@
-	@for link in $(text_links); do ln -sf $(@F) $(@D)/$$link || exit 1; done
+	@cd $(@D) && $(call copies,$(text_links))
 
 # What the programs share is compiled once.
 target/objects/%.o: programs/common/%.c $(headers)
@@ -194,7 +198,7 @@ uninstall:
 	rmdir "$(DESTDIR)$(DOCDIR)" 2>/dev/null || :
 
 clean:
-	rm -rf target
+	rm -rf target crates/*/out
 
 .PHONY: all build check install uninstall install-text uninstall-text clean
 .DELETE_ON_ERROR:

@@ -1,8 +1,8 @@
 """The arrays that the sources of drawing declare, found without a compiler.
 
-Read are the functions of ENTRIES in crates/marlinfold/src/lib.rt, the files whose functions they call,
-and every file of the repository that those name by a path (`use` lines and paths in the code), and so
-on. What is not seen here, an array of the kit's libraries, the frames of the archive show.
+Read are the functions of ENTRIES in crates/marlinfold_c/src/lib.rt, those of marlinfold's that they call,
+the files whose functions these call, and every file of the repository that those name by a path (`use`
+lines and paths in the code), and so on. What is not seen here, an array of the kit's libraries, the frames of the archive show.
 """
 import os
 import re
@@ -19,12 +19,24 @@ class Unread(Exception):
 
 
 def plain(text):
-    """A source without comments, contracts and the text of literals."""
+    """A source without comments, contracts and the text of literals, each `use` of one path."""
     text = re.sub(r"//[^\n]*", "", text)
-    text = re.sub(r"⌜[^⌝]*⌝", "", text)
+    text = re.sub(r"\bghost use [^;]*;", "", text)
     text = re.sub(r'b?"(\\.|[^"\\])*"', '""', text)
     text = re.sub(r"b'(\\.|[^'\\])'", "0u8", text)
-    return re.sub(r"\bghost use [^;]*;", "", text)
+    clause = re.compile(r"\b(requires|ensures)\*?( \w+)? (?={)")
+    while match := clause.search(text):
+        text = text[:match.start()] + text[closing(text, match.end()) + 1:]
+    return re.sub(r"\buse ([^;]*);", lambda m: " ".join(f"use {path};" for path in single(m[1])), text)
+
+
+def single(path):
+    """The paths of a `use`, one by one, without its braces."""
+    at = path.find("{")
+    if at < 0:
+        return [path.strip()]
+    inside = path[at + 1:closing(path, at)]
+    return [one for part in parts(inside, ",") if part for one in single(path[:at].strip() + part)]
 
 
 def closing(text, at):
@@ -84,7 +96,7 @@ class Sources:
 
     def paths(self, crate, text):
         """The files of the repository that a text names."""
-        if re.search(r"\b(super|self)::|\buse [^;]*[{*]", text):
+        if re.search(r"\b(super|self)::|\buse [^;]*(\bself\b|\*| as )", text):
             raise Unread(f"a path in {crate} that is not spelled from its crate")
         for first, rest in re.findall(r"(?<![\w:])(\w+)((?:::\w+)+)", text):
             owner = crate if first == "crate" else first
@@ -105,21 +117,25 @@ class Sources:
         for owner, named in self.paths(crate, whole):
             self.reach(owner, named)
 
-    def reach_entry(self, entry):
-        """Takes up a function of the C interface, those of its file that it calls, and all files that they name. Answers whether it is there."""
-        root = self.read("marlinfold", "lib.rt")
-        match = re.search(rf"\bfn {entry}\(", root)
-        key = "marlinfold", f"lib.rt, {entry}"
+    def reach_entry(self, crate, entry):
+        """Takes up a function of the C interface, those of its file and of marlinfold's that it calls, and all files that they name. Answers whether it is there."""
+        root = self.read(crate, "lib.rt")
+        match = re.search(rf"\bfn {entry}\b", root)
+        key = crate, f"lib.rt, {entry}"
         if not match or key in self.texts:
             return match is not None
         body = root[match.start():closing(root, root.index("{\n", match.end())) + 1]
         self.texts[key] = body
         words = set(re.findall(r"\w+", body))
         used = [path for path in re.findall(r"\buse ([\w:]+);", root) if path.split("::")[-1] in words]
-        for owner, file in self.paths("marlinfold", body + " ".join(used)):
+        called = r"(?<![\w:])marlinfold::(\w+)\("
+        for owner, file in self.paths(crate, re.sub(called, "", body) + " ".join(used)):
             self.reach(owner, file)
+        for name in re.findall(called, body):
+            if not self.reach_entry("marlinfold", name):
+                raise Unread(f"the function marlinfold::{name}")
         for name in re.findall(r"(?<![\w:])(\w+)\(", body):
-            self.reach_entry(name)
+            self.reach_entry(crate, name)
         return True
 
     def number(self, text):
@@ -202,8 +218,8 @@ def check(root, entries):
     sources, problems, largest = Sources(root), [], 0
     try:
         for entry, needed in entries.items():
-            if not sources.reach_entry(entry) and needed:
-                problems.append(f"crates/marlinfold/src/lib.rt has no {entry}")
+            if not sources.reach_entry("marlinfold_c", entry) and needed:
+                problems.append(f"crates/marlinfold_c/src/lib.rt has no {entry}")
         for (crate, file), text in sorted(sources.texts.items()):
             for array, size in sources.arrays(text):
                 largest = max(largest, size)

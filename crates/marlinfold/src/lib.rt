@@ -1,4 +1,4 @@
-// The calls that C makes. Each is one call of a crate below, save the sheet, a loop of one, and its contract is its line of `outcome`. A slice is a pointer and a length in C.
+// The calls, which `marlinfold_c` exports to C. Each is one call of a crate below, save the sheet, a loop of one, and its contract is its line of `outcome`.
 #![tactic(auto)]
 
 ghost use Rattle.std.specs.Prelude.{◌≡◌, true, false, ℕ, List, ◌∷◌, []};
@@ -29,41 +29,31 @@ pub struct FontChosen {
     pub font: u32,
 }
 
-#[unsafe(no_mangle)]
-pub extern "C" fn mf_make_fresh(store: &mut [u8]) -> u32
+pub fn mf_make_fresh(store: &mut [u8]) -> u32
     ensures { answered result [] store.new [] ≡ outcome make_fresh store.old }
 {
     fonts::make_fresh(store)
 }
 
-#[unsafe(no_mangle)]
-pub extern "C" fn mf_download_font(store: &mut [u8], block: &[u8], font: u32) -> u32
+pub fn mf_download_font(store: &mut [u8], block: &[u8], font: u32) -> u32
     ensures { answered result [] store.new [] ≡ outcome (download_font font block.now) store.old }
 {
     fonts::download_font(store, block, font)
 }
 
-#[unsafe(no_mangle)]
-pub extern "C" fn mf_download_character(
-    store: &mut [u8],
-    block: &[u8],
-    font: u32,
-    code: u32,
-) -> Downloaded
+pub fn mf_download_character(store: &mut [u8], block: &[u8], font: u32, code: u32) -> Downloaded
     ensures { answered result.refusal (result.bad.row ∷ result.bad.filled ∷ result.bad.run ∷ []) store.new [] ≡ outcome (download_character font code block.now) store.old }
 {
     download::download_character(store, block, font, code)
 }
 
-#[unsafe(no_mangle)]
-pub extern "C" fn mf_remove_font(store: &mut [u8], font: u32) -> u32
+pub fn mf_remove_font(store: &mut [u8], font: u32) -> u32
     ensures { answered result [] store.new [] ≡ outcome (remove_font font) store.old }
 {
     fonts::remove_font(store, font)
 }
 
-#[unsafe(no_mangle)]
-pub extern "C" fn mf_remove_character(store: &mut [u8], font: u32, code: u32) -> u32
+pub fn mf_remove_character(store: &mut [u8], font: u32, code: u32) -> u32
     ensures { answered result [] store.new [] ≡ outcome (remove_character font code) store.old }
 {
     characters::remove_character(store, font, code)
@@ -106,8 +96,7 @@ fn request_by(
     }
 }
 
-#[unsafe(no_mangle)]
-pub extern "C" fn mf_choose(
+pub fn mf_choose(
     store: &[u8],
     symbol_set: u32,
     spacing: u32,
@@ -135,55 +124,44 @@ pub extern "C" fn mf_choose(
     font_chosen(choice::choose(store, r))
 }
 
-#[unsafe(no_mangle)]
-pub extern "C" fn mf_tell_font(store: &[u8], out: &mut [u8], font: u32) -> Told
+pub fn mf_tell_font(store: &[u8], out: &mut [u8], font: u32) -> Told
     ensures { answered result.refusal (result.count ∷ []) store.now out.new ≡ outcome (tell_font font out.old) store.now }
 {
     fonts::tell_font(store, out, font)
 }
 
-#[unsafe(no_mangle)]
-pub extern "C" fn mf_tell_character(store: &[u8], out: &mut [u8], font: u32, code: u32) -> Told
+pub fn mf_tell_character(store: &[u8], out: &mut [u8], font: u32, code: u32) -> Told
     ensures { answered result.refusal (result.count ∷ []) store.now out.new ≡ outcome (tell_character font code out.old) store.now }
 {
     characters::tell_character(store, out, font, code)
 }
 
-#[unsafe(no_mangle)]
-pub extern "C" fn mf_draw_row(store: &[u8], out: &mut [u8], font: u32, code: u32, row: u32) -> u32
+pub fn mf_draw_row(store: &[u8], out: &mut [u8], font: u32, code: u32, row: u32) -> u32
     ensures { answered result [] store.now out.new ≡ outcome (draw_row font code row out.old) store.now }
 {
     drawing::draw_row(store, out, font, code, row)
 }
 
-#[unsafe(no_mangle)]
-pub extern "C" fn mf_draw_picture(store: &[u8], out: &mut [u8], font: u32, code: u32) -> u32
+pub fn mf_draw_picture(store: &[u8], out: &mut [u8], font: u32, code: u32) -> u32
     ensures { answered result [] store.now out.new ≡ outcome (draw_picture font code out.old) store.now }
 {
     drawing::draw_picture(store, out, font, code)
 }
 
-#[unsafe(no_mangle)]
-pub extern "C" fn mf_write_font(store: &[u8], out: &mut [u8], font: u32) -> Written
+pub fn mf_write_font(store: &[u8], out: &mut [u8], font: u32) -> Written
     ensures { answered result.refusal (result.length ∷ []) store.now out.new ≡ outcome (write_font font out.old) store.now }
 {
     write::write_font(store, out, font)
 }
 
-#[unsafe(no_mangle)]
-pub extern "C" fn mf_read_stream(store: &mut [u8], stream: &[u8]) -> StreamRead
+pub fn mf_read_stream(store: &mut [u8], stream: &[u8]) -> StreamRead
     ensures { answered result.refusal (result.done ∷ result.refused ∷ result.place ∷ result.bad.row ∷ result.bad.filled ∷ result.bad.run ∷ []) store.new [] ≡ outcome (read_stream stream.now) store.old }
 {
     reading::read_stream(store, stream)
 }
 
 // W-201. The borrow checker does not cover slices of structs, so this proof is written by hand; all that is decided here is decided by the two calls.
-#[unsafe(no_mangle)]
-pub extern "C" fn mf_choose_sheet(
-    store: &[u8],
-    requests: &[Request],
-    answers: &mut [SheetAnswer],
-) -> u32
+pub fn mf_choose_sheet(store: &[u8], requests: &[Request], answers: &mut [SheetAnswer]) -> u32
     ensures { answered result [] store.now (answer_numbers answers.new) ≡ outcome (choose_sheet requests.now answers.old) store.now }
 {
     let begin = sheet::begin_sheet(store, requests.len(), answers.len());
@@ -201,37 +179,27 @@ pub extern "C" fn mf_choose_sheet(
 }
 
 // W-203
-#[unsafe(no_mangle)]
-pub extern "C" fn mf_turn_picture(
-    picture: &[u8],
-    out: &mut [u8],
-    width: u32,
-    height: u32,
-    turn: u32,
-) -> u32
+pub fn mf_turn_picture(picture: &[u8], out: &mut [u8], width: u32, height: u32, turn: u32) -> u32
     ensures { (s : List ℕ) → answered result [] s out.new ≡ outcome (turn_picture turn width height picture.now out.old) s }
 {
     turn::turn_picture(picture, out, width, height, turn)
 }
 
 // W-207
-#[unsafe(no_mangle)]
-pub extern "C" fn mf_check_profile(store: &[u8], font: u32) -> ProfileChecked
+pub fn mf_check_profile(store: &[u8], font: u32) -> ProfileChecked
     ensures { answered result.refusal (result.rule ∷ result.code ∷ []) store.now [] ≡ outcome (check_profile font) store.now }
 {
     check::check_profile(store, font)
 }
 
-#[unsafe(no_mangle)]
-pub extern "C" fn mf_write_profiled(store: &[u8], out: &mut [u8], font: u32) -> Written
+pub fn mf_write_profiled(store: &[u8], out: &mut [u8], font: u32) -> Written
     ensures { answered result.refusal (result.length ∷ []) store.now out.new ≡ outcome (write_profiled font out.old) store.now }
 {
     check::write_profiled(store, out, font)
 }
 
 // W-208. One lifetime for both stores, which the borrow checker asks for where both go to one call.
-#[unsafe(no_mangle)]
-pub extern "C" fn mf_choose_from_two<'a>(
+pub fn mf_choose_from_two<'a>(
     soft: &'a [u8],
     cartridge: &'a [u8],
     symbol_set: u32,
@@ -262,16 +230,14 @@ pub extern "C" fn mf_choose_from_two<'a>(
 }
 
 // W-210
-#[unsafe(no_mangle)]
-pub extern "C" fn mf_add_figures(store: &[u8], figures: &mut [u8]) -> u32
+pub fn mf_add_figures(store: &[u8], figures: &mut [u8]) -> u32
     ensures { answered result [] store.now figures.new ≡ outcome (add_figures figures.old) store.now }
 {
     adding::add_figures(store, figures)
 }
 
 // W-212
-#[unsafe(no_mangle)]
-pub extern "C" fn mf_salvage_stream(store: &mut [u8], stream: &[u8], list: &mut [u8]) -> Salvaged
+pub fn mf_salvage_stream(store: &mut [u8], stream: &[u8], list: &mut [u8]) -> Salvaged
     ensures { answered result.refusal (result.stretches ∷ result.done ∷ result.refused ∷ []) store.new list.new ≡ outcome (salvage_stream stream.now list.old) store.old }
 {
     salvage::salvage_stream(store, stream, list)
