@@ -1,5 +1,5 @@
 -- Each turn leaves less to fill, and what was read stands at the front.
-use Rattle.std.proofs.Common.{length, ◌-◌, ◌≡◌, ◌≤◌, take, ◌<◌, ◌^◌}
+use Rattle.std.proofs.Common.{length, ◌-◌, ◌≡◌, ◌≤◌, take}
 use Rattle.std.specs.Io.KnownBytes.{Consumes}
 use Rattle.text.proofs.program.read_full.Given as goal
 
