@@ -8,4 +8,4 @@ returns-then-add_figures-ne0-clause-wrote c =
 pub returns-clause-wrote : goal.returns-clause-wrote
 returns-clause-wrote c =
     wrote_table _ _ _ (λ i. (c.type_inv.input i).fits) c.add_figures.ensures.value c.add_figures.ensures.figures_after c.if-add_figures-ne0.false _ _ _ _ _ c.requires
-        c.write_bytes-start.ensures c.write_lines.ensures
+    c.write_bytes-start.ensures c.write_lines.ensures

@@ -12,13 +12,30 @@ write_measures-style-requires c =
 
 pub write_looks-chars-requires : goal.write_looks-chars-requires
 write_looks-chars-requires c =
-    omega (arith, c.requires, c.write_measures-style.ensures.upper_bound, c.write_measures-style.auto.out, c.write_column-set.ensures.place, c.write_column-set.auto.out,
-      column_short 9 c.args.number 32 (omega arith))
+    omega (
+      arith,
+      c.requires,
+      c.write_measures-style.ensures.upper_bound,
+      c.write_measures-style.auto.out,
+      c.write_column-set.ensures.place,
+      c.write_column-set.auto.out,
+      column_short 9 c.args.number 32 (omega arith),
+    )
 
 pub write_column-requires : goal.write_column-requires
 write_column-requires c =
-    omega (arith, c.requires, c.write_looks-chars.ensures.upper_bound, c.write_looks-chars.auto.out, c.write_measures-style.ensures.upper_bound, c.write_measures-style.auto.out,
-      c.write_column-set.ensures.place, c.write_column-set.auto.out, column_short 9 c.args.number 32 (omega arith), column_short 9 c.args.characters 10 (omega arith))
+    omega (
+      arith,
+      c.requires,
+      c.write_looks-chars.ensures.upper_bound,
+      c.write_looks-chars.auto.out,
+      c.write_measures-style.ensures.upper_bound,
+      c.write_measures-style.auto.out,
+      c.write_column-set.ensures.place,
+      c.write_column-set.auto.out,
+      column_short 9 c.args.number 32 (omega arith),
+      column_short 9 c.args.characters 10 (omega arith),
+    )
 
 pub returns-clause-wrote : goal.returns-clause-wrote
 returns-clause-wrote c =
@@ -26,5 +43,12 @@ returns-clause-wrote c =
 
 pub returns-clause-upper_bound : goal.returns-clause-upper_bound
 returns-clause-upper_bound c =
-    omega (arith, c.write_column.ensures.place, c.write_looks-chars.ensures.upper_bound, c.write_measures-style.ensures.upper_bound, c.write_column-set.ensures.place,
-      column_short 9 c.args.number 32 (omega arith), column_short 9 c.args.characters 10 (omega arith))
+    omega (
+      arith,
+      c.write_column.ensures.place,
+      c.write_looks-chars.ensures.upper_bound,
+      c.write_measures-style.ensures.upper_bound,
+      c.write_column-set.ensures.place,
+      column_short 9 c.args.number 32 (omega arith),
+      column_short 9 c.args.characters 10 (omega arith),
+    )

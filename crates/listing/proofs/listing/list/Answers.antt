@@ -7,4 +7,4 @@ returns-then-input-gt-MOST-clause-wrote c = wrote_long _ _ _ _ c.if-input-gt-MOS
 pub returns-clause-wrote : goal.returns-clause-wrote
 returns-clause-wrote c =
     wrote_listing _ _ _ _ _ _ _ _ _ _ _ c.if-input-gt-MOST.false (is_fresh _ c.make_fresh.ensures.s_after) c.read_stream-read.ensures.value c.read_stream-read.ensures.s_after c.requires
-        c.write_bytes-heading.ensures c.write_lines-end.ensures.wrote c.write_summary.ensures
+    c.write_bytes-heading.ensures c.write_lines-end.ensures.wrote c.write_summary.ensures

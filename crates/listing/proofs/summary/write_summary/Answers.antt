@@ -8,4 +8,4 @@ returns-then-read-eq13 c = wrote_stopped _ _ _ _ _ _ _ c.write_counts-end.ensure
 pub returns : goal.returns
 returns c =
     wrote_ended _ _ _ _ _ _ _ c.write_counts-end.ensures.wrote c.if-read-eq13.false
-        (omega (arith, c.requires, c.write_counts-end.ensures.upper_bound, c.write_counts-end.auto.out)) c.write_bytes.ensures
+    (omega (arith, c.requires, c.write_counts-end.ensures.upper_bound, c.write_counts-end.auto.out)) c.write_bytes.ensures
