@@ -5,19 +5,21 @@ mod line;
 mod lines;
 mod table;
 
+use text::program;
+
 // A byte more than a store has at most, so that longer input shows.
 const INPUT: usize = form::layout::MOST_STORE + 1;
 
-fn main() {
-    if 1 < os::arg_count() {
-        io::write_all(libc::STDERR_FILENO, b"usage: marlinfold-figures < STORE\n");
+fn main(rt: HostRuntime) {
+    if program::has_argument(&rt) {
+        let _ = eprintln!(rt; "usage: marlinfold-figures < STORE");
         return;
     }
     let mut input = [0u8; INPUT];
     let mut text = [0u8; table::TEXT];
-    let n = io::read_full(libc::STDIN_FILENO, &mut input);
+    let n = program::read_full(&mut rt.stdin(), &mut input);
     let end = table::write_table(&input[..n], &mut text);
-    if !io::write_all(libc::STDOUT_FILENO, &text[..end]) {
-        os::fail(b"marlinfold-figures");
+    if let Err(error) = rt.write_all(&text[..end]) {
+        program::fail(&rt, "marlinfold-figures", error);
     }
 }

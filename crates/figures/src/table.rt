@@ -1,6 +1,6 @@
 // The whole text.
 ghost use Rattle.std.specs.Prelude.{◌≤◌, length};
-ghost use Rattle.io.specs.Counts.{IsPrefixLen};
+ghost use Rattle.std.specs.Counts.{IsPrefixLen};
 ghost use Rattle.text.specs.Wrote.{Wrote};
 ghost use Rattle.figures.specs.Table.{figures_table, table_room};
 

@@ -8,19 +8,21 @@ mod lines;
 mod listing;
 mod summary;
 
+use text::program;
+
 // A byte more than is read, so that longer input shows.
 const INPUT: usize = listing::MOST + 1;
 
-fn main() {
-    if 1 < os::arg_count() {
-        io::write_all(libc::STDERR_FILENO, b"usage: marlinfold-listing < STREAM\n");
+fn main(rt: HostRuntime) {
+    if program::has_argument(&rt) {
+        let _ = eprintln!(rt; "usage: marlinfold-listing < STREAM");
         return;
     }
     let mut input = [0u8; INPUT];
     let mut text = [0u8; listing::TEXT];
-    let n = io::read_full(libc::STDIN_FILENO, &mut input);
+    let n = program::read_full(&mut rt.stdin(), &mut input);
     let end = listing::list(&input[..n], &mut text);
-    if !io::write_all(libc::STDOUT_FILENO, &text[..end]) {
-        os::fail(b"marlinfold-listing");
+    if let Err(error) = rt.write_all(&text[..end]) {
+        program::fail(&rt, "marlinfold-listing", error);
     }
 }

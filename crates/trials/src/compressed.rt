@@ -4,65 +4,65 @@ ghost use Rattle.std.specs.Prelude.{◌<◌};
 use crate::{calls, print, samples};
 
 // The example line by line, a repeat count and the runs, each as a continuation.
-fn send(s: &mut [u8]) {
+fn send(rt: &impl Print, s: &mut [u8]) {
     let d = samples::descriptor(2, 20, 20);
-    calls::character(b"  compressed character", s, &d, 65);
-    more(s, b"\x04\x01\x02\x00\x14");
-    more(s, b"\x04\x01\x00\x00\x02\x06\x04\x06\x02");
-    more(s, b"\x04\x01\x00\x00\x01\x07\x04\x07\x01");
+    calls::character(rt, b"  compressed character", s, &d, 65);
+    more(rt, s, b"\x04\x01\x02\x00\x14");
+    more(rt, s, b"\x04\x01\x00\x00\x02\x06\x04\x06\x02");
+    more(rt, s, b"\x04\x01\x00\x00\x01\x07\x04\x07\x01");
 }
 
 // The rest of it, and a byte more, for which the character must be complete.
-fn send_rest(s: &mut [u8]) {
-    more(s, b"\x04\x01\x0c\x08\x04\x08");
-    more(s, b"\x04\x01\x01\x05\x0a\x05");
-    more(s, b"\x04\x01\x00");
+fn send_rest(rt: &impl Print, s: &mut [u8]) {
+    more(rt, s, b"\x04\x01\x0c\x08\x04\x08");
+    more(rt, s, b"\x04\x01\x01\x05\x0a\x05");
+    more(rt, s, b"\x04\x01\x00");
 }
 
-fn more(s: &mut [u8], block: &[u8]) {
-    calls::character(b"  continued", s, block, 65);
+fn more(rt: &impl Print, s: &mut [u8], block: &[u8]) {
+    calls::character(rt, b"  continued", s, block, 65);
 }
 
 // A row, of three bytes.
-fn print_row(p: &[u8; 60], row: usize)
+fn print_row(rt: &impl Print, p: &[u8; 60], row: usize)
     requires { row < 20 }
 {
     let at = 3 * row;
-    print::text(b"  ");
-    print::hex(p[at]);
-    print::hex(p[at + 1]);
-    print::hex(p[at + 2]);
-    print::text(b"\n");
+    print::text(rt, b"  ");
+    print::hex(rt, p[at]);
+    print::hex(rt, p[at + 1]);
+    print::hex(rt, p[at + 2]);
+    print::text(rt, b"\n");
 }
 
-fn print_rows(p: &[u8; 60]) {
+fn print_rows(rt: &impl Print, p: &[u8; 60]) {
     let mut row = 0;
     while row < 20 {
-        print_row(p, row);
+        print_row(rt, p, row);
         row += 1;
     }
 }
 
-fn draw(s: &[u8]) {
+fn draw(rt: &impl Print, s: &[u8]) {
     let mut row = [0u8; 3];
-    calls::draw_row(b"  row 19", s, &mut row, 19);
-    calls::draw_row(b"  row 20", s, &mut row, 20);
+    calls::draw_row(rt, b"  row 19", s, &mut row, 19);
+    calls::draw_row(rt, b"  row 20", s, &mut row, 20);
     let mut short = [0u8; 59];
-    calls::draw_picture(b"  drawn into 59 bytes", s, &mut short);
+    calls::draw_picture(rt, b"  drawn into 59 bytes", s, &mut short);
     let mut picture = [0u8; 60];
-    calls::draw_picture(b"  drawn into 60 bytes", s, &mut picture);
-    print_rows(&picture);
+    calls::draw_picture(rt, b"  drawn into 60 bytes", s, &mut picture);
+    print_rows(rt, &picture);
 }
 
-pub fn run() {
+pub fn run(rt: &impl Print) {
     let mut store = [0u8; 256];
     let s: &mut [u8] = &mut store;
     let h = samples::header(0);
-    calls::make_fresh(b"make fresh", s);
-    calls::font(b"font 5", s, &h, 5);
-    send(s);
-    send_rest(s);
+    calls::make_fresh(rt, b"make fresh", s);
+    calls::font(rt, b"font 5", s, &h, 5);
+    send(rt, s);
+    send_rest(rt, s);
     let mut kept = [0u8; 16];
-    calls::tell_character(b"  told", s, &mut kept, 5, 65);
-    draw(s);
+    calls::tell_character(rt, b"  told", s, &mut kept, 5, 65);
+    draw(rt, s);
 }

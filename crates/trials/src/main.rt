@@ -12,12 +12,12 @@ mod sent;
 mod size;
 mod weight;
 
-fn main() {
-    room::run();
-    size::run();
-    weight::run();
-    compressed::run();
-    sent::run();
-    refusals::run();
-    resolution::run();
+fn main(rt: HostRuntime) {
+    room::run(&rt);
+    size::run(&rt);
+    weight::run(&rt);
+    compressed::run(&rt);
+    sent::run(&rt);
+    refusals::run(&rt);
+    resolution::run(&rt);
 }

@@ -1,18 +1,18 @@
 // W-206: "the 90-byte case becomes 94 and 93": a store of 94 bytes takes one font, 93 none (10).
 use crate::{calls, print, samples};
 
-fn two_fonts(s: &mut [u8]) {
+fn two_fonts(rt: &impl Print, s: &mut [u8]) {
     let h = samples::header(0);
-    calls::make_fresh(b"  make fresh", s);
-    calls::font(b"  font 5", s, &h, 5);
-    calls::font(b"  font 6", s, &h, 6);
+    calls::make_fresh(rt, b"  make fresh", s);
+    calls::font(rt, b"  font 5", s, &h, 5);
+    calls::font(rt, b"  font 6", s, &h, 6);
 }
 
-pub fn run() {
+pub fn run(rt: &impl Print) {
     let mut enough = [0u8; 94];
-    print::text(b"a store of 94 bytes\n");
-    two_fonts(&mut enough);
+    print::text(rt, b"a store of 94 bytes\n");
+    two_fonts(rt, &mut enough);
     let mut short = [0u8; 93];
-    print::text(b"a store of 93 bytes\n");
-    two_fonts(&mut short);
+    print::text(rt, b"a store of 93 bytes\n");
+    two_fonts(rt, &mut short);
 }
