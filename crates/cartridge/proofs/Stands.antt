@@ -13,7 +13,7 @@ use Rattle.blocks.specs.Header.{header_bytes}
 use Rattle.form.specs.Layout.{mark_record, font_record, key_of, kind_at, number_at, font_kept_at}
 use Rattle.form.specs.Num.{field}
 use Rattle.form.specs.Model.{tally_in, tally_of, Rec, font, character, Store, Owner, owner_after, no_owner, sorted, number, place, key, total, head_rec, split, decode}
-use Rattle.form.specs.Order.{below, from, find}
+use Rattle.form.specs.Order.{below, from, find_record}
 use Rattle.form.specs.Records.{is_store, records_in, records_at, records_behind, tally_by_font, font_place, FontStands}
 use Rattle.form.specs.Fonts.{Font, fonts_in, fonts_of}
 use Rattle.form.proofs.Fields.{field_drop}
@@ -37,17 +37,17 @@ use Rattle.choice.proofs.Choice.{choice_in}
 use Rattle.cartridge.specs.Cartridge.{chosen_place, record_answer, answering_from_two, MemoryPart, fits, record_part, Gives, of_soft, of_cartridge, nothing, GivesRecord}
 
 -- ── among records by rising keys a font is found by its number
-later : (f : Font) (r : Rec) (rs : List Rec) (u : Owner) → sorted (key r + 1) u rs ≡ true → find (key_of f.number 0) rs ≡ some (font f.number f.kept)
-    → find (key_of f.number 0) (r ∷ rs) ≡ some (font f.number f.kept)
+later : (f : Font) (r : Rec) (rs : List Rec) (u : Owner) → sorted (key r + 1) u rs ≡ true → find_record (key_of f.number 0) rs ≡ some (font f.number f.kept)
+    → find_record (key_of f.number 0) (r ∷ rs) ≡ some (font f.number f.kept)
 later f r rs u o e = find_other (key_of f.number 0) r rs not_here ∙ e
   where
     not_here : key r ≡ key_of f.number 0 → ⊥
     not_here q =
-        let n : find (key_of f.number 0) rs ≡ none = find_behind (key_of f.number 0) (key r + 1) u rs o (omega arith) in
+        let n : find_record (key_of f.number 0) rs ≡ none = find_behind (key_of f.number 0) (key r + 1) u rs o (omega arith) in
         let z : ◌≡◌ {A = ℕ} 0 1 = cc in
         omega arith
 
-font_found : (f : Font) (rs : List Rec) (k : ℕ) (u : Owner) → sorted k u rs ≡ true → In f (fonts_in rs) → find (key_of f.number 0) rs ≡ some (font f.number f.kept)
+font_found : (f : Font) (rs : List Rec) (k : ℕ) (u : Owner) → sorted k u rs ≡ true → In f (fonts_in rs) → find_record (key_of f.number 0) rs ≡ some (font f.number f.kept)
 unfolding fonts_in number place
 font_found f [] k u o m = absurd m
 font_found f (font n h ∷ rs) k u o (inl e) = rw e (find_here (key_of n 0) (font n h) rs refl)

@@ -10,7 +10,7 @@ use Rattle.pictures.specs.Size.{bitmap_class, picture_size, data_limit}
 use Rattle.blocks.specs.Character.{descriptor_bytes, class, width, height, delta_x}
 use Rattle.form.specs.Num.{low_first, Bytes}
 use Rattle.form.specs.Model.{Rec, Store, decode}
-use Rattle.form.specs.Records.{is_store, is_some, records_in, records_at, RecordPlace, Begun, MetAt, font_from, FontMet, character_from, CharacterMet}
+use Rattle.form.specs.Records.{is_store, some_store, records_in, records_at, RecordPlace, Begun, MetAt, font_from, FontMet, character_from, CharacterMet}
 use Rattle.form.specs.declared.records.Begin.{Begin}
 use Rattle.form.specs.declared.records.Begin.TheVariants.{At, NotStore}
 use Rattle.form.specs.Checks.{on_store}
@@ -107,7 +107,7 @@ pub step_end : (s : List ℕ) (at : ℕ) (b after : List ℕ) (x : NextRecord) �
 step_end s at b after x p e = subst (RecordAdded s at b after) e p
 
 -- ── the call
-none_store : (o : Option Store) → is_some o ≡ false → o ≡ none
+none_store : (o : Option Store) → some_store o ≡ false → o ≡ none
 none_store none e = refl
 none_store (some st) e = let z : ◌≡◌ {A = ℕ} 0 1 = cc in absurd (omega arith)
 

@@ -14,7 +14,7 @@ use lib.Seq.{take_at, drop_at, take_all, take-nil, drop-append-add}
 use Rattle.form.specs.Layout.{last_code}
 use Rattle.form.specs.Num.{low_first, num, Bytes}
 use Rattle.form.specs.Model.{Rec, Store, decode}
-use Rattle.form.specs.Records.{is_some, is_store, records_by, records_in}
+use Rattle.form.specs.Records.{some_store, is_store, records_by, records_in}
 use Rattle.form.proofs.Locates.{is_store_lem}
 use Rattle.form.proofs.Numbers.{num_le, less_or}
 use Rattle.collection.specs.declared.figure.Figure.{Figure}
@@ -274,7 +274,7 @@ no_records : (s : List ℕ) → is_store s ≡ false → records_in s ≡ []
 unfolding records_in is_store
 no_records s e = go (decode s) e
   where
-    go : (o : Option Store) → is_some o ≡ false → records_by o ≡ []
+    go : (o : Option Store) → some_store o ≡ false → records_by o ≡ []
     go none e = refl
     go (some st) e = let z : ◌≡◌ {A = ℕ} 0 1 = cc in absurd (omega arith)
 

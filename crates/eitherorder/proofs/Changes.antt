@@ -10,7 +10,7 @@ use lib.Dec.{eqb, leb, ltb}
 use borrow.Author.Tests.{eqb-true, eqb-false, lt-ltb, le-leb, le-ltb, lt-leb}
 use Rattle.form.specs.Layout.{key_of}
 use Rattle.form.specs.Model.{Rec, Mark, shut, Store, Owner, owner_after, no_owner, sorted, key}
-use Rattle.form.specs.Order.{keep, below, from, replaced, find}
+use Rattle.form.specs.Order.{keep, below, from, replaced, find_record}
 use Rattle.form.proofs.Numbers.{less_or}
 use Rattle.form.proofs.Codec.{sorted_inv}
 use Rattle.form.proofs.Lookup.{find_here, find_other, find_behind}
@@ -34,7 +34,7 @@ pub record Inside (n : ℕ) (x : Change) : Type 0 where
   pub low : key_of n 0 ≤ x.lo
   pub order : x.lo ≤ x.hi
   pub high : x.hi ≤ key_of (n + 1) 0
-  pub nowhere_else : (k : ℕ) → Outside x.lo x.hi k → find k x.new ≡ none
+  pub nowhere_else : (k : ℕ) → Outside x.lo x.hi k → find_record k x.new ≡ none
 
 -- ── what is found
 -- the first of two, if there is one
@@ -51,45 +51,45 @@ none_either true = refl
 none_either false = refl
 
 module _ (k : ℕ) where
-  find_append : (a b : List Rec) → find k (a ++ b) ≡ first_of (find k a) (find k b)
-  unfolding find
+  find_append : (a b : List Rec) → find_record k (a ++ b) ≡ first_of (find_record k a) (find_record k b)
+  unfolding find_record
   find_append [] b = refl
   find_append (r ∷ a) b = go (eqb (key r) k) (find_append a b)
     where
-      go : (z : Bool) → find k (a ++ b) ≡ first_of (find k a) (find k b) → cond z (some r) (find k (a ++ b)) ≡ first_of (cond z (some r) (find k a)) (find k b)
+      go : (z : Bool) → find_record k (a ++ b) ≡ first_of (find_record k a) (find_record k b) → cond z (some r) (find_record k (a ++ b)) ≡ first_of (cond z (some r) (find_record k a)) (find_record k b)
       go true e = refl
       go false e = e
 
   -- among the records whose keys pass a test
-  find_keep : (t : ℕ → Bool) (rs : List Rec) → find k (keep (λ r. t (key r)) rs) ≡ cond (t k) (find k rs) none
-  unfolding find keep
+  find_keep : (t : ℕ → Bool) (rs : List Rec) → find_record k (keep (λ r. t (key r)) rs) ≡ cond (t k) (find_record k rs) none
+  unfolding find_record keep
   find_keep t [] = sym (none_either (t k))
   find_keep t (r ∷ rs) = go (t (key r)) refl (eqb (key r) k) refl (find_keep t rs)
     where
       kept : List Rec
       kept = keep (λ r. t (key r)) rs
 
-      go : (a : Bool) → t (key r) ≡ a → (b : Bool) → eqb (key r) k ≡ b → find k kept ≡ cond (t k) (find k rs) none
-          → find k (cond a (r ∷ kept) kept) ≡ cond (t k) (cond b (some r) (find k rs)) none
+      go : (a : Bool) → t (key r) ≡ a → (b : Bool) → eqb (key r) k ≡ b → find_record k kept ≡ cond (t k) (find_record k rs) none
+          → find_record k (cond a (r ∷ kept) kept) ≡ cond (t k) (cond b (some r) (find_record k rs)) none
       go true p true q e = let z : t k ≡ true = ap t (sym (eqb-true (key r) k q)) ∙ p in rw (q, z)
       go true p false q e = rw q e
       go false p true q e = let z : t k ≡ false = ap t (sym (eqb-true (key r) k q)) ∙ p in e ∙ rw z
       go false p false q e = e
 
 module _ {n : ℕ} {x : Change} (w : Inside n x) (rs : List Rec) (k : ℕ) where
-  find_parts : find k (records_after x rs) ≡ first_of (cond (ltb k x.lo) (find k rs) none) (first_of (find k x.new) (cond (leb x.hi k) (find k rs) none))
+  find_parts : find_record k (records_after x rs) ≡ first_of (cond (ltb k x.lo) (find_record k rs) none) (first_of (find_record k x.new) (cond (leb x.hi k) (find_record k rs) none))
   find_parts =
       find_append k (below x.lo rs) (x.new ++ from x.hi rs)
-      ∙ ap₂ first_of (find_keep k (λ j. ltb j x.lo) rs) (find_append k x.new (from x.hi rs) ∙ ap (first_of (find k x.new)) (find_keep k (λ j. leb x.hi j) rs))
+      ∙ ap₂ first_of (find_keep k (λ j. ltb j x.lo) rs) (find_append k x.new (from x.hi rs) ∙ ap (first_of (find_record k x.new)) (find_keep k (λ j. leb x.hi j) rs))
 
-  find_new : x.lo ≤ k → k < x.hi → find k (records_after x rs) ≡ find k x.new
-  find_new l h = find_parts ∙ rw (le-ltb k x.lo l, lt-leb x.hi k h) (first_none (find k x.new))
+  find_new : x.lo ≤ k → k < x.hi → find_record k (records_after x rs) ≡ find_record k x.new
+  find_new l h = find_parts ∙ rw (le-ltb k x.lo l, lt-leb x.hi k h) (first_none (find_record k x.new))
 
-  find_old : Outside x.lo x.hi k → find k (records_after x rs) ≡ find k rs
+  find_old : Outside x.lo x.hi k → find_record k (records_after x rs) ≡ find_record k rs
   find_old o = go o (w.nowhere_else k o)
     where
-      go : Outside x.lo x.hi k → find k x.new ≡ none → find k (records_after x rs) ≡ find k rs
-      go (inl l) e = find_parts ∙ rw (lt-ltb k x.lo l, lt-leb x.hi k (omega (arith, w.order)), e) (first_none (find k rs))
+      go : Outside x.lo x.hi k → find_record k x.new ≡ none → find_record k (records_after x rs) ≡ find_record k rs
+      go (inl l) e = find_parts ∙ rw (lt-ltb k x.lo l, lt-leb x.hi k (omega (arith, w.order)), e) (first_none (find_record k rs))
       go (inr h) e = find_parts ∙ rw (le-ltb k x.lo (omega (arith, w.order)), le-leb x.hi k h, e)
 
 -- ── sorted records are determined by what is found among them
@@ -97,15 +97,15 @@ not_found : {A : Type 0} {r : Rec} {o : Option Rec} → o ≡ some r → o ≡ n
 not_found {A} {r} {o} e f = let y : ◌≡◌ {A = ℕ} 0 1 = cc in absurd (omega arith)
 
 -- the first key is the least that is found
-least : (r q : Rec) (qs : List Rec) (k : ℕ) (u : Owner) → sorted k u (q ∷ qs) ≡ true → find (key r) (q ∷ qs) ≡ some r → key q ≤ key r
+least : (r q : Rec) (qs : List Rec) (k : ℕ) (u : Owner) → sorted k u (q ∷ qs) ≡ true → find_record (key r) (q ∷ qs) ≡ some r → key q ≤ key r
 least r q qs k u e f =
     ⊎_elim
     (λ (z : key r < key q). not_found f (find_other (key r) q qs (λ i. omega arith) ∙ find_behind (key r) (key q + 1) (owner_after u q) qs (sorted_inv k u q qs e).rest (omega arith)))
     (λ (z : key q ≤ key r). z)
     (less_or (key r) (key q))
 
-same_records : (rs qs : List Rec) (k l : ℕ) (u v : Owner) → sorted k u rs ≡ true → sorted l v qs ≡ true → ((j : ℕ) → find j rs ≡ find j qs) → rs ≡ qs
-unfolding find
+same_records : (rs qs : List Rec) (k l : ℕ) (u v : Owner) → sorted k u rs ≡ true → sorted l v qs ≡ true → ((j : ℕ) → find_record j rs ≡ find_record j qs) → rs ≡ qs
+unfolding find_record
 same_records [] [] k l u v e g f = refl
 same_records [] (q ∷ qs) k l u v e g f = not_found (f (key q) ∙ find_here (key q) q qs refl) refl
 same_records (r ∷ rs) [] k l u v e g f = not_found (sym (f (key r)) ∙ find_here (key r) r rs refl) refl
@@ -119,7 +119,7 @@ same_records (r ∷ rs) (q ∷ qs) k l u v e g f =
     let h : r ≡ q = cc in
     ap₂ ◌∷◌ h (same_records rs qs (key r + 1) (key q + 1) _ _ w.rest x.rest (λ j. rest j (eqb (key r) j) refl i w.rest x.rest))
   where
-    rest : (j : ℕ) (t : Bool) → eqb (key r) j ≡ t → key r ≡ key q → sorted (key r + 1) (owner_after u r) rs ≡ true → sorted (key q + 1) (owner_after v q) qs ≡ true → find j rs ≡ find j qs
+    rest : (j : ℕ) (t : Bool) → eqb (key r) j ≡ t → key r ≡ key q → sorted (key r + 1) (owner_after u r) rs ≡ true → sorted (key q + 1) (owner_after v q) qs ≡ true → find_record j rs ≡ find_record j qs
     rest j true p i a b = let z = eqb-true (key r) j p in find_behind j (key r + 1) _ rs a (omega arith) ∙ sym (find_behind j (key q + 1) _ qs b (omega arith))
     rest j false p i a b = let o = eqb-false (key r) j p in sym (find_other j r rs o) ∙ f j ∙ find_other j q qs (λ z. o (i ∙ z))
 
@@ -130,7 +130,7 @@ elsewhere {n} {m} {x} o w k l h =
     ⊎_elim (λ (z : n < m). inr (omega (arith, w.high))) (λ (z : m ≤ n). inl (omega (arith, o, w.low))) (less_or n m)
 
 -- so that the records of font m are found as before
-pub others_found : {n m : ℕ} {x : Change} → (n ≡ m → ⊥) → Inside n x → (rs : List Rec) (k : ℕ) → key_of m 0 ≤ k → k < key_of (m + 1) 0 → find k (records_after x rs) ≡ find k rs
+pub others_found : {n m : ℕ} {x : Change} → (n ≡ m → ⊥) → Inside n x → (rs : List Rec) (k : ℕ) → key_of m 0 ≤ k → k < key_of (m + 1) 0 → find_record k (records_after x rs) ≡ find_record k rs
 others_found o w rs k l h = find_old w rs k (elsewhere o w k l h)
 
 -- a key stands between the keys of a change, or outside of them
@@ -147,13 +147,13 @@ stands x k =
 
 module _ {n m : ℕ} {x y : Change} (o : n ≡ m → ⊥) (w : Inside n x) (v : Inside m y) (rs : List Rec) where
   -- what stands in a change is found in either order, and what stands in neither is found as before
-  found_first : (k : ℕ) → x.lo ≤ k → k < x.hi → find k (records_after y (records_after x rs)) ≡ find k (records_after x (records_after y rs))
+  found_first : (k : ℕ) → x.lo ≤ k → k < x.hi → find_record k (records_after y (records_after x rs)) ≡ find_record k (records_after x (records_after y rs))
   found_first k l h =
       find_old v (records_after x rs) k (elsewhere (λ e. o (sym e)) v k (omega (arith, w.low)) (omega (arith, w.high)))
       ∙ find_new w rs k l h ∙ sym (find_new w (records_after y rs) k l h)
 
 module _ {n m : ℕ} {x y : Change} (o : n ≡ m → ⊥) (w : Inside n x) (v : Inside m y) (rs : List Rec) where
-  found_either : (k : ℕ) → Stands x k → Stands y k → find k (records_after y (records_after x rs)) ≡ find k (records_after x (records_after y rs))
+  found_either : (k : ℕ) → Stands x k → Stands y k → find_record k (records_after y (records_after x rs)) ≡ find_record k (records_after x (records_after y rs))
   found_either k (within l h) b = found_first o w v rs k l h
   found_either k (outside a) (within l h) = sym (found_first (λ e. o (sym e)) v w rs k l h)
   found_either k (outside a) (outside b) =

@@ -17,8 +17,8 @@ use Rattle.blocks.proofs.KeptFirst.{first_begins}
 use Rattle.form.specs.Layout.{key_of, last_code, mark_record}
 use Rattle.form.specs.Num.{◌and◌}
 use Rattle.form.specs.Model.{Rec, font, character, number, place, key, Mark, shut, Store, tally_of, run, mark_bytes, encode, decode, total, is_unfinished, held_of, Valid}
-use Rattle.form.specs.Order.{find, character_at}
-use Rattle.form.specs.Records.{is_store, is_some}
+use Rattle.form.specs.Order.{find_record, character_at}
+use Rattle.form.specs.Records.{is_store, some_store}
 use Rattle.form.specs.Checks.{on_store, on_font, on_character}
 use Rattle.form.proofs.Codec.{mark_length, encode_parts, decode_encode}
 use Rattle.form.proofs.Lookup.{find_other}
@@ -64,7 +64,7 @@ stored : (s : List ℕ) (f : Store → After) → (on_store (refuse s) (decode s
 unfolding is_store on_store
 stored s f e = go (decode s) e
   where
-    go : (o : Option Store) → (on_store (refuse s) o f).answer ≡ 0 → is_some o ≡ true
+    go : (o : Option Store) → (on_store (refuse s) o f).answer ≡ 0 → some_store o ≡ true
     go none e = absurd (omega (arith, e))
     go (some st) e = refl
 
@@ -90,12 +90,12 @@ acts {n} s (by_character_removal c) e =
     (λ st q v l w z. record { store = st; is = q; change = _; does = cuts_character c l; left = refl; valid = w }) e
 
 -- ── it keeps to its font
-one_nowhere_else : (lo hi : ℕ) (r : Rec) → lo ≤ key r → key r < hi → (k : ℕ) → Outside lo hi k → find k (r ∷ []) ≡ none
-unfolding find
+one_nowhere_else : (lo hi : ℕ) (r : Rec) → lo ≤ key r → key r < hi → (k : ℕ) → Outside lo hi k → find_record k (r ∷ []) ≡ none
+unfolding find_record
 one_nowhere_else lo hi r l h k o = find_other k r [] (λ e. ⊎_elim (λ (z : k < lo). omega arith) (λ (z : hi ≤ k). omega arith) o)
 
 inside : {n : ℕ} {st : Store} {x : Call} {k : Change} → Does n st x k → Inside n k
-unfolding number place find
+unfolding number place find_record
 inside {n} (puts_font b) =
     record { low = omega arith; order = omega arith; high = omega arith; nowhere_else = one_nowhere_else (key_of n 0) (key_of (n + 1) 0) (font n (kept_header b)) (omega arith) (omega arith) }
 inside {n} (puts_character c b h d l y) =

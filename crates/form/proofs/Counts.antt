@@ -14,7 +14,7 @@ use borrow.Author.Tests.{eq-eqb, ne_eqb}
 use Rattle.form.specs.Layout.{key_of, font_record, character_record, mark_record}
 use Rattle.form.specs.Num.{◌and◌, low_first}
 use Rattle.form.specs.Model.{Rec, font, character, Owner, owner_after, no_owner, sorted, number, place, key, no_characters, one_more, tally_of, tally_in, same_tally, holds_tally, counted, size_of, total, Store, mark_bytes, font_head, tally_bytes, character_head, character_bytes, bytes_of, run, encode, decode}
-use Rattle.form.specs.Order.{below, from, find}
+use Rattle.form.specs.Order.{below, from, find_record}
 use Rattle.form.specs.Records.{records_at, CountsTrue}
 use Rattle.form.specs.Walk.{tallied}
 use Rattle.form.specs.declared.tally.Tally.{Tally}
@@ -133,7 +133,7 @@ counts_true s st e n h q =
     let rs = st.recs in
     let k = key_of n 0 in
     let d = decoded s st e in
-    let f : find k rs ≡ some (font n h) = rw d.1 at q in
+    let f : find_record k rs ≡ some (font n h) = rw d.1 at q in
     let p : rs ≡ below k rs ++ (font n h ∷ from (k + 1) rs) = split_at k 0 no_owner rs d.2 ∙ ap (λ (l : List Rec). below k rs ++ l) (found k 0 no_owner (font n h) rs d.2 f).rest in
     let c : counted (tally_of rs) (drop mark_record s) (below k rs ++ (font n h ∷ from (k + 1) rs)) ≡ true = ap (counted (tally_of rs) (drop mark_record s)) (sym p) ∙ d.3 in
     rw d.1 (ap tally_in (sym (drop-drop (total (below k rs)) mark_record s)) ∙ counted_at (tally_of rs) (below k rs) (from (k + 1) rs) n h (drop mark_record s) c)

@@ -31,7 +31,7 @@ pub is_store_lem : (s : List ℕ) → is_store s ≡ true → (st : Store) × (d
 unfolding is_store
 is_store_lem s e = go (decode s) refl e
   where
-    go : (o : Option Store) → decode s ≡ o → Rattle.form.specs.Records.is_some o ≡ true → (st : Store) × (decode s ≡ some st)
+    go : (o : Option Store) → decode s ≡ o → Rattle.form.specs.Records.some_store o ≡ true → (st : Store) × (decode s ≡ some st)
     go none q e' = let z : ◌≡◌ {A = ℕ} 0 1 = cc in absurd (omega arith)
     go (some st) q e' = (st, q)
 

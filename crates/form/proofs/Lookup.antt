@@ -11,23 +11,23 @@ use Rattle.blocks.specs.Header.{orientation}
 use Rattle.blocks.specs.Character.{is_kept_first}
 use Rattle.form.specs.Layout.{key_of, last_code}
 use Rattle.form.specs.Model.{Rec, font, character, Owner, owner_after, no_owner, allowed, sorted, number, place, key, size_of, total}
-use Rattle.form.specs.Order.{keep, below, from, find, after}
+use Rattle.form.specs.Order.{keep, below, from, find_record, after}
 use Rattle.form.proofs.RecordBytes.{allowed_char}
 use Rattle.form.proofs.Codec.{Sorted, sorted_inv}
 use Rattle.form.proofs.Order.{from_in, from_out, below_in, below_out, Side, before, behind, side, all_from, none_below, sorted_from, after_low}
 use Rattle.form.proofs.Totals.{total_at, total_append}
 
-pub find_here : (k : ℕ) (r : Rec) (rs : List Rec) → key r ≡ k → find k (r ∷ rs) ≡ some r
-unfolding find
+pub find_here : (k : ℕ) (r : Rec) (rs : List Rec) → key r ≡ k → find_record k (r ∷ rs) ≡ some r
+unfolding find_record
 find_here k r rs e = rw (eq-eqb (key r) k e)
 
-pub find_other : (k : ℕ) (r : Rec) (rs : List Rec) → (key r ≡ k → ⊥) → find k (r ∷ rs) ≡ find k rs
-unfolding find
+pub find_other : (k : ℕ) (r : Rec) (rs : List Rec) → (key r ≡ k → ⊥) → find_record k (r ∷ rs) ≡ find_record k rs
+unfolding find_record
 find_other k r rs e = rw (ne_eqb (key r) k e)
 
 -- none among records behind it
-pub find_behind : (k j : ℕ) (u : Owner) (rs : List Rec) → sorted j u rs ≡ true → k < j → find k rs ≡ none
-unfolding find
+pub find_behind : (k j : ℕ) (u : Owner) (rs : List Rec) → sorted j u rs ≡ true → k < j → find_record k rs ≡ none
+unfolding find_record
 find_behind k j u [] e l = refl
 find_behind k j u (r ∷ rs) e l =
     let w = sorted_inv j u r rs e in
@@ -52,8 +52,8 @@ pub data Start (k : ℕ) (rs : List Rec) : Option Rec → Type 0 where
   there : (r : Rec) → key r ≡ k → from k rs ≡ r ∷ from (k + 1) rs → below (k + 1) rs ≡ below k rs ++ (r ∷ []) → Start k rs (some r)
   absent : from k rs ≡ from (k + 1) rs → below k rs ≡ below (k + 1) rs → Start k rs none
 
-start_more : (k j : ℕ) (u : Owner) (r : Rec) (rs : List Rec) → Sorted j u r rs → At k r → Start k rs (find k rs) → Start k (r ∷ rs) (find k (r ∷ rs))
-start_more k j u r rs w (less l) ih = rw (find_other k r rs (λ e. omega arith)) (go (find k rs) ih)
+start_more : (k j : ℕ) (u : Owner) (r : Rec) (rs : List Rec) → Sorted j u r rs → At k r → Start k rs (find_record k rs) → Start k (r ∷ rs) (find_record k (r ∷ rs))
+start_more k j u r rs w (less l) ih = rw (find_other k r rs (λ e. omega arith)) (go (find_record k rs) ih)
   where
     go : (o : Option Rec) → Start k rs o → Start k (r ∷ rs) o
     go o (there x q e b) =
@@ -74,8 +74,8 @@ start_more k j u r rs w (more l) ih =
     rw (find_other k r rs (λ e. omega arith), find_behind k (key r + 1) (owner_after u r) rs w.rest (omega arith))
     (absent (rw (from_in k r rs (omega arith), from_in (k + 1) r rs (omega arith), a, b)) (rw (below_out k r rs (omega arith), below_out (k + 1) r rs (omega arith), c, d)))
 
-pub starts : (k j : ℕ) (u : Owner) (rs : List Rec) → sorted j u rs ≡ true → Start k rs (find k rs)
-unfolding find keep
+pub starts : (k j : ℕ) (u : Owner) (rs : List Rec) → sorted j u rs ≡ true → Start k rs (find_record k rs)
+unfolding find_record keep
 starts k j u [] e = absent refl refl
 starts k j u (r ∷ rs) e = let w = sorted_inv j u r rs e in start_more k j u r rs w (at k r) (starts k (key r + 1) (owner_after u r) rs w.rest)
 
@@ -87,9 +87,9 @@ pub record Found (k : ℕ) (u : Owner) (r : Rec) (rs : List Rec) : Type 0 where
   pub ok : allowed (after u (below k rs)) r ≡ true
   pub size : total (below (k + 1) rs) ≡ total (below k rs) + size_of r
 
-pub found : (k j : ℕ) (u : Owner) (r : Rec) (rs : List Rec) → sorted j u rs ≡ true → find k rs ≡ some r → Found k u r rs
+pub found : (k j : ℕ) (u : Owner) (r : Rec) (rs : List Rec) → sorted j u rs ≡ true → find_record k rs ≡ some r → Found k u r rs
 unfolding total
-found k j u r rs e q = go (find k rs) (starts k j u rs e) q
+found k j u r rs e q = go (find_record k rs) (starts k j u rs e) q
   where
     go : (o : Option Rec) → Start k rs o → o ≡ some r → Found k u r rs
     go o (there x p f b) q =
@@ -99,8 +99,8 @@ found k j u r rs e q = go (find k rs) (starts k j u rs e) q
         (record { is = p; rest = f; front = b; ok = (sorted_inv k (after u (below k rs)) x (from (k + 1) rs) s).ok; size = ap total b ∙ total_append (below k rs) (x ∷ []) ∙ omega arith })
     go o (absent f b) q = let z : ◌≡◌ {A = ℕ} 0 1 = cc in absurd (omega arith)
 
-pub missing : (k j : ℕ) (u : Owner) (rs : List Rec) → sorted j u rs ≡ true → find k rs ≡ none → (from k rs ≡ from (k + 1) rs) × (below k rs ≡ below (k + 1) rs)
-missing k j u rs e q = go (find k rs) (starts k j u rs e) q
+pub missing : (k j : ℕ) (u : Owner) (rs : List Rec) → sorted j u rs ≡ true → find_record k rs ≡ none → (from k rs ≡ from (k + 1) rs) × (below k rs ≡ below (k + 1) rs)
+missing k j u rs e q = go (find_record k rs) (starts k j u rs e) q
   where
     go : (o : Option Rec) → Start k rs o → o ≡ none → (from k rs ≡ from (k + 1) rs) × (below k rs ≡ below (k + 1) rs)
     go o (there x p f b) q = let z : ◌≡◌ {A = ℕ} 0 1 = cc in absurd (omega arith)
@@ -169,7 +169,7 @@ after_chars n h k u (r ∷ rs) e a b =
     go w (behind l z x) ih = rw (below_out h r rs l, z)
 
 -- the font that a place among a font's characters stands under
-pub after_font : (n p : ℕ) (h : List ℕ) (rs : List Rec) → sorted 0 no_owner rs ≡ true → find (key_of n 0) rs ≡ some (font n h) → 1 ≤ p → p ≤ 257
+pub after_font : (n p : ℕ) (h : List ℕ) (rs : List Rec) → sorted 0 no_owner rs ≡ true → find_record (key_of n 0) rs ≡ some (font n h) → 1 ≤ p → p ≤ 257
     → after no_owner (below (key_of n p) rs) ≡ owner_after no_owner (font n h)
 unfolding after owner_after
 after_font n p h rs e q a b =
@@ -182,7 +182,7 @@ after_font n p h rs e q a b =
     ∙ after_chars n (key_of n p) (lo + 1) (after no_owner (below (lo + 1) rs)) (from (lo + 1) rs) s (omega arith) (omega arith) ∙ c
 
 -- the descriptor of a character that is there is a kept one of its font's orientation
-pub kept_under : (n c : ℕ) (g h d : List ℕ) (rs : List Rec) → sorted 0 no_owner rs ≡ true → c ≤ last_code → find (key_of n 0) rs ≡ some (font n g) → find (key_of n (c + 1)) rs ≡ some (character n c h d)
+pub kept_under : (n c : ℕ) (g h d : List ℕ) (rs : List Rec) → sorted 0 no_owner rs ≡ true → c ≤ last_code → find_record (key_of n 0) rs ≡ some (font n g) → find_record (key_of n (c + 1)) rs ≡ some (character n c h d)
     → is_kept_first h (orientation g) ≡ true
 unfolding owner_after
 kept_under n c g h d rs e l p q =
@@ -213,7 +213,7 @@ not_there n h bs rs e a b =
     let s : sorted (key_of n 0 + 1) (after no_owner (below (key_of n 0 + 1) rs)) (font n h ∷ bs) ≡ true = rw (sym a ∙ b) at (sorted_from (key_of n 0 + 1) 0 no_owner rs e) in
     omega (arith, (sorted_inv (key_of n 0 + 1) (after no_owner (below (key_of n 0 + 1) rs)) (font n h) bs s).least)
 
-pub gap : (n : ℕ) (rs : List Rec) → sorted 0 no_owner rs ≡ true → find (key_of n 0) rs ≡ none → (from (key_of n 0) rs ≡ from (key_of (n + 1) 0) rs) × (total (below (key_of n 0) rs) ≡ total (below (key_of (n + 1) 0) rs))
+pub gap : (n : ℕ) (rs : List Rec) → sorted 0 no_owner rs ≡ true → find_record (key_of n 0) rs ≡ none → (from (key_of n 0) rs ≡ from (key_of (n + 1) 0) rs) × (total (below (key_of n 0) rs) ≡ total (below (key_of (n + 1) 0) rs))
 gap n rs e q =
     let lo = key_of n 0 in
     let hi = key_of (n + 1) 0 in

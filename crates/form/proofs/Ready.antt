@@ -12,7 +12,7 @@ use borrow.Author.Tests.{ltb-true, ltb-false}
 use Rattle.form.specs.Layout.{key_of, mark_record}
 use Rattle.form.specs.Num.{Bytes}
 use Rattle.form.specs.Model.{Rec, font, Store, no_owner, sorted, tally_of, bytes_of, run, mark_bytes, encode, decode, total, Valid}
-use Rattle.form.specs.Order.{below, from, find}
+use Rattle.form.specs.Order.{below, from, find_record}
 use Rattle.form.specs.Walk.{places_of, inspected, Stands}
 use Rattle.form.specs.declared.walk.Places.{Places}
 use Rattle.form.specs.declared.walk.Lookup.TheVariants.{At, Missing}
@@ -108,42 +108,42 @@ looked_not a b w e = go (ltb a b) refl e
     go false q e' = ltb-false a b q
 
 -- a font stands where its span is not empty
-pub font_there : (n : ℕ) (rs : List Rec) → sorted 0 no_owner rs ≡ true → total (below (key_of n 0) rs) < total (below (key_of (n + 1) 0) rs) → (h : List ℕ) × (find (key_of n 0) rs ≡ some (font n h))
-font_there n rs o l = go (find (key_of n 0) rs) refl
+pub font_there : (n : ℕ) (rs : List Rec) → sorted 0 no_owner rs ≡ true → total (below (key_of n 0) rs) < total (below (key_of (n + 1) 0) rs) → (h : List ℕ) × (find_record (key_of n 0) rs ≡ some (font n h))
+font_there n rs o l = go (find_record (key_of n 0) rs) refl
   where
-    go : (x : Option Rec) → find (key_of n 0) rs ≡ x → (h : List ℕ) × (find (key_of n 0) rs ≡ some (font n h))
+    go : (x : Option Rec) → find_record (key_of n 0) rs ≡ x → (h : List ℕ) × (find_record (key_of n 0) rs ≡ some (font n h))
     go none q = absurd (omega (arith, (gap n rs o q).1))
     go (some r) q =
         let f = found (key_of n 0) 0 no_owner r rs o q in
         let w = font_at_lem n _ r f.ok f.is in
         (w.0, q ∙ ap some w.1)
 
-pub font_missing : (n : ℕ) (rs : List Rec) → sorted 0 no_owner rs ≡ true → total (below (key_of (n + 1) 0) rs) ≤ total (below (key_of n 0) rs) → find (key_of n 0) rs ≡ none
-font_missing n rs o l = go (find (key_of n 0) rs) refl
+pub font_missing : (n : ℕ) (rs : List Rec) → sorted 0 no_owner rs ≡ true → total (below (key_of (n + 1) 0) rs) ≤ total (below (key_of n 0) rs) → find_record (key_of n 0) rs ≡ none
+font_missing n rs o l = go (find_record (key_of n 0) rs) refl
   where
-    go : (x : Option Rec) → find (key_of n 0) rs ≡ x → find (key_of n 0) rs ≡ none
+    go : (x : Option Rec) → find_record (key_of n 0) rs ≡ x → find_record (key_of n 0) rs ≡ none
     go none q = q
     go (some r) q =
         let f = found (key_of n 0) 0 no_owner r rs o q in
         absurd (omega (arith, f.size, size_pos r, below_mono (key_of n 0 + 1) (key_of (n + 1) 0) 0 no_owner rs o (omega arith)))
 
 -- a record stands where its own span is not empty
-pub record_there : (k : ℕ) (rs : List Rec) → sorted 0 no_owner rs ≡ true → total (below k rs) < total (below (k + 1) rs) → (r : Rec) × (find k rs ≡ some r)
-record_there k rs o l = go (find k rs) refl
+pub record_there : (k : ℕ) (rs : List Rec) → sorted 0 no_owner rs ≡ true → total (below k rs) < total (below (k + 1) rs) → (r : Rec) × (find_record k rs ≡ some r)
+record_there k rs o l = go (find_record k rs) refl
   where
-    go : (x : Option Rec) → find k rs ≡ x → (r : Rec) × (find k rs ≡ some r)
+    go : (x : Option Rec) → find_record k rs ≡ x → (r : Rec) × (find_record k rs ≡ some r)
     go none q = absurd (omega (arith, ap total (missing k 0 no_owner rs o q).1))
     go (some r) q = (r, q)
 
-pub record_missing : (k : ℕ) (rs : List Rec) → sorted 0 no_owner rs ≡ true → total (below (k + 1) rs) ≤ total (below k rs) → find k rs ≡ none
-record_missing k rs o l = go (find k rs) refl
+pub record_missing : (k : ℕ) (rs : List Rec) → sorted 0 no_owner rs ≡ true → total (below (k + 1) rs) ≤ total (below k rs) → find_record k rs ≡ none
+record_missing k rs o l = go (find_record k rs) refl
   where
-    go : (x : Option Rec) → find k rs ≡ x → find k rs ≡ none
+    go : (x : Option Rec) → find_record k rs ≡ x → find_record k rs ≡ none
     go none q = q
     go (some r) q = let f = found k 0 no_owner r rs o q in absurd (omega (arith, f.size, size_pos r))
 
 -- the bytes from a key's place on start with the record that has the key
-pub record_bytes : (k : ℕ) (r : Rec) (st : Store) → Valid st → find k st.recs ≡ some r → (t : List ℕ) × (drop (mark_record + total (below k st.recs)) (encode st) ≡ bytes_of (tally_of st.recs) r ++ t)
+pub record_bytes : (k : ℕ) (r : Rec) (st : Store) → Valid st → find_record k st.recs ≡ some r → (t : List ℕ) × (drop (mark_record + total (below k st.recs)) (encode st) ≡ bytes_of (tally_of st.recs) r ++ t)
 unfolding run
 record_bytes k r st v q =
     let rs = st.recs in

@@ -11,7 +11,7 @@ use Rattle.pictures.proofs.Tests.{both}
 use Rattle.form.specs.Layout.{key_of, last_code, last_font}
 use Rattle.form.specs.Num.{Bytes}
 use Rattle.form.specs.Model.{Rec, font, character, Store, no_owner, decode}
-use Rattle.form.specs.Order.{find}
+use Rattle.form.specs.Order.{find_record}
 use Rattle.form.specs.Checks.{on_store, checked, finding, numbered, on_font, on_character}
 use Rattle.form.specs.Walk.{places_of, inspected, sought_font, sought_character}
 use Rattle.form.specs.declared.walk.Places.{Places}
@@ -80,14 +80,14 @@ font_refused refuse n k s f e = go (decode s) e
     seek st none e' = let i : 6 ≡ k = cc in ap refuse i
     seek st (some r) e' = let z : ◌≡◌ {A = ℕ} 0 1 = cc in absurd (omega arith)
 
-    range : (st : Store) (b : Bool) → checked Refused b 2 (finding Refused (find (key_of n 0) st.recs) 6 (λ r. Here (places_of n 0 st.recs))) ≡ Refused k
-        → checked refuse b 2 (finding refuse (find (key_of n 0) st.recs) 6 (f st)) ≡ refuse k
-    range st true e' = seek st (find (key_of n 0) st.recs) e'
+    range : (st : Store) (b : Bool) → checked Refused b 2 (finding Refused (find_record (key_of n 0) st.recs) 6 (λ r. Here (places_of n 0 st.recs))) ≡ Refused k
+        → checked refuse b 2 (finding refuse (find_record (key_of n 0) st.recs) 6 (f st)) ≡ refuse k
+    range st true e' = seek st (find_record (key_of n 0) st.recs) e'
     range st false e' = let i : 2 ≡ k = cc in ap refuse i
 
     go : (o : Option Store)
-        → on_store Refused o (λ st. checked Refused (leb n last_font) 2 (finding Refused (find (key_of n 0) st.recs) 6 (λ r. Here (places_of n 0 st.recs)))) ≡ Refused k
-        → on_store refuse o (λ st. checked refuse (leb n last_font) 2 (finding refuse (find (key_of n 0) st.recs) 6 (f st))) ≡ refuse k
+        → on_store Refused o (λ st. checked Refused (leb n last_font) 2 (finding Refused (find_record (key_of n 0) st.recs) 6 (λ r. Here (places_of n 0 st.recs)))) ≡ Refused k
+        → on_store refuse o (λ st. checked refuse (leb n last_font) 2 (finding refuse (find_record (key_of n 0) st.recs) 6 (f st))) ≡ refuse k
     go none e' = let i : 1 ≡ k = cc in ap refuse i
     go (some st) e' = range st (leb n last_font) e'
 
@@ -96,10 +96,10 @@ pub record KeptFont (n p : ℕ) (s : List ℕ) (w : Places) : Type 0 where
   pub ready : Ready n p s w
   pub low : n ≤ last_font
   pub header : List ℕ
-  pub there : find (key_of n 0) ready.store.recs ≡ some (font n header)
+  pub there : find_record (key_of n 0) ready.store.recs ≡ some (font n header)
 
 module _ (n : ℕ) (s : List ℕ) (w : Places) where
-  font_of_lem : (r : Ready n 0 s w) → n ≤ last_font → (q : Rec) → find (key_of n 0) r.store.recs ≡ some q → KeptFont n 0 s w
+  font_of_lem : (r : Ready n 0 s w) → n ≤ last_font → (q : Rec) → find_record (key_of n 0) r.store.recs ≡ some q → KeptFont n 0 s w
   font_of_lem r l q e =
       let f = found (key_of n 0) 0 no_owner q r.store.recs r.valid.order e in
       let x = font_at_lem n _ q f.ok f.is in
@@ -109,7 +109,7 @@ module _ (n : ℕ) (s : List ℕ) (w : Places) where
   unfolding sought_font on_font on_store finding
   font_sought B e = go (decode s) refl e
     where
-      seek : (st : Store) → decode s ≡ some st → n ≤ last_font → (o : Option Rec) → find (key_of n 0) st.recs ≡ o → finding Refused o 6 (λ r. Here (places_of n 0 st.recs)) ≡ Here w → KeptFont n 0 s w
+      seek : (st : Store) → decode s ≡ some st → n ≤ last_font → (o : Option Rec) → find_record (key_of n 0) st.recs ≡ o → finding Refused o 6 (λ r. Here (places_of n 0 st.recs)) ≡ Here w → KeptFont n 0 s w
       seek st d l none q e' = let z : ◌≡◌ {A = ℕ} 0 1 = cc in absurd (omega arith)
       seek st d l (some x) q e' =
           let w' : places_of n 0 st.recs ≡ w = cc in
@@ -117,11 +117,11 @@ module _ (n : ℕ) (s : List ℕ) (w : Places) where
           let i : st ≡ r.store = same_store s d r.is in
           font_of_lem r l x (rw i at q)
 
-      range : (st : Store) → decode s ≡ some st → (b : Bool) → leb n last_font ≡ b → checked Refused b 2 (finding Refused (find (key_of n 0) st.recs) 6 (λ r. Here (places_of n 0 st.recs))) ≡ Here w → KeptFont n 0 s w
-      range st d true q e' = seek st d (leb-true _ _ q) (find (key_of n 0) st.recs) refl e'
+      range : (st : Store) → decode s ≡ some st → (b : Bool) → leb n last_font ≡ b → checked Refused b 2 (finding Refused (find_record (key_of n 0) st.recs) 6 (λ r. Here (places_of n 0 st.recs))) ≡ Here w → KeptFont n 0 s w
+      range st d true q e' = seek st d (leb-true _ _ q) (find_record (key_of n 0) st.recs) refl e'
       range st d false q e' = let z : ◌≡◌ {A = ℕ} 0 1 = cc in absurd (omega arith)
 
-      go : (o : Option Store) → decode s ≡ o → on_store Refused o (λ st. checked Refused (leb n last_font) 2 (finding Refused (find (key_of n 0) st.recs) 6 (λ r. Here (places_of n 0 st.recs)))) ≡ Here w → KeptFont n 0 s w
+      go : (o : Option Store) → decode s ≡ o → on_store Refused o (λ st. checked Refused (leb n last_font) 2 (finding Refused (find_record (key_of n 0) st.recs) 6 (λ r. Here (places_of n 0 st.recs)))) ≡ Here w → KeptFont n 0 s w
       go none d e' = let z : ◌≡◌ {A = ℕ} 0 1 = cc in absurd (omega arith)
       go (some st) d e' = range st d (leb n last_font) refl e'
 
@@ -138,20 +138,20 @@ char_refused refuse n c k s f e = go (decode s) e
     one st none e' = let i : 7 ≡ k = cc in ap refuse i
     one st (some r) e' = let z : ◌≡◌ {A = ℕ} 0 1 = cc in absurd (omega arith)
 
-    seek : (st : Store) (o : Option Rec) → finding Refused o 6 (λ r. finding Refused (find (key_of n (c + 1)) st.recs) 7 (λ q. Here (places_of n (c + 1) st.recs))) ≡ Refused k
-        → finding refuse o 6 (λ r. finding refuse (find (key_of n (c + 1)) st.recs) 7 (f st)) ≡ refuse k
+    seek : (st : Store) (o : Option Rec) → finding Refused o 6 (λ r. finding Refused (find_record (key_of n (c + 1)) st.recs) 7 (λ q. Here (places_of n (c + 1) st.recs))) ≡ Refused k
+        → finding refuse o 6 (λ r. finding refuse (find_record (key_of n (c + 1)) st.recs) 7 (f st)) ≡ refuse k
     seek st none e' = let i : 6 ≡ k = cc in ap refuse i
-    seek st (some r) e' = one st (find (key_of n (c + 1)) st.recs) e'
+    seek st (some r) e' = one st (find_record (key_of n (c + 1)) st.recs) e'
 
     range : (st : Store) (b : Bool)
-        → checked Refused b 2 (finding Refused (find (key_of n 0) st.recs) 6 (λ r. finding Refused (find (key_of n (c + 1)) st.recs) 7 (λ q. Here (places_of n (c + 1) st.recs)))) ≡ Refused k
-        → checked refuse b 2 (finding refuse (find (key_of n 0) st.recs) 6 (λ r. finding refuse (find (key_of n (c + 1)) st.recs) 7 (f st))) ≡ refuse k
-    range st true e' = seek st (find (key_of n 0) st.recs) e'
+        → checked Refused b 2 (finding Refused (find_record (key_of n 0) st.recs) 6 (λ r. finding Refused (find_record (key_of n (c + 1)) st.recs) 7 (λ q. Here (places_of n (c + 1) st.recs)))) ≡ Refused k
+        → checked refuse b 2 (finding refuse (find_record (key_of n 0) st.recs) 6 (λ r. finding refuse (find_record (key_of n (c + 1)) st.recs) 7 (f st))) ≡ refuse k
+    range st true e' = seek st (find_record (key_of n 0) st.recs) e'
     range st false e' = let i : 2 ≡ k = cc in ap refuse i
 
     go : (o : Option Store)
-        → on_store Refused o (λ st. checked Refused (numbered n c) 2 (finding Refused (find (key_of n 0) st.recs) 6 (λ r. finding Refused (find (key_of n (c + 1)) st.recs) 7 (λ q. Here (places_of n (c + 1) st.recs))))) ≡ Refused k
-        → on_store refuse o (λ st. checked refuse (numbered n c) 2 (finding refuse (find (key_of n 0) st.recs) 6 (λ r. finding refuse (find (key_of n (c + 1)) st.recs) 7 (f st)))) ≡ refuse k
+        → on_store Refused o (λ st. checked Refused (numbered n c) 2 (finding Refused (find_record (key_of n 0) st.recs) 6 (λ r. finding Refused (find_record (key_of n (c + 1)) st.recs) 7 (λ q. Here (places_of n (c + 1) st.recs))))) ≡ Refused k
+        → on_store refuse o (λ st. checked refuse (numbered n c) 2 (finding refuse (find_record (key_of n 0) st.recs) 6 (λ r. finding refuse (find_record (key_of n (c + 1)) st.recs) 7 (f st)))) ≡ refuse k
     go none e' = let i : 1 ≡ k = cc in ap refuse i
     go (some st) e' = range st (numbered n c) e'
 
@@ -161,13 +161,13 @@ pub record KeptChar (n c : ℕ) (s : List ℕ) (w : Places) : Type 0 where
   pub low : n ≤ last_font
   pub code : c ≤ last_code
   pub header : List ℕ
-  pub font_there : find (key_of n 0) ready.store.recs ≡ some (font n header)
+  pub font_there : find_record (key_of n 0) ready.store.recs ≡ some (font n header)
   pub kept : List ℕ
   pub bytes : List ℕ
-  pub there : find (key_of n (c + 1)) ready.store.recs ≡ some (character n c kept bytes)
+  pub there : find_record (key_of n (c + 1)) ready.store.recs ≡ some (character n c kept bytes)
 
 module _ (n c : ℕ) (s : List ℕ) (w : Places) where
-  char_of : (r : Ready n (c + 1) s w) → n ≤ last_font → c ≤ last_code → (p q : Rec) → find (key_of n 0) r.store.recs ≡ some p → find (key_of n (c + 1)) r.store.recs ≡ some q → KeptChar n c s w
+  char_of : (r : Ready n (c + 1) s w) → n ≤ last_font → c ≤ last_code → (p q : Rec) → find_record (key_of n 0) r.store.recs ≡ some p → find_record (key_of n (c + 1)) r.store.recs ≡ some q → KeptChar n c s w
   char_of r l m p q d e =
       let g = found (key_of n 0) 0 no_owner p r.store.recs r.valid.order d in
       let y = font_at_lem n _ p g.ok g.is in
@@ -179,7 +179,7 @@ module _ (n c : ℕ) (s : List ℕ) (w : Places) where
   unfolding sought_character on_character on_store finding
   char_sought B e = go (decode s) refl e
     where
-      one : (st : Store) → decode s ≡ some st → (leb n last_font ≡ true) × (leb c last_code ≡ true) → (p : Rec) → find (key_of n 0) st.recs ≡ some p → (o : Option Rec) → find (key_of n (c + 1)) st.recs ≡ o
+      one : (st : Store) → decode s ≡ some st → (leb n last_font ≡ true) × (leb c last_code ≡ true) → (p : Rec) → find_record (key_of n 0) st.recs ≡ some p → (o : Option Rec) → find_record (key_of n (c + 1)) st.recs ≡ o
           → finding Refused o 7 (λ r. Here (places_of n (c + 1) st.recs)) ≡ Here w → KeptChar n c s w
       one st d l p a none q e' = let z : ◌≡◌ {A = ℕ} 0 1 = cc in absurd (omega arith)
       one st d l p a (some x) q e' =
@@ -188,18 +188,18 @@ module _ (n c : ℕ) (s : List ℕ) (w : Places) where
           let i : st ≡ r.store = same_store s d r.is in
           char_of r (leb-true _ _ l.0) (leb-true _ _ l.1) p x (rw i at a) (rw i at q)
 
-      seek : (st : Store) → decode s ≡ some st → (leb n last_font ≡ true) × (leb c last_code ≡ true) → (o : Option Rec) → find (key_of n 0) st.recs ≡ o
-          → finding Refused o 6 (λ r. finding Refused (find (key_of n (c + 1)) st.recs) 7 (λ q. Here (places_of n (c + 1) st.recs))) ≡ Here w → KeptChar n c s w
+      seek : (st : Store) → decode s ≡ some st → (leb n last_font ≡ true) × (leb c last_code ≡ true) → (o : Option Rec) → find_record (key_of n 0) st.recs ≡ o
+          → finding Refused o 6 (λ r. finding Refused (find_record (key_of n (c + 1)) st.recs) 7 (λ q. Here (places_of n (c + 1) st.recs))) ≡ Here w → KeptChar n c s w
       seek st d l none q e' = let z : ◌≡◌ {A = ℕ} 0 1 = cc in absurd (omega arith)
-      seek st d l (some x) q e' = one st d l x q (find (key_of n (c + 1)) st.recs) refl e'
+      seek st d l (some x) q e' = one st d l x q (find_record (key_of n (c + 1)) st.recs) refl e'
 
       range : (st : Store) → decode s ≡ some st → (b : Bool) → numbered n c ≡ b
-          → checked Refused b 2 (finding Refused (find (key_of n 0) st.recs) 6 (λ r. finding Refused (find (key_of n (c + 1)) st.recs) 7 (λ q. Here (places_of n (c + 1) st.recs)))) ≡ Here w → KeptChar n c s w
-      range st d true q e' = seek st d (both (leb n last_font) (leb c last_code) q) (find (key_of n 0) st.recs) refl e'
+          → checked Refused b 2 (finding Refused (find_record (key_of n 0) st.recs) 6 (λ r. finding Refused (find_record (key_of n (c + 1)) st.recs) 7 (λ q. Here (places_of n (c + 1) st.recs)))) ≡ Here w → KeptChar n c s w
+      range st d true q e' = seek st d (both (leb n last_font) (leb c last_code) q) (find_record (key_of n 0) st.recs) refl e'
       range st d false q e' = let z : ◌≡◌ {A = ℕ} 0 1 = cc in absurd (omega arith)
 
       go : (o : Option Store) → decode s ≡ o
-          → on_store Refused o (λ st. checked Refused (numbered n c) 2 (finding Refused (find (key_of n 0) st.recs) 6 (λ r. finding Refused (find (key_of n (c + 1)) st.recs) 7 (λ q. Here (places_of n (c + 1) st.recs))))) ≡ Here w → KeptChar n c s w
+          → on_store Refused o (λ st. checked Refused (numbered n c) 2 (finding Refused (find_record (key_of n 0) st.recs) 6 (λ r. finding Refused (find_record (key_of n (c + 1)) st.recs) 7 (λ q. Here (places_of n (c + 1) st.recs))))) ≡ Here w → KeptChar n c s w
       go none d e' = let z : ◌≡◌ {A = ℕ} 0 1 = cc in absurd (omega arith)
       go (some st) d e' = range st d (numbered n c) refl e'
 

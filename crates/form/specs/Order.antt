@@ -26,13 +26,13 @@ after u [] = u
 after u (r ∷ rs) = after (owner_after u r) rs
 
 -- the record with a key, if there is one
-unfoldable pub find : ℕ → List Rec → Option Rec
-find k [] = none
-find k (r ∷ rs) = cond (eqb (key r) k) (some r) (find k rs)
+unfoldable pub find_record : ℕ → List Rec → Option Rec
+find_record k [] = none
+find_record k (r ∷ rs) = cond (eqb (key r) k) (some r) (find_record k rs)
 
 -- the font of a number, and its character of a code, if they are there
 abbrev pub font_at : ℕ → List Rec → Option Rec
-font_at n rs = find (key_of n 0) rs
+font_at n rs = find_record (key_of n 0) rs
 
 abbrev pub character_at : ℕ → ℕ → List Rec → Option Rec
-character_at n c rs = find (key_of n (c + 1)) rs
+character_at n c rs = find_record (key_of n (c + 1)) rs

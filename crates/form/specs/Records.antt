@@ -14,13 +14,13 @@ use Rattle.form.specs.declared.records.Begin.TheVariants.{At, NotStore}
 use Rattle.form.specs.declared.records.Met.{Met}
 use Rattle.form.specs.declared.records.Met.TheVariants.{Font, Character, End}
 
-abbrev pub is_some : Option Store → Bool
-is_some none = false
-is_some (some st) = true
+abbrev pub some_store : Option Store → Bool
+some_store none = false
+some_store (some st) = true
 
 -- the buffer is a store
 unfoldable pub is_store : List ℕ → Bool
-is_store s = is_some (decode s)
+is_store s = some_store (decode s)
 
 abbrev pub records_by : Option Store → List Rec
 records_by none = []

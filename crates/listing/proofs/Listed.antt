@@ -12,7 +12,7 @@ use Rattle.form.specs.Layout.{font_record}
 use Rattle.form.specs.Model.{Rec, Store, font, character, split, size_of, total, decode}
 use Rattle.store.specs.Answer.{told_of}
 use Rattle.store.specs.Calls.{telling_font}
-use Rattle.form.specs.Records.{is_store, is_some, records_in, records_at, records_by, RecordPlace, Begun}
+use Rattle.form.specs.Records.{is_store, some_store, records_in, records_at, records_by, RecordPlace, Begun}
 use Rattle.form.specs.Fonts.{fonts_in, fonts_at, fonts_of, Onward}
 use Rattle.store.specs.declared.telling.Told.{Told}
 use Rattle.form.specs.declared.records.Begin.{Begin}
@@ -132,7 +132,7 @@ pub no_lines : (s : List ℕ) → is_store s ≡ false → lines s (fonts_of s) 
 unfolding lines is_store fonts_of records_in fonts_in
 no_lines s e = go (decode s) e
   where
-    go : (o : Option Store) → is_some o ≡ false → lines s (fonts_in (records_by o)) ≡ []
+    go : (o : Option Store) → some_store o ≡ false → lines s (fonts_in (records_by o)) ≡ []
     go none e = refl
     go (some st) e = let z : ◌≡◌ {A = ℕ} 0 1 = cc in absurd (omega arith)
 

@@ -7,7 +7,7 @@ use borrow.Author.Tests.{le-leb, lt-leb, eq-eqb, ne_eqb}
 use lib.ListN.{length, replicate}
 use Rattle.store.specs.Calls.{making_fresh}
 use Rattle.form.specs.Fonts.{fonts_of}
-use Rattle.stream.specs.Digits.{decimal}
+use Rattle.stream.specs.Digits.{decimal_of}
 use Rattle.change.specs.Put.{with_bytes}
 use Rattle.stream.specs.Reading.{reading}
 use Rattle.stream.specs.declared.reading.StreamRead.{StreamRead}
@@ -24,7 +24,7 @@ abbrev pub Puts : List ℕ → ℕ → List ℕ → ℕ → List ℕ → Type 0
 Puts s at b end out = (end ≡ at + length b) × (out ≡ with_bytes s at b)
 
 pub wrote_counts : (s o₁ o₂ o₃ o₄ : List ℕ) (at e₁ e₂ e₃ e₄ done refused : ℕ) → at + 54 ≤ length s → Puts s at done_word e₁ o₁
-    → Wrote o₁ e₁ (column done 32) e₂ o₂ → e₂ ≤ e₁ + 21 → refused < tens 19 * 10 → Puts o₂ e₂ refused_word e₃ o₃ → Puts o₃ e₃ (decimal refused) e₄ o₄
+    → Wrote o₁ e₁ (column done 32) e₂ o₂ → e₂ ≤ e₁ + 21 → refused < tens 19 * 10 → Puts o₂ e₂ refused_word e₃ o₃ → Puts o₃ e₃ (decimal_of refused) e₄ o₄
     → Wrote s at (counts done refused) e₄ o₄
 unfolding counts
 wrote_counts s o₁ o₂ o₃ o₄ at e₁ e₂ e₃ e₄ done refused h p w b f q r =
@@ -33,7 +33,7 @@ wrote_counts s o₁ o₂ o₃ o₄ at e₁ e₂ e₃ e₄ done refused h p w b f
     let l₂ = wrote_length o₁ (column done 32) o₂ e₁ e₂ w in
     let w₃ = wrote_put o₂ refused_word o₃ e₂ e₃ (omega (arith, p.0)) q.0 q.1 in
     let l₃ = wrote_length o₂ refused_word o₃ e₂ e₃ w₃ in
-    let w₄ = wrote_put o₃ (decimal refused) o₄ e₃ e₄ (omega (arith, p.0, q.0, decimal_short 19 refused f)) r.0 r.1 in
+    let w₄ = wrote_put o₃ (decimal_of refused) o₄ e₃ e₄ (omega (arith, p.0, q.0, decimal_short 19 refused f)) r.0 r.1 in
     wrote_then _ _ _ _ _ _ _ _ w₁ (wrote_then _ _ _ _ _ _ _ _ w (wrote_then _ _ _ _ _ _ _ _ w₃ w₄))
 
 pub wrote_place : (s o₁ o₂ : List ℕ) (at e₁ e₂ p : ℕ) → at + 30 ≤ length s → Puts s at stopped_word e₁ o₁ → Wrote o₁ e₁ (column p 10) e₂ o₂

@@ -1,6 +1,6 @@
 -- Document 01, "The stream", the listing program: the last line. "After 13 the last line ends ` stopped P`, P the place."
 use Rattle.std.specs.Prelude.{ℕ, List, [], ◌∷◌, ◌++◌, cond, eqb}
-use Rattle.stream.specs.Digits.{decimal}
+use Rattle.stream.specs.Digits.{decimal_of}
 use Rattle.stream.specs.declared.reading.StreamRead.{StreamRead}
 use Rattle.text.specs.Column.{space, newline, column}
 
@@ -17,7 +17,7 @@ abbrev pub stopped_word : List ℕ
 stopped_word = 32 ∷ 115 ∷ 116 ∷ 111 ∷ 112 ∷ 112 ∷ 101 ∷ 100 ∷ 32 ∷ []
 
 unfoldable pub counts : ℕ → ℕ → List ℕ
-counts done refused = done_word ++ (column done space ++ (refused_word ++ decimal refused))
+counts done refused = done_word ++ (column done space ++ (refused_word ++ decimal_of refused))
 
 unfoldable pub stopped : ℕ → List ℕ
 stopped p = stopped_word ++ column p newline

@@ -6,7 +6,7 @@ use mathlib.Core.Bool.{true}
 use mathlib.Core.Option.{Option, none, some}
 use native.Mathlib.Omega.{arith}
 use Rattle.form.specs.Model.{Store, decode}
-use Rattle.form.specs.Records.{is_store, is_some}
+use Rattle.form.specs.Records.{is_store, some_store}
 use Rattle.stream.specs.Reading.{Action, number_set, download, font_block, character_block, making, spelled_from, first_target, reading}
 use Rattle.stream.specs.Downloads.{answers_in, done_among, refused_among}
 use Rattle.stream.proofs.Counts.{counted_by_answers}
@@ -32,7 +32,7 @@ commands_answered b s i = go (decode s) refl (unfold is_store in i)
     actions : List Action
     actions = (spelled_from b 0 first_target).actions
 
-    go : (o : Option Store) → decode s ≡ o → is_some o ≡ true
+    go : (o : Option Store) → decode s ≡ o → some_store o ≡ true
         → (reading b s).answer.done ∷ (reading b s).answer.refused ∷ [] ≡ done_among (command_answers actions s) ∷ refused_among (command_answers actions s) ∷ []
     go none q z = let y : ◌≡◌ {A = ℕ} 0 1 = cc in absurd (omega arith)
     go (some st) q z =

@@ -12,7 +12,7 @@ use lib.Seq.{take-append_seam}
 use Rattle.form.specs.Layout.{key_of}
 use Rattle.form.specs.Num.{◌and◌}
 use Rattle.form.specs.Model.{Rec, Store, Owner, number, place, key, owner_after, no_owner, sorted, encode, split, mark_in, valid_or, decode}
-use Rattle.form.specs.Order.{keep, find}
+use Rattle.form.specs.Order.{keep, find_record}
 use Rattle.form.specs.Checks.{on_store, checked, finding, on_font, on_character}
 use Rattle.store.specs.Answer.{After, refuse, Telling, untold}
 use Rattle.form.specs.Records.{records_of}
@@ -37,17 +37,17 @@ use Rattle.marlinfold.specs.Calls.{make_fresh, write_font, read_stream, check_pr
 use Rattle.marlinfold.specs.Demands.{stream_by, stream_of, Again, RoundTrip, ProfiledComesBack}
 
 -- ── the font's records alone answer as all do
-find_of : (rs : List Rec) (n p k : ℕ) (u : Owner) → sorted k u rs ≡ true → p ≤ 256 → find (key_of n p) (records_of n rs) ≡ find (key_of n p) rs
+find_of : (rs : List Rec) (n p k : ℕ) (u : Owner) → sorted k u rs ≡ true → p ≤ 256 → find_record (key_of n p) (records_of n rs) ≡ find_record (key_of n p) rs
 find_of [] n p k u o l = unfold records_of keep in refl
 find_of (r ∷ rs) n p k u o l =
     let w = sorted_inv k u r rs o in
     go (place_small u r w.ok) (find_of rs n p (key r + 1) (owner_after u r) w.rest l) (eqb (number r) n) refl
   where
-    go : place r ≤ 256 → find (key_of n p) (records_of n rs) ≡ find (key_of n p) rs → (t : Bool) → eqb (number r) n ≡ t → find (key_of n p) (records_of n (r ∷ rs)) ≡ find (key_of n p) (r ∷ rs)
-    go s i true q = ap (find (key_of n p)) (of_in n r rs (eqb-true (number r) n q)) ∙ (unfold find in rw i)
+    go : place r ≤ 256 → find_record (key_of n p) (records_of n rs) ≡ find_record (key_of n p) rs → (t : Bool) → eqb (number r) n ≡ t → find_record (key_of n p) (records_of n (r ∷ rs)) ≡ find_record (key_of n p) (r ∷ rs)
+    go s i true q = ap (find_record (key_of n p)) (of_in n r rs (eqb-true (number r) n q)) ∙ (unfold find_record in rw i)
     go s i false q =
         let e : number r ≡ n → ⊥ = eqb-false (number r) n q in
-        ap (find (key_of n p)) (of_out n r rs e) ∙ i ∙ sym (find_other (key_of n p) r rs (λ x. e (omega (arith, x))))
+        ap (find_record (key_of n p)) (of_out n r rs e) ∙ i ∙ sym (find_other (key_of n p) r rs (λ x. e (omega (arith, x))))
 
 of_twice : (rs : List Rec) (n : ℕ) → records_of n (records_of n rs) ≡ records_of n rs
 of_twice [] n = unfold records_of keep in refl
@@ -77,7 +77,7 @@ characters_of_lem (r ∷ rs) n = go (characters_of_lem rs n) (eqb (number r) n) 
 
 broken_of : (rs : List Rec) (n : ℕ) (h : List ℕ) → sorted 0 no_owner rs ≡ true → broken_in n h (records_of n rs) ≡ broken_in n h rs
 unfolding broken_in
-broken_of rs n h o = same_broken rules 1 h (λ c. find (key_of n (c + 1)) (records_of n rs)) (λ c. find (key_of n (c + 1)) rs) (λ c l. find_of rs n (c + 1) 0 no_owner o (omega arith))
+broken_of rs n h o = same_broken rules 1 h (λ c. find_record (key_of n (c + 1)) (records_of n rs)) (λ c. find_record (key_of n (c + 1)) rs) (λ c l. find_of rs n (c + 1) 0 no_owner o (omega arith))
 
 and_false : (t : Bool) → (t && false) ≡ false
 and_false true = refl
@@ -87,7 +87,7 @@ and_false false = refl
 module _ {A : Type 0} (refuse : ℕ → A) (n : ℕ) (s u : List ℕ) (st : Store) (e : decode s ≡ some st) (e' : decode u ≡ some (only_font n st)) (o : sorted 0 no_owner st.recs ≡ true) where
   on_font_lem : (f : Store → Rec → A) → ((r : Rec) → f (only_font n st) r ≡ f st r) → on_font refuse n u f ≡ on_font refuse n s f
   unfolding on_font on_store
-  on_font_lem f i = rw (e, e', find_of st.recs n 0 0 no_owner o (omega arith)) (ap (λ (g : Rec → A). checked refuse (leb n 32767) 2 (finding refuse (find (key_of n 0) st.recs) 6 g)) (fun_ext i))
+  on_font_lem f i = rw (e, e', find_of st.recs n 0 0 no_owner o (omega arith)) (ap (λ (g : Rec → A). checked refuse (leb n 32767) 2 (finding refuse (find_record (key_of n 0) st.recs) 6 g)) (fun_ext i))
 
   on_character_lem : (c : ℕ) (f : Rec → A) → on_character refuse n c u (λ st. f) ≡ on_character refuse n c s (λ st. f)
   unfolding on_character on_store
@@ -103,7 +103,7 @@ record Wrote (n : ℕ) (out s : List ℕ) : Type 0 where
   store : Store
   from : decode s ≡ some store
   head : Rec
-  there : find (key_of n 0) store.recs ≡ some head
+  there : find_record (key_of n 0) store.recs ≡ some head
   stream : stream_of n out s ≡ written n store.recs
 
 none_wrote : (n : ℕ) (out s : List ℕ) → decode s ≡ none → (writing_font n s out).refusal ≡ 1
@@ -114,14 +114,14 @@ module _ (n : ℕ) (out s : List ℕ) (st : Store) (e : decode s ≡ some st) wh
   abbrev rest : Rec → WriteOut
   rest r = checked (unwritten out) (leb (length (written n st.recs)) (length out)) 12 (record { refusal = 0; count = length (written n st.recs); out = onto (written n st.recs) out })
 
-  write_is : writing_font n s out ≡ checked (unwritten out) (leb n 32767) 2 (finding (unwritten out) (find (key_of n 0) st.recs) 6 rest)
+  write_is : writing_font n s out ≡ checked (unwritten out) (leb n 32767) 2 (finding (unwritten out) (find_record (key_of n 0) st.recs) 6 rest)
   unfolding writing_font on_font on_store
   write_is = rw e
 
   some_wrote : (writing_font n s out).refusal ≡ 0 → Wrote n out s
-  some_wrote z = go (leb n 32767) refl (find (key_of n 0) st.recs) refl (leb (length (written n st.recs)) (length out)) refl
+  some_wrote z = go (leb n 32767) refl (find_record (key_of n 0) st.recs) refl (leb (length (written n st.recs)) (length out)) refl
     where
-      go : (a : Bool) → leb n 32767 ≡ a → (o : Option Rec) → find (key_of n 0) st.recs ≡ o → (b : Bool) → leb (length (written n st.recs)) (length out) ≡ b → Wrote n out s
+      go : (a : Bool) → leb n 32767 ≡ a → (o : Option Rec) → find_record (key_of n 0) st.recs ≡ o → (b : Bool) → leb (length (written n st.recs)) (length out) ≡ b → Wrote n out s
       go false p o q b r = let y : (writing_font n s out).refusal ≡ 2 = ap (λ (w : WriteOut). w.refusal) write_is ∙ rw p in absurd (omega (arith, y, z))
       go true p none q b r = unfold finding in let y : (writing_font n s out).refusal ≡ 6 = ap (λ (w : WriteOut). w.refusal) write_is ∙ rw (p, q) in absurd (omega (arith, y, z))
       go true p (some h) q false r = unfold finding in let y : (writing_font n s out).refusal ≡ 12 = ap (λ (w : WriteOut). w.refusal) write_is ∙ rw (p, q, r) in absurd (omega (arith, y, z))

@@ -14,7 +14,7 @@ use Rattle.store.specs.Answer.{refuse, done}
 use Rattle.form.specs.Num.{◌and◌}
 use mathlib.Core.Option.{Option, none, some}
 use Rattle.form.specs.Model.{Store, decode}
-use Rattle.form.specs.Records.{is_store, is_some, CountsTrue}
+use Rattle.form.specs.Records.{is_store, some_store, CountsTrue}
 use Rattle.form.proofs.Counts.{counts_true}
 use Rattle.form.specs.Fonts.{Font, fonts_of, fonts_below, fonts_above, fonts_with, fonts_after}
 use Rattle.store.specs.Calls.{fresh, making_fresh, downloading_font, removing_font}
@@ -292,7 +292,7 @@ demand3 s e calls r i =
 held : (s : List ℕ) → is_store s ≡ true → CountsTrue s
 held s i = go (decode s) refl (unfold is_store in i)
   where
-    go : (o : Option Store) → decode s ≡ o → is_some o ≡ true → CountsTrue s
+    go : (o : Option Store) → decode s ≡ o → some_store o ≡ true → CountsTrue s
     go none q z = let y : ◌≡◌ {A = ℕ} 0 1 = cc in absurd (omega arith)
     go (some st) q z = counts_true s st q
 

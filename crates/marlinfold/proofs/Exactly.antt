@@ -12,7 +12,7 @@ use lib.ListN.{length, get_or, drop}
 use lib.Seq.{drop_at, drop-nil}
 use Rattle.form.specs.Model.{Store, decode}
 use Rattle.form.specs.Checks.{on_store, checked, finding, on_font, on_character}
-use Rattle.form.specs.Records.{is_store, is_some}
+use Rattle.form.specs.Records.{is_store, some_store}
 use Rattle.form.specs.Fonts.{fonts_of}
 use Rattle.store.specs.Calls.{onto, removing_font, downloading_font, removing_character, telling_font, telling_character}
 use Rattle.store.specs.Download.{downloading_character}
@@ -42,7 +42,7 @@ no_store : (s : List ℕ) → is_store s ≡ false → decode s ≡ none
 unfolding is_store
 no_store s i = go (decode s) refl i
   where
-    go : (o : Option Store) → decode s ≡ o → is_some o ≡ false → o ≡ none
+    go : (o : Option Store) → decode s ≡ o → some_store o ≡ false → o ≡ none
     go none q z = refl
     go (some st) q z = let y : ◌≡◌ {A = ℕ} 0 1 = cc in absurd (omega arith)
 
@@ -153,7 +153,7 @@ pub stored : (s : List ℕ) → is_store s ≡ true → (st : Store) × (decode 
 unfolding is_store
 stored s i = go (decode s) refl i
   where
-    go : (o : Option Store) → decode s ≡ o → is_some o ≡ true → (st : Store) × (decode s ≡ some st)
+    go : (o : Option Store) → decode s ≡ o → some_store o ≡ true → (st : Store) × (decode s ≡ some st)
     go none q z = let y : ◌≡◌ {A = ℕ} 0 1 = cc in absurd (omega arith)
     go (some st) q z = (st, q)
 

@@ -10,7 +10,7 @@ use lib.Dec.{leb}
 use Rattle.form.specs.Layout.{last_font, last_code}
 use Rattle.form.specs.Model.{Rec, Store, decode}
 use Rattle.form.specs.Order.{font_at, character_at}
-use Rattle.form.specs.Records.{is_store, is_some}
+use Rattle.form.specs.Records.{is_store, some_store}
 use Rattle.form.specs.Checks.{on_store, checked, finding, numbered, on_font, on_character}
 use Rattle.store.specs.Answer.{After, refuse, Telling, untold}
 use Rattle.store.specs.Calls.{removing_font, removing_character, telling_font, telling_character}
@@ -34,11 +34,11 @@ module _ {A : Type 0} (refusing : ℕ → A) (of : A → ℕ) (is : (k : ℕ) �
       found : Store → A
       found st = checked refusing (leb n last_font) 2 (finding refusing (font_at n st.recs) 6 (f st))
 
-      absent : (o : Option Store) → is_some o ≡ false → of (on_store refusing o found) ≡ 1
+      absent : (o : Option Store) → some_store o ≡ false → of (on_store refusing o found) ≡ 1
       absent none e = is 1
       absent (some st) e = absurd (true≢false e)
 
-      high : (o : Option Store) → is_some o ≡ true → last_font < n → of (on_store refusing o found) ≡ 2
+      high : (o : Option Store) → some_store o ≡ true → last_font < n → of (on_store refusing o found) ≡ 2
       high none e l = absurd (false≢true e)
       high (some st) e l = rw (lt-leb n last_font l) (is 2)
 
@@ -57,7 +57,7 @@ module _ {A : Type 0} (refusing : ℕ → A) (of : A → ℕ) (is : (k : ℕ) �
       found : Store → A
       found st = checked refusing (numbered n c) 2 (finding refusing (font_at n st.recs) 6 (λ r. finding refusing (character_at n c st.recs) 7 (f st)))
 
-      absent : (o : Option Store) → is_some o ≡ false → of (on_store refusing o found) ≡ 1
+      absent : (o : Option Store) → some_store o ≡ false → of (on_store refusing o found) ≡ 1
       absent none e = is 1
       absent (some st) e = absurd (true≢false e)
 
@@ -65,7 +65,7 @@ module _ {A : Type 0} (refusing : ℕ → A) (of : A → ℕ) (is : (k : ℕ) �
       out_of_range (inl l) = rw (lt-leb n last_font l)
       out_of_range (inr l) = rw (lt-leb c last_code l) (neither (leb n last_font))
 
-      high : (o : Option Store) → is_some o ≡ true → (last_font < n) ⊎ (last_code < c) → of (on_store refusing o found) ≡ 2
+      high : (o : Option Store) → some_store o ≡ true → (last_font < n) ⊎ (last_code < c) → of (on_store refusing o found) ≡ 2
       high none e l = absurd (false≢true e)
       high (some st) e l = rw (out_of_range l) (is 2)
 

@@ -13,7 +13,7 @@ use Rattle.pictures.specs.Rows.{picture}
 use Rattle.blocks.specs.Character.{descriptor_bytes, class, width, height, is_kept_first}
 use Rattle.form.specs.Layout.{last_font, last_code, key_of}
 use Rattle.form.specs.Model.{Rec, font, character, Store, Owner, no_owner, owner_after, sorted, number, place, key, decode}
-use Rattle.form.specs.Order.{find}
+use Rattle.form.specs.Order.{find_record}
 use Rattle.form.specs.Checks.{checked, numbered, on_store, finding, on_character}
 use Rattle.form.specs.Records.{is_store, records_in}
 use Rattle.form.proofs.Codec.{Sorted, sorted_inv}
@@ -37,8 +37,8 @@ record Kept (all : List Rec) (n c : ℕ) (h d : List ℕ) : Type 0 where
   low : n ≤ last_font
   code : c ≤ last_code
   header : List ℕ
-  font_there : find (key_of n 0) all ≡ some (font n header)
-  there : find (key_of n (c + 1)) all ≡ some (character n c h d)
+  font_there : find_record (key_of n 0) all ≡ some (font n header)
+  there : find_record (key_of n (c + 1)) all ≡ some (character n c h d)
   orientation : ℕ
   kept : is_kept_first h orientation ≡ true
   long : length h ≡ descriptor_bytes
@@ -51,8 +51,8 @@ AllKept all (character n c h d ∷ rs) = Kept all n c h d × AllKept all rs
 -- the records of `all` with keys from k on; u is the font that they stand under
 record Looked (all : List Rec) (k : ℕ) (u : Owner) (rs : List Rec) : Type 0 where
   order : sorted k u rs ≡ true
-  rest : (j : ℕ) → k ≤ j → find j all ≡ find j rs
-  owner : (n : ℕ) → u.owner ≡ n + 1 → (g : List ℕ) × (find (key_of n 0) all ≡ some (font n g))
+  rest : (j : ℕ) → k ≤ j → find_record j all ≡ find_record j rs
+  owner : (n : ℕ) → u.owner ≡ n + 1 → (g : List ℕ) × (find_record (key_of n 0) all ≡ some (font n g))
 
 font_key : (n : ℕ) (h : List ℕ) → key (font n h) ≡ key_of n 0
 unfolding number place
@@ -63,10 +63,10 @@ unfolding number place
 character_key n c h d = refl
 
 module _ (all : List Rec) (k : ℕ) (u : Owner) (r : Rec) (rs : List Rec) (l : Looked all k u (r ∷ rs)) where
-  looked_here : find (key r) all ≡ some r
+  looked_here : find_record (key r) all ≡ some r
   looked_here = l.rest (key r) (sorted_inv k u r rs l.order).least ∙ find_here (key r) r rs refl
 
-  looked_rest : (j : ℕ) → key r + 1 ≤ j → find j all ≡ find j rs
+  looked_rest : (j : ℕ) → key r + 1 ≤ j → find_record j all ≡ find_record j rs
   looked_rest j g = l.rest j (omega (arith, g, (sorted_inv k u r rs l.order).least)) ∙ find_other j r rs (λ e. omega (arith, e, g))
 
 looked_font : (all : List Rec) (k : ℕ) (u : Owner) (n : ℕ) (h : List ℕ) (rs : List Rec) → Looked all k u (font n h ∷ rs) → Looked all (key (font n h) + 1) (owner_after u (font n h)) rs
@@ -75,7 +75,7 @@ looked_font all k u n h rs l =
     record {
       order = (sorted_inv k u (font n h) rs l.order).rest;
       rest = looked_rest all k u (font n h) rs l;
-      owner = λ m e. let z : n ≡ m = omega (arith, e) in (h, subst (λ (x : ℕ). find (key_of x 0) all ≡ some (font x h)) z (ap (λ (x : ℕ). find x all) (sym (font_key n h)) ∙ looked_here all k u (font n h) rs l));
+      owner = λ m e. let z : n ≡ m = omega (arith, e) in (h, subst (λ (x : ℕ). find_record (key_of x 0) all ≡ some (font x h)) z (ap (λ (x : ℕ). find_record x all) (sym (font_key n h)) ∙ looked_here all k u (font n h) rs l));
     }
 
 looked_character : (all : List Rec) (k : ℕ) (u : Owner) (n c : ℕ) (h d : List ℕ) (rs : List Rec) → Looked all k u (character n c h d ∷ rs)
@@ -89,7 +89,7 @@ looked_character all k u n c h d rs l =
         code = a.code;
         header = o.0;
         font_there = o.1;
-        there = ap (λ (x : ℕ). find x all) (sym (character_key n c h d)) ∙ looked_here all k u (character n c h d) rs l;
+        there = ap (λ (x : ℕ). find_record x all) (sym (character_key n c h d)) ∙ looked_here all k u (character n c h d) rs l;
         orientation = u.orientation;
         kept = a.kept;
         long = (shaped u (character n c h d) w.ok).0;
@@ -184,9 +184,9 @@ module _ (s : List ℕ) (st : Store) (e : decode s ≡ some st) (c : ℕ) (lc : 
   unfolding telling_character on_character on_store finding
   tells_kept n h d x = rw (e, le-leb n last_font x.low, le-leb c last_code x.code, x.font_there, x.there)
 
-  tells_none : (n : ℕ) → find (key_of n (c + 1)) st.recs ≡ none → finds n ≡ false
+  tells_none : (n : ℕ) → find_record (key_of n (c + 1)) st.recs ≡ none → finds n ≡ false
   unfolding telling_character on_character on_store finding
-  tells_none n q = rw (e, q) (go (numbered n c) (find (key_of n 0) st.recs))
+  tells_none n q = rw (e, q) (go (numbered n c) (find_record (key_of n 0) st.recs))
     where
       go : (t : Bool) (o : Option Rec) → eqb (checked (untold told_out) t 2 (finding (untold told_out) o 6 (λ r. untold told_out 7))).refusal 0 ≡ false
       go false o = refl
@@ -194,7 +194,7 @@ module _ (s : List ℕ) (st : Store) (e : decode s ≡ some st) (c : ℕ) (lc : 
       go true (some r) = unfold finding in refl
 
   -- numbers of fonts without such a character
-  passed : (g n m n' m' : ℕ) → n + g ≡ n' → g + m' ≡ m → ((j : ℕ) → n ≤ j → j < n' → find (key_of j (c + 1)) st.recs ≡ none) → seen_from s c n m ≡ seen_from s c n' m'
+  passed : (g n m n' m' : ℕ) → n + g ≡ n' → g + m' ≡ m → ((j : ℕ) → n ≤ j → j < n' → find_record (key_of j (c + 1)) st.recs ≡ none) → seen_from s c n m ≡ seen_from s c n' m'
   unfolding seen_from seen_before
   passed zero n m n' m' p q f = let x : n ≡ n' = omega arith in let y : m ≡ m' = omega arith in ap₂ (seen_from s c) x y
   passed (suc g) n zero n' m' p q f = absurd (omega arith)
@@ -206,9 +206,9 @@ module _ (s : List ℕ) (st : Store) (e : decode s ≡ some st) (c : ℕ) (lc : 
   found_next n m h d x = rw (tells_kept n h d x)
 
   are_among : (rs : List Rec) (k : ℕ) (u : Owner) (n m : ℕ) → sorted k u rs ≡ true → AllKept st.recs rs → n + m ≡ 32768
-      → ((j : ℕ) → n ≤ j → find (key_of j (c + 1)) st.recs ≡ find (key_of j (c + 1)) rs) → ((j : ℕ) → k ≤ key_of j (c + 1) → n ≤ j) → seen_from s c n m ≡ seen_among s c rs
+      → ((j : ℕ) → n ≤ j → find_record (key_of j (c + 1)) st.recs ≡ find_record (key_of j (c + 1)) rs) → ((j : ℕ) → k ≤ key_of j (c + 1) → n ≤ j) → seen_from s c n m ≡ seen_among s c rs
   unfolding seen_among seen_before
-  are_among [] k u n m o a p f b = passed m n m (n + m) 0 refl (omega arith) (λ j l i. f j l ∙ (unfold find in refl)) ∙ (unfold seen_from in refl)
+  are_among [] k u n m o a p f b = passed m n m (n + m) 0 refl (omega arith) (λ j l i. f j l ∙ (unfold find_record in refl)) ∙ (unfold seen_from in refl)
   are_among (font i h ∷ rs) k u n m o a p f b =
       let w = sorted_inv k u (font i h) rs o in
       are_among rs (key (font i h) + 1) (owner_after u (font i h)) n m w.rest a p
@@ -219,7 +219,7 @@ module _ (s : List ℕ) (st : Store) (e : decode s ≡ some st) (c : ℕ) (lc : 
       go w (eqb q c) refl (λ n' m' p' f' b'. are_among rs (key (character i q h d) + 1) (owner_after u (character i q h d)) n' m' w.rest a.1 p' f' b')
     where
       go : Sorted k u (character i q h d) rs → (t : Bool) → eqb q c ≡ t
-          → ((n' m' : ℕ) → n' + m' ≡ 32768 → ((j : ℕ) → n' ≤ j → find (key_of j (c + 1)) st.recs ≡ find (key_of j (c + 1)) rs) → ((j : ℕ) → key (character i q h d) + 1 ≤ key_of j (c + 1) → n' ≤ j) → seen_from s c n' m' ≡ seen_among s c rs)
+          → ((n' m' : ℕ) → n' + m' ≡ 32768 → ((j : ℕ) → n' ≤ j → find_record (key_of j (c + 1)) st.recs ≡ find_record (key_of j (c + 1)) rs) → ((j : ℕ) → key (character i q h d) + 1 ≤ key_of j (c + 1) → n' ≤ j) → seen_from s c n' m' ≡ seen_among s c rs)
           → seen_from s c n m ≡ seen_before t (seen_at s i c) (seen_among s c rs)
       go w false z next =
           next n m p

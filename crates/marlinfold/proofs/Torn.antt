@@ -12,7 +12,7 @@ use lib.ListN.{length, get_or, take, drop, length-append, length-drop, length-ta
 use lib.Seq.{take_at, drop_at, drop-drop, drop-append-add}
 use Rattle.form.specs.Num.{low_first}
 use Rattle.form.specs.Model.{Store, decode}
-use Rattle.form.specs.Records.{is_store, is_some}
+use Rattle.form.specs.Records.{is_store, some_store}
 use Rattle.form.proofs.Numbers.{length_le}
 use Rattle.store.specs.Answer.{no_run}
 use Rattle.store.specs.Calls.{onto}
@@ -30,7 +30,7 @@ use Rattle.salvage.proofs.Fronts.{read_before}
 use Rattle.salvage.proofs.Onward.{Within, ending_within, obey_append}
 use Rattle.salvage.proofs.Made.{salvage_is}
 use Rattle.marlinfold.specs.Calls.{read_stream, Outcome, answered, of_reading, of_salvage, leaves}
-use Rattle.marlinfold.specs.Torn.{Restart, FirstRestart, read_at, done_at, refused_at, torn_at, stretch_to, SalvagedFrom, to_the_end, list_full, past_tear_lem, full_later, SalvagedByReading, WholeSalvaged, Covered, whole_rest, then_stretch, StretchesCover, TornBetween}
+use Rattle.marlinfold.specs.Torn.{Restart, FirstRestart, read_at, done_at, refused_at, torn_at, stretch_to, SalvagedFrom, to_the_end, list_full, tear_passed, full_later, SalvagedByReading, WholeSalvaged, Covered, whole_rest, then_stretch, StretchesCover, TornBetween}
 use Rattle.marlinfold.proofs.Exactly.{stored}
 use Rattle.marlinfold.proofs.Demand3.{held_counts}
 
@@ -186,7 +186,7 @@ module _ (b : List ℕ) (at : ℕ) (s l : List ℕ) (st : Store) (h : at ≤ len
   onwards p q e f w false ts done refused u x =
       let r = read_torn b at s st h d p e in
       let a : FirstRestart b (torn_at b at s + 1) q = rw r.4 w in
-      rw (stretch_onto p q ts l, ← r.4) (past_tear_lem at s l _ (length ts) done refused u _ r.0 f a x)
+      rw (stretch_onto p q ts l, ← r.4) (tear_passed at s l _ (length ts) done refused u _ r.0 f a x)
 
   -- the whole of a turn, where what comes after it is known
   one_turn : (k room p : ℕ) → (spelled_from b at first_target).ending ≡ BrokenAt p → 16 ≤ length l → p < length b
@@ -237,7 +237,7 @@ when_whole : (b : List ℕ) (at : ℕ) (s l : List ℕ) (o : Outcome) → Salvag
     → o ≡ answered 0 (0 ∷ done_at b at s ∷ refused_at b at s ∷ []) (read_at b at s).store l
 when_whole b at s l o (to_the_end i t m e) z = refl
 when_whole b at s l o (list_full i t m e f) z = absurd (omega arith)
-when_whole b at s l o (past_tear_lem i t m q k n r u v e f g x) z = absurd (omega arith)
+when_whole b at s l o (tear_passed i t m q k n r u v e f g x) z = absurd (omega arith)
 when_whole b at s l o (full_later i t m q u v e f g x) z = absurd (omega arith)
 
 pub whole_salvaged : WholeSalvaged
@@ -265,7 +265,7 @@ same_ending b at s t h i j = go (spelled_from b at first_target).ending refl
 covers : (b : List ℕ) (at : ℕ) (s l : List ℕ) (o : Outcome) → SalvagedFrom b at s l o → at ≤ length b → is_store s ≡ true → o.refusal ≡ 0 → Covered b at (get_or o.numbers 0 0) o.out
 covers b at s l o (to_the_end i t m e) h j z = whole_rest at l (λ v w. (same_ending b at s v h j w).0 e)
 covers b at s l o (list_full i t m e f) h j z = absurd (omega arith)
-covers b at s l o (past_tear_lem i t m q k n r u v e f g x) h j z =
+covers b at s l o (tear_passed i t m q k n r u v e f g x) h j z =
     let p = torn_at b at s in
     let y : p + (q - p) ≡ q = omega (arith, g.later) in
     let a : length (stretch_to p q) ≡ 16 = omega (arith, length-append (low_first 8 p) (low_first 8 (q - p)), length_le 8 p, length_le 8 (q - p)) in
@@ -298,7 +298,7 @@ at_tear : (b : List ℕ) (at : ℕ) (s l : List ℕ) (o : Outcome) → SalvagedF
     → o ≡ answered 0 (1 ∷ (done_at b at s + done_at b q u) ∷ (refused_at b at s + refused_at b q u) ∷ []) (read_at b q u).store (stretch_to (torn_at b at s) q ++ drop 16 l)
 at_tear b at s l o (to_the_end i t m e) z h q g w = absurd (omega arith)
 at_tear b at s l o (list_full i t m e f) z h q g w = absurd (omega arith)
-at_tear b at s l o (past_tear_lem i t m r k n v u y e f a x) z h q g w =
+at_tear b at s l o (tear_passed i t m r k n v u y e f a x) z h q g w =
     let j = one_restart b (torn_at b at s + 1) r q a g in
     let p = when_whole b q (read_at b at s).store (drop 16 l) _ (subst (λ (c : ℕ). SalvagedFrom b c (read_at b at s).store (drop 16 l) (answered 0 (k ∷ n ∷ v ∷ []) u y)) j x) w in
     ap (λ (c : ℕ). answered 0 ((k + 1) ∷ (done_at b at s + n) ∷ (refused_at b at s + v) ∷ []) u (stretch_to (torn_at b at s) c ++ y)) j

@@ -46,7 +46,7 @@ pub data SalvagedFrom (b : List ℕ) : (at : ℕ) (s l : List ℕ) → Outcome �
       (at : ℕ) (s l : List ℕ) → (read_at b at s).refusal ≡ 13 → length l < 16
       → SalvagedFrom b at s l (answered 12 (0 ∷ 0 ∷ 0 ∷ []) (read_at b at s).store l)
   -- a 13 and a place in the list: the stretch up to the restart, and what is answered from there on; the counts are "over the whole reading"
-  past_tear_lem :
+  tear_passed :
       (at : ℕ) (s l : List ℕ) (q k done refused : ℕ) (u m : List ℕ) → (read_at b at s).refusal ≡ 13 → 16 ≤ length l → FirstRestart b (torn_at b at s + 1) q
       → SalvagedFrom b q (read_at b at s).store (drop 16 l) (answered 0 (k ∷ done ∷ refused ∷ []) u m)
       → SalvagedFrom b at s l (answered 0 ((k + 1) ∷ (done_at b at s + done) ∷ (refused_at b at s + refused) ∷ []) u (stretch_to (torn_at b at s) q ++ m))

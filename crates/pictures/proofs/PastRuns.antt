@@ -2,7 +2,7 @@
 use Rattle.std.proofs.Common.{◌≡◌, ℕ, ◌+◌, ◌<◌, ◌≤◌, Bool, true, false, cond, not, eqb, ltb, leb, List, [], ◌∷◌, ◌++◌, length, sym, refl, ◌∙◌, append_assoc, add-zero, zero-add, arith, ltb-false, ltb-true, eqb-true, leb-false}
 use borrow.Author.Tests.{eqb-false, lt-leb}
 use Rattle.pictures.specs.Runs.{end_row, place_of, run_in, step_run, scan_from, start, on_step}
-use Rattle.pictures.specs.Picture.{run_dots, PastRun, whole_row, bad_row_lem}
+use Rattle.pictures.specs.Picture.{run_dots, PastRun, whole_row, row_past_width}
 use Rattle.pictures.specs.declared.runs.Place.TheVariants.{Count, Finished}
 use Rattle.pictures.specs.declared.runs.Reader.{Reader}
 use Rattle.pictures.specs.declared.runs.Scanned.TheVariants.{Complete, PastWidth}
@@ -24,7 +24,7 @@ dots_more (b ∷ runs) a = omega (arith, dots_more runs a)
 -- a run that passes the width has a dot
 pub past_dots : (w top row f b : ℕ) (d : List ℕ) → PastRun w top d row f b → 0 < b
 past_dots w top row f b d (whole_row _ repeats last runs later _ _ _ g z x) = past_dots w _ row f b later x
-past_dots w top row f b d (bad_row_lem _ repeats _ runs later g o) = omega (arith, g, o)
+past_dots w top row f b d (row_past_width _ repeats _ runs later g o) = omega (arith, g, o)
 
 module _ (w h : ℕ) where
   -- ── from the scan to the bytes
@@ -56,7 +56,7 @@ module _ (w h : ℕ) where
       let x : row ≡ q = cc in
       let y : run_dots runs ≡ f = cc in
       let v : a ≡ b = cc in
-      rw (← x, ← y, ← v) (bad_row_lem row r a runs xs g o, l)
+      rw (← x, ← y, ← v) (row_past_width row r a runs xs g o, l)
   one_run xs ih jh n row r a q f b runs c l g false true s t e =
       let z = eqb-true (run_dots runs + a) w t in
       row_ended xs ih (n + 1) row r a q f b runs g z (leb h (row + 1 + r)) refl (rw (fill_whole w (run_dots runs) a z) at e)
@@ -115,7 +115,7 @@ module _ (w h : ℕ) where
 
   not_above : (top row f b : ℕ) (d : List ℕ) → PastRun w top d row f b → top ≤ row
   not_above top row f b d (whole_row _ repeats last runs later _ _ _ g z x) = omega (arith, not_above _ row f b later x)
-  not_above top row f b d (bad_row_lem _ repeats _ runs later g o) = omega arith
+  not_above top row f b d (row_past_width _ repeats _ runs later g o) = omega arith
 
   past_found : (top row f b : ℕ) (d : List ℕ) → PastRun w top d row f b → row < h → (n : ℕ) → scan_from w h n (before top) d ≡ PastWidth row f b
   unfolding scan_from step_run
@@ -123,7 +123,7 @@ module _ (w h : ℕ) where
       runs_read runs (n + 1) top repeats 0 false (last ∷ later) (omega (arith, g))
       ∙ run_ends (n + 1 + length runs) top repeats (0 + run_dots runs) last (colour false runs) later (omega (arith, z)) (omega (arith, not_above (top + 1 + repeats) row f b later x, l))
       ∙ past_found (top + 1 + repeats) row f b later x l (n + 1 + length runs + 1)
-  past_found top row f b d (bad_row_lem _ repeats _ runs later g o) l n =
+  past_found top row f b d (row_past_width _ repeats _ runs later g o) l n =
       runs_read runs (n + 1) top repeats 0 false (b ∷ later) (omega (arith, g))
       ∙ run_passes (n + 1 + length runs) top repeats (0 + run_dots runs) b (colour false runs) later (omega (arith, o)) ∙ rw zero-add
 

@@ -37,7 +37,7 @@ pub data PastRun (w : ℕ) : ℕ → List ℕ → ℕ → ℕ → ℕ → Type 0
   whole_row :
       (top repeats last : ℕ) (runs later : List ℕ) (row filled run : ℕ) → run_dots runs < w → run_dots runs + last ≡ w
       → PastRun w (top + 1 + repeats) later row filled run → PastRun w top (repeats ∷ (runs ++ (last ∷ later))) row filled run
-  bad_row_lem :
+  row_past_width :
       (row repeats run : ℕ) (runs later : List ℕ) → run_dots runs < w → w < run_dots runs + run
       → PastRun w row (repeats ∷ (runs ++ (run ∷ later))) row (run_dots runs) run
 

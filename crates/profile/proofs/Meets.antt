@@ -13,7 +13,7 @@ use Rattle.pictures.specs.declared.picture.Held.{Held}
 use Rattle.pictures.specs.declared.picture.Held.TheVariants.{Whole, Unfinished, Foreign}
 use Rattle.form.specs.Layout.{last_code, key_of}
 use Rattle.form.specs.Model.{Rec, held_of}
-use Rattle.form.specs.Order.{find}
+use Rattle.form.specs.Order.{find_record}
 use Rattle.store.specs.Calls.{kept_of, data_of}
 use Rattle.profile.specs.Profile.{meets, of_type_zero, fixed_spaced, first_required, last_required, is_whole, complete, has_character, left_inside, right_inside, height_inside, advances_by_pitch, of_each, character_rules, first_broken, rules, broken_in, none_broken, Simple, Meets, MeetsExactly, FirstAndLowest}
 use Rattle.profile.proofs.Search.{rule_holds, none_broken_lem, breaks_first}
@@ -29,7 +29,7 @@ complete_is (some r) e = (r, refl, whole_is (held_of (kept_of r) (data_of r)) e)
 
 module _ (n : ℕ) (h : List ℕ) (rs : List Rec) where
   abbrev at : ℕ → Option Rec
-  at c = find (key_of n (c + 1)) rs
+  at c = find_record (key_of n (c + 1)) rs
 
   required_is : (c : ℕ) → first_required ≤ c → c ≤ last_required → has_character h c (at c) ≡ true → complete (at c) ≡ true
   required_is c a b e = rw (le-leb first_required c a, le-leb c last_required b) at e
@@ -97,4 +97,4 @@ meets_exactly n h rs = ((λ e. meets_all n h rs (eqb-true (broken_in n h rs).rul
 
 pub first_and_lowest : FirstAndLowest
 unfolding broken_in
-first_and_lowest n h rs e = breaks_first h (λ c. find (key_of n (c + 1)) rs) rules 1 (λ x. let i : meets (first_broken rules 1 h (λ c. find (key_of n (c + 1)) rs)) ≡ true = ap meets x in let z : true ≡ false = sym i ∙ e in let y : ◌≡◌ {A = ℕ} 0 1 = cc in omega arith)
+first_and_lowest n h rs e = breaks_first h (λ c. find_record (key_of n (c + 1)) rs) rules 1 (λ x. let i : meets (first_broken rules 1 h (λ c. find_record (key_of n (c + 1)) rs)) ≡ true = ap meets x in let z : true ≡ false = sym i ∙ e in let y : ◌≡◌ {A = ℕ} 0 1 = cc in omega arith)

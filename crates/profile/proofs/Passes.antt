@@ -11,7 +11,7 @@ use lib.Dec.{eqb, ltb, leb}
 use Rattle.blocks.specs.Header.{font_type, spacing}
 use Rattle.form.specs.Layout.{last_code, key_of}
 use Rattle.form.specs.Model.{Rec, font, character, Owner, no_owner, owner_after, sorted, number, place, key, held_of}
-use Rattle.form.specs.Order.{keep, find}
+use Rattle.form.specs.Order.{keep, find_record}
 use Rattle.form.specs.Records.{records_of}
 use Rattle.store.specs.Calls.{kept_of}
 use Rattle.form.proofs.RecordBytes.{allowed_char}
@@ -68,7 +68,7 @@ module _ (h : List ℕ) (r : Rec) where
 module _ (n : ℕ) (h : List ℕ) where
   -- the character of code c
   abbrev at : List Rec → ℕ → Option Rec
-  at rs c = find (key_of n (c + 1)) rs
+  at rs c = find_record (key_of n (c + 1)) rs
 
   -- ── what a pass over records finds, from findings p on
   record First (rs : List Rec) (m i e : ℕ) : Type 0 where
@@ -88,7 +88,7 @@ module _ (n : ℕ) (h : List ℕ) where
     lacks : q.wanted ≤ last_required → complete (at rs q.wanted) ≡ false
 
   finds_none : (p : Findings) → Finds [] p p
-  unfolding find
+  unfolding find_record
   finds_none p =
       record {
         low = omega arith;
@@ -395,7 +395,7 @@ module _ (n : ℕ) (h : List ℕ) where
       go true x true y = rule_holds h (at rs) _ _ 1 (λ c l. x) ∙ rule_holds h (at rs) _ _ 2 (λ c l. y) ∙ by_codes rs (passed_over ts h nothing_found) f
 
 -- the records of a font that is there
-pub among_is : (n : ℕ) (h : List ℕ) (rs : List Rec) → sorted 0 no_owner rs ≡ true → find (key_of n 0) rs ≡ some (font n h) → broken_among (records_of n rs) ≡ broken_in n h rs
+pub among_is : (n : ℕ) (h : List ℕ) (rs : List Rec) → sorted 0 no_owner rs ≡ true → find_record (key_of n 0) rs ≡ some (font n h) → broken_among (records_of n rs) ≡ broken_in n h rs
 unfolding broken_among passed_over behind_record
 among_is n h rs o e =
     let x = kept_of_lem n h rs o e in

@@ -18,7 +18,7 @@ use Rattle.pictures.specs.declared.picture.Held.TheVariants.{Whole, Unfinished, 
 use Rattle.form.specs.Layout.{last_font, key_of}
 use Rattle.form.specs.Model.{Rec, Store, held_of, decode}
 use Rattle.form.specs.Checks.{on_store, checked, finding, on_font}
-use Rattle.form.specs.Order.{find, character_at}
+use Rattle.form.specs.Order.{find_record, character_at}
 use Rattle.store.specs.Calls.{kept_of, data_of}
 use Rattle.stream.specs.Written.{WriteOut, unwritten, writing_font}
 use Rattle.profile.specs.declared.pass.RuleBroken.{RuleBroken}
@@ -195,5 +195,5 @@ module _ (out : List ℕ) where
 pub profiled : (n : ℕ) (s out : List ℕ) → Profiled (writing_profiled n s out) (writing_font n s out) (checking_profile n s)
 unfolding writing_profiled writing_font checking_profile on_font
 profiled n s out =
-    by_store_lem out (decode s) _ _ _ (λ st. by_check out (leb n last_font) 2 _ _ _ (omega arith) (by_find out (find (key_of n 0) st.recs) 6 _ _ _ (omega arith)
+    by_store_lem out (decode s) _ _ _ (λ st. by_check out (leb n last_font) 2 _ _ _ (omega arith) (by_find out (find_record (key_of n 0) st.recs) 6 _ _ _ (omega arith)
     (λ r. by_meets out (broken_in n (kept_of r) st.recs) _ (λ e. (found_none n (kept_of r) st.recs (eqb-true (broken_in n (kept_of r) st.recs).rule 0 e)).0))))

@@ -24,7 +24,7 @@ use Rattle.pictures.proofs.KeptData.{held_whole, held_unfinished, judged_past, p
 use Rattle.form.specs.Layout.{key_of, last_code, last_font, least_store, mark_record, most_store}
 use Rattle.form.specs.Num.{◌and◌}
 use Rattle.form.specs.Model.{Rec, font, character, Mark, Store, no_owner, sorted, mark_ok, held_under, is_kept, run, encode, decode, total, Valid}
-use Rattle.form.specs.Order.{find}
+use Rattle.form.specs.Order.{find_record}
 use Rattle.form.specs.Records.{is_store, records_in}
 use Rattle.form.specs.Fonts.{Font, fonts_in, fonts_of, fonts_with, fonts_after}
 use Rattle.form.specs.Checks.{on_store, checked, taking, finding, numbered, on_font, on_character}
@@ -140,7 +140,7 @@ pub record Guest (n c : ℕ) (s h d : List ℕ) (st : Store) : Type 0 where
   pub low : n ≤ last_font
   pub code : c ≤ last_code
   pub header : List ℕ
-  pub there : find (key_of n 0) st.recs ≡ some (font n header)
+  pub there : find_record (key_of n 0) st.recs ≡ some (font n header)
   pub ok : is_kept (held_under (orientation header) h d) ≡ true
 
 module _ (n c : ℕ) (s h d : List ℕ) (st : Store) (g : Guest n c s h d st) where
@@ -182,7 +182,7 @@ module _ (n c : ℕ) (b s : List ℕ) (is : is_store s ≡ true) (P : After → 
     (past : (row filled run : ℕ) (x : BadRunIn n c b s row filled run) → ChecksPassed n c b x.store → P (refuse_run s row filled run))
     (put : (st : Store) (h d : List ℕ) → Brought n c b s h d st → Valid (put_character n c h (kept_of_data h d) st) → P (done (put_character n c h (kept_of_data h d) st)))
     (gone : (st : Store) (h d : List ℕ) → Brought n c b s h d st → Valid (store_without_font n st) → P (record { answer = 10; bad = no_run; bytes = encode (store_without_font n st) })) where
-  module _ (st : Store) (e : decode s ≡ some st) (v : Valid st) (low : n ≤ last_font) (code : c ≤ last_code) (long : character_length b ≡ true) (g : List ℕ) (there : find (key_of n 0) st.recs ≡ some (font n g)) where
+  module _ (st : Store) (e : decode s ≡ some st) (v : Valid st) (low : n ≤ last_font) (code : c ≤ last_code) (long : character_length b ≡ true) (g : List ℕ) (there : find_record (key_of n 0) st.recs ≡ some (font n g)) where
     placed_by : (h d : List ℕ) → Sent n c b st h d → ((row filled run : ℕ) → judged_of h d ≡ PastWidth row filled run → ⊥) → is_kept (held_under (orientation g) h (kept_of_data h d)) ≡ true
         → P (placing n c h (kept_of_data h d) st)
     placed_by h d y i ok =
@@ -219,7 +219,7 @@ module _ (n c : ℕ) (b s : List ℕ) (is : is_store s ≡ true) (P : After → 
 
     more_by : kind_of b ≡ Continuation → P (receiving_more n c b s st)
     unfolding receiving_more
-    more_by k = by_check s P (names n c st.mark) 7 _ no.5 (λ t. by_find s P (find (key_of n (c + 1)) st.recs) 7 _ no.5 (λ r q.
+    more_by k = by_check s P (names n c st.mark) 7 _ no.5 (λ t. by_find s P (find_record (key_of n (c + 1)) st.recs) 7 _ no.5 (λ r q.
         let f = found (key_of n (c + 1)) 0 no_owner r st.recs v.order q in
         let y = char_at n c _ r code f.ok f.is in
         subst (λ (x : Rec). P (receiving n c (kept_of x) (data_of x ++ drop continuation_bytes b) s st)) (sym y.2) (received_by y.0 (y.1 ++ drop continuation_bytes b) (by_more (character n c y.0 y.1) k (names_mark n c st.mark t) (q ∙ ap some y.2)) (λ z. let o : ◌≡◌ {A = ℕ} 0 1 = cc in absurd (omega arith)) (kept_under n c g y.0 y.1 st.recs v.order code there (q ∙ ap some y.2)))))
@@ -233,13 +233,13 @@ module _ (n c : ℕ) (b s : List ℕ) (is : is_store s ≡ true) (P : After → 
       rw w.1
       (by_check s P (numbered n c) 2 _ no.0 (λ l. let i = in_range_lem n c l in
       by_check s P (character_length b) 3 _ no.1 (λ e.
-      by_find s P (find (key_of n 0) st.recs) 6 _ no.4 (λ r q. block st w.1 v r i.0 i.1 e q))))
+      by_find s P (find_record (key_of n 0) st.recs) 6 _ no.4 (λ r q. block st w.1 v r i.0 i.1 e q))))
     where
-      block : (st : Store) → decode s ≡ some st → Valid st → (r : Rec) → n ≤ last_font → c ≤ last_code → character_length b ≡ true → find (key_of n 0) st.recs ≡ some r → P (receiving_block n c (kept_of r) b s st)
+      block : (st : Store) → decode s ≡ some st → Valid st → (r : Rec) → n ≤ last_font → c ≤ last_code → character_length b ≡ true → find_record (key_of n 0) st.recs ≡ some r → P (receiving_block n c (kept_of r) b s st)
       block st d v r low code l q =
           let f = found (key_of n 0) 0 no_owner r st.recs v.order q in
           let y = font_at_lem n _ r f.ok f.is in
-          let t : find (key_of n 0) st.recs ≡ some (font n y.0) = q ∙ ap some y.1 in
+          let t : find_record (key_of n 0) st.recs ≡ some (font n y.0) = q ∙ ap some y.1 in
           subst (λ (x : Rec). P (receiving_block n c (kept_of x) b s st)) (sym y.1)
           (by_kind_lem s P (kind_of b) _ _ (λ h d. receiving n c h d s st) no.2 (λ e. first_by st d v low code l y.0 t e) (λ e. more_by st d v low code l y.0 t e))
 
@@ -278,13 +278,13 @@ module _ (n : ℕ) (s : List ℕ) (is : is_store s ≡ true) (P : After → Type
       let w = is_store_lem s is in
       let v = removed_valid w.0 (valid_decode s w.0 w.1) n in
       rw w.1
-      (by_check s P (leb n last_font) 2 _ (no 2 refl) (λ l. by_find s P (find (key_of n 0) w.0.recs) 6 _ (no 6 refl) (λ r q. gone w.0 w.1 v)))
+      (by_check s P (leb n last_font) 2 _ (no 2 refl) (λ l. by_find s P (find_record (key_of n 0) w.0.recs) 6 _ (no 6 refl) (λ r q. gone w.0 w.1 v)))
 
 pub removed_leaves : (n : ℕ) (s : List ℕ) → is_store s ≡ true → Left 0 n [] s (removing_font n s)
 unfolding fonts_in
 removed_leaves n s is = removed_answers n s is (Left 0 n [] s) (refusal 0 n [] s is) (with_left n 0 [] s)
 
-cut_valid : (n c : ℕ) (st : Store) → Valid st → (r : Rec) → c ≤ last_code → find (key_of n 0) st.recs ≡ some r → Valid (store_without_character n c st)
+cut_valid : (n c : ℕ) (st : Store) → Valid st → (r : Rec) → c ≤ last_code → find_record (key_of n 0) st.recs ≡ some r → Valid (store_without_character n c st)
 unfolding run total
 cut_valid n c st v r code q =
     let f = found (key_of n 0) 0 no_owner r st.recs v.order q in
@@ -303,8 +303,8 @@ module _ (n c : ℕ) (s : List ℕ) (is : is_store s ≡ true) (P : After → Ty
       rw w.1
       (by_check s P (numbered n c) 2 _ (no 2 refl) (λ l.
       let code = (in_range_lem n c l).1 in
-      by_find s P (find (key_of n 0) w.0.recs) 6 _ (no 6 refl) (λ r q.
-      by_find s P (find (key_of n (c + 1)) w.0.recs) 7 _ (no 7 refl) (λ x y. cut w.0 w.1 v code (cut_valid n c w.0 v r code q)))))
+      by_find s P (find_record (key_of n 0) w.0.recs) 6 _ (no 6 refl) (λ r q.
+      by_find s P (find_record (key_of n (c + 1)) w.0.recs) 7 _ (no 7 refl) (λ x y. cut w.0 w.1 v code (cut_valid n c w.0 v r code q)))))
 
 -- a store with the fonts that it had
 abbrev Same : List ℕ → After → Type 0

@@ -22,7 +22,7 @@ use Rattle.pictures.proofs.KeptData.{whole_judged, unfinished_judged, kept_compl
 use Rattle.form.specs.Layout.{key_of, character_record, last_code, last_font, mark_record, most_store, font_record}
 use Rattle.form.specs.Num.{◌and◌}
 use Rattle.form.specs.Model.{Rec, font, character, Store, key, number, place, held_of, held_under, is_kept, is_unfinished, sorted, mark_ok, encode, total, size_of, shut, Valid}
-use Rattle.form.specs.Order.{keep, below, from, replaced, find}
+use Rattle.form.specs.Order.{keep, below, from, replaced, find_record}
 use Rattle.form.specs.Checks.{on_store, finding}
 use Rattle.store.specs.Answer.{done}
 use Rattle.store.specs.Calls.{fresh, used, closed_for, put_font, downloading_font, with_character}
@@ -57,16 +57,16 @@ from_low : (k m : ℕ) (rs old : List Rec) → Low k rs → k ≤ m → from m (
 from_low k m [] old l h = refl
 from_low k m (r ∷ rs) old l h = from_out m r (rs ++ old) (omega (arith, l.0)) ∙ from_low k m rs old l.1 h
 
-find_low : (k : ℕ) (rs old : List Rec) → Low k rs → find k (rs ++ old) ≡ find k old
+find_low : (k : ℕ) (rs old : List Rec) → Low k rs → find_record k (rs ++ old) ≡ find_record k old
 find_low k [] old l = refl
 find_low k (r ∷ rs) old l = find_other k r (rs ++ old) (λ e. omega (arith, e, l.0)) ∙ find_low k rs old l.1
 
-find_front : (k : ℕ) (rs old : List Rec) (r : Rec) → find k rs ≡ some r → find k (rs ++ old) ≡ some r
-unfolding find
+find_front : (k : ℕ) (rs old : List Rec) (r : Rec) → find_record k rs ≡ some r → find_record k (rs ++ old) ≡ some r
+unfolding find_record
 find_front k [] old r e = let z : ◌≡◌ {A = ℕ} 0 1 = cc in absurd (omega arith)
 find_front k (x ∷ rs) old r e = go (eqb (key x) k) refl (find_front k rs old r)
   where
-    go : (t : Bool) → eqb (key x) k ≡ t → (find k rs ≡ some r → find k (rs ++ old) ≡ some r) → find k (x ∷ (rs ++ old)) ≡ some r
+    go : (t : Bool) → eqb (key x) k ≡ t → (find_record k rs ≡ some r → find_record k (rs ++ old) ≡ some r) → find_record k (x ∷ (rs ++ old)) ≡ some r
     go true q f = rw q (rw q at e)
     go false q f = rw q (f (rw q at e))
 
@@ -88,7 +88,7 @@ instead k r new rs l e =
 -- ── a store of font n, with header g, and of characters below key k
 pub record Laid (n k : ℕ) (g : List ℕ) (st : Store) : Type 0 where
   pub valid : Valid st
-  pub there : find (key_of n 0) st.recs ≡ some (font n g)
+  pub there : find_record (key_of n 0) st.recs ≡ some (font n g)
   pub low : Low k st.recs
 
 -- the header's own bytes into a fresh store
@@ -156,7 +156,7 @@ last_store n c h d rs st = changed (mark_for n c h d) (rs ++ (character n c h d 
 
 module _ (n c : ℕ) (g h : List ℕ) (low : n ≤ last_font) (code : c ≤ last_code) where
   -- the store that a download leaves, where the character stands behind rs
-  module _ (d : List ℕ) (rs : List Rec) (st : Store) (v : Valid st) (there : find (key_of n 0) st.recs ≡ some (font n g)) (laid : Low (key_of n (c + 1)) rs) (front : find (key_of n 0) rs ≡ some (font n g))
+  module _ (d : List ℕ) (rs : List Rec) (st : Store) (v : Valid st) (there : find_record (key_of n 0) st.recs ≡ some (font n g)) (laid : Low (key_of n (c + 1)) rs) (front : find_record (key_of n 0) rs ≡ some (font n g))
       (is : with_character n c (character n c h d ∷ []) st.recs ≡ rs ++ (character n c h d ∷ [])) (ok : is_kept (held_under (orientation g) h d) ≡ true)
       (room : mark_record + total rs + character_record + length d ≤ st.size) where
     put_last : put_character n c h d st ≡ last_store n c h d rs st
@@ -220,7 +220,7 @@ module _ (n c : ℕ) (g h : List ℕ) (low : n ≤ last_font) (code : c ≤ last
       unfolding mark_for ◌and◌
       more_named = rw (waits, eq-eqb n n refl, eq-eqb c c refl)
 
-      more_found : find (key_of n (c + 1)) (st.recs ++ (character n c h a ∷ [])) ≡ some (character n c h a)
+      more_found : find_record (key_of n (c + 1)) (st.recs ++ (character n c h a ∷ [])) ≡ some (character n c h a)
       more_found = find_low (key_of n (c + 1)) st.recs (character n c h a ∷ []) w.low ∙ find_here (key_of n (c + 1)) (character n c h a) [] (unfold number place in refl)
 
       more_received : (s : List ℕ) → receiving_more n c (4 ∷ 1 ∷ b) s (last_store n c h a st.recs st) ≡ done (last_store n c h (a ++ b) st.recs st)

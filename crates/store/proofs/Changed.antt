@@ -10,7 +10,7 @@ use lib.Dec.{eqb}
 use Rattle.form.specs.Layout.{key_of, last_code, font_characters_at, font_record, mark_record}
 use Rattle.form.specs.Model.{Rec, font, Mark, Store, no_characters, tally_of, tally_bytes, tally_in, bytes_of, run, mark_bytes, encode, no_owner, sorted, opened, unfinished, mark_ok, size_of, total, Valid}
 use Rattle.form.specs.Num.{◌and◌}
-use Rattle.form.specs.Order.{below, from, find, replaced}
+use Rattle.form.specs.Order.{below, from, find_record, replaced}
 use Rattle.change.specs.Put.{with_bytes}
 use Rattle.change.specs.Change.{spliced_at, tally_by, recount, Recounting, recounted, unmarked_for}
 use Rattle.store.specs.Calls.{closed_for, closed_at, with_font, used, with_character, store_without_character}
@@ -125,7 +125,7 @@ uncounted n c new st = mark_bytes st.mark ++ (run (tally_of st.recs) (with_chara
 abbrev pub length_at : ℕ → ℕ → Store → ℕ
 length_at n c st = mark_record + total (below (key_of n (c + 1) + 1) st.recs) - (mark_record + total (below (key_of n (c + 1)) st.recs))
 
-module _ (n c : ℕ) (h : List ℕ) (new : List Rec) (st : Store) (v : Valid st) (b : c ≤ last_code) (f : find (key_of n 0) st.recs ≡ some (font n h)) (w : NewChar n c h new)
+module _ (n c : ℕ) (h : List ℕ) (new : List Rec) (st : Store) (v : Valid st) (b : c ≤ last_code) (f : find_record (key_of n 0) st.recs ≡ some (font n h)) (w : NewChar n c h new)
     (fits : mark_record + total (with_character n c new st.recs) ≤ st.size) where
   pub order_char : sorted 0 no_owner (with_character n c new st.recs) ≡ true
   order_char = char_replaced st.recs v.order n c h new b f w
@@ -205,5 +205,5 @@ module _ (n c : ℕ) (h : List ℕ) (new : List Rec) (st : Store) (v : Valid st)
       font_before : total (below (key_of n 0) st.recs) + font_record ≤ total (with_character n c new st.recs)
       font_before = unfold total size_of in omega (arith, ap total at_font_lem.are, total_append (below (key_of n 0) st.recs) (font n h ∷ (below (key_of n (c + 1)) (from (key_of n 0 + 1) st.recs) ++ (new ++ from (key_of n (c + 1) + 1) st.recs))))
 
-pub valid_cut : (n c : ℕ) (h : List ℕ) (st : Store) (v : Valid st) → c ≤ last_code → find (key_of n 0) st.recs ≡ some (font n h) → mark_record + total (with_character n c [] st.recs) ≤ st.size → Valid (store_without_character n c st)
+pub valid_cut : (n c : ℕ) (h : List ℕ) (st : Store) (v : Valid st) → c ≤ last_code → find_record (key_of n 0) st.recs ≡ some (font n h) → mark_record + total (with_character n c [] st.recs) ≤ st.size → Valid (store_without_character n c st)
 valid_cut n c h st v b f fits = valid_char n c h [] st v b f no_char fits (closed_at n c st.mark) (closed_at_lem n c st.mark st.recs b v.order v.marked)

@@ -22,7 +22,7 @@ use Rattle.pictures.proofs.KeptData.{complete_within, kept_complete, kept_incomp
 use Rattle.form.specs.Layout.{key_of, character_kept_at, character_record, mark_code_at, mark_font_at, mark_on_at}
 use Rattle.form.specs.Num.{◌and◌, field}
 use Rattle.form.specs.Model.{Rec, character, Owner, owner_after, no_owner, sorted, held_of, held_under, is_kept, is_unfinished, unfinished, opened, mark_ok, mark_in, key}
-use Rattle.form.specs.Order.{find}
+use Rattle.form.specs.Order.{find_record}
 use Rattle.form.specs.Checks.{on_store, checked, finding}
 use Rattle.store.specs.Answer.{After, refuse}
 use Rattle.store.specs.Download.{names, refuse_run, within_width}
@@ -39,15 +39,15 @@ use Rattle.store.proofs.Spots.{char_span, char_kept, char_bytes}
 use Rattle.store.proofs.Host.{Host, fitting}
 
 -- ── the open character
-opened_found : (k j : ℕ) (u : Owner) (rs : List Rec) → sorted j u rs ≡ true → opened k rs ≡ true → (r : Rec) × (find k rs ≡ some r) × (unfinished r ≡ true)
+opened_found : (k j : ℕ) (u : Owner) (rs : List Rec) → sorted j u rs ≡ true → opened k rs ≡ true → (r : Rec) × (find_record k rs ≡ some r) × (unfinished r ≡ true)
 unfolding opened
 opened_found k j u [] e q = let z : ◌≡◌ {A = ℕ} 0 1 = cc in absurd (omega arith)
 opened_found k j u (r ∷ rs) e q =
     let w = sorted_inv j u r rs e in
     go (eqb (key r) k) refl (unfinished r) refl q (opened_found k (key r + 1) (owner_after u r) rs w.rest) w
   where
-    go : (a : Bool) → eqb (key r) k ≡ a → (b : Bool) → unfinished r ≡ b → (a and b || opened k rs) ≡ true → (opened k rs ≡ true → (t : Rec) × (find k rs ≡ some t) × (unfinished t ≡ true)) → Sorted j u r rs
-        → (t : Rec) × (find k (r ∷ rs) ≡ some t) × (unfinished t ≡ true)
+    go : (a : Bool) → eqb (key r) k ≡ a → (b : Bool) → unfinished r ≡ b → (a and b || opened k rs) ≡ true → (opened k rs ≡ true → (t : Rec) × (find_record k rs ≡ some t) × (unfinished t ≡ true)) → Sorted j u r rs
+        → (t : Rec) × (find_record k (r ∷ rs) ≡ some t) × (unfinished t ≡ true)
     go true p true v q ih w = (r, find_here k r rs (eqb-true _ _ p), v)
     go true p false v q ih w =
         let i = ih (unfold ◌and◌ in q) in
@@ -75,13 +75,13 @@ mark_is n p s w r =
 
 -- the open character at its places
 pub record Opened (n c : ℕ) (s : List ℕ) (w : Places) (x : Host n c s w) : Type 0 where
-  pub there : find (key_of n (c + 1)) x.ready.store.recs ≡ some (character n c (kept_at s w) (data_at s w))
+  pub there : find_record (key_of n (c + 1)) x.ready.store.recs ≡ some (character n c (kept_at s w) (data_at s w))
   pub held : held_of (kept_at s w) (data_at s w) ≡ Unfinished
   pub kept : is_kept_first (kept_at s w) (orientation x.header) ≡ true
   pub span : w.to ≡ w.from + character_record + length (data_at s w)
 
 module _ (n c : ℕ) (s : List ℕ) (w : Places) (x : Host n c s w) where
-  opened_char : (h d : List ℕ) → find (key_of n (c + 1)) x.ready.store.recs ≡ some (character n c h d) → is_unfinished (held_of h d) ≡ true → Opened n c s w x
+  opened_char : (h d : List ℕ) → find_record (key_of n (c + 1)) x.ready.store.recs ≡ some (character n c h d) → is_unfinished (held_of h d) ≡ true → Opened n c s w x
   opened_char h d e q =
       let k : KeptChar n c s w = record { ready = x.ready; low = x.low; code = x.code; header = x.header; font_there = x.font_in; kept = h; bytes = d; there = e } in
       let sp : w.to ≡ w.from + character_record + length d = char_span n c s w k in

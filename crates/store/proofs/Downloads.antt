@@ -14,7 +14,7 @@ use Rattle.pictures.specs.Size.{data_limit}
 use Rattle.form.specs.Layout.{key_of, character_record, last_code, last_font, mark_record}
 use Rattle.form.specs.Num.{◌and◌, low_first, Bytes}
 use Rattle.form.specs.Model.{Rec, font, character, owner_after, no_owner, tally_of, character_bytes, bytes_of, run, mark_bytes, encode, allowed, held_of, held_under, is_kept, is_unfinished, unfinished, opened, mark_ok, number, place, size_of, total, shut}
-use Rattle.form.specs.Order.{below, from, find}
+use Rattle.form.specs.Order.{below, from, find_record}
 use Rattle.change.specs.Put.{with_bytes}
 use Rattle.change.specs.Change.{spliced_at, Recounting, recounted, remarked, unmarked_for}
 use Rattle.form.specs.Checks.{on_store}
@@ -77,7 +77,7 @@ pub record Space (n c : ℕ) (h d s : List ℕ) (w : Places) : Type 0 where
   pub low : n ≤ last_font
   pub code : c ≤ last_code
   pub header : List ℕ
-  pub font_in : find (key_of n 0) ready.store.recs ≡ some (font n header)
+  pub font_in : find_record (key_of n 0) ready.store.recs ≡ some (font n header)
   pub ok : allowed (owner_after no_owner (font n header)) (character n c h d) ≡ true
 
 pub space : (n c : ℕ) (h d s : List ℕ) (w : Places) → Bytes s → Fitting n c h d s w → Space n c h d s w
@@ -170,7 +170,7 @@ module _ (n c : ℕ) (t s : List ℕ) (w : Places) (B : Bytes s) (g : Growing n 
   grow_same : g.fits.arrives.stands.store ≡ growing.ready.store
   grow_same = same_store s g.fits.arrives.stands.is growing.ready.is
 
-  grow_there : find (key_of n (c + 1)) growing.ready.store.recs ≡ some (character n c (kept_at s w) (data_at s w))
+  grow_there : find_record (key_of n (c + 1)) growing.ready.store.recs ≡ some (character n c (kept_at s w) (data_at s w))
   grow_there = rw grow_same at g.there
 
   abbrev grow_char : KeptChar n c s w

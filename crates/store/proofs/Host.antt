@@ -11,7 +11,7 @@ use Rattle.blocks.specs.Header.{orientation, header_bytes, orientation_at}
 use Rattle.form.specs.Layout.{key_of, font_kept_at, font_orientation_at, font_record, last_code, last_font}
 use Rattle.form.specs.Num.{Bytes}
 use Rattle.form.specs.Model.{font, held_under, is_kept}
-use Rattle.form.specs.Order.{find}
+use Rattle.form.specs.Order.{find_record}
 use Rattle.form.specs.Walk.{Stands, Arriving, Fitting, font_orientation}
 use Rattle.form.specs.declared.walk.Places.{Places}
 use Rattle.form.proofs.Ready.{Ready, standing, font_there, same_store}
@@ -23,7 +23,7 @@ pub record Host (n c : ℕ) (s : List ℕ) (w : Places) : Type 0 where
   pub low : n ≤ last_font
   pub code : c ≤ last_code
   pub header : List ℕ
-  pub font_in : find (key_of n 0) ready.store.recs ≡ some (font n header)
+  pub font_in : find_record (key_of n 0) ready.store.recs ≡ some (font n header)
 
 pub host : (n c : ℕ) (s : List ℕ) (w : Places) → Bytes s → Arriving n c s w → Host n c s w
 host n c s w B a =

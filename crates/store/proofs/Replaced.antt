@@ -12,7 +12,7 @@ use Rattle.blocks.specs.Header.{is_kept_header}
 use Rattle.form.specs.Layout.{key_of, last_code, last_font, keys_each}
 use Rattle.form.specs.Num.{◌and◌}
 use Rattle.form.specs.Model.{Rec, font, character, Owner, owner_after, no_owner, allowed, sorted, number, place, key, unfinished, opened}
-use Rattle.form.specs.Order.{keep, below, from, find, replaced, after}
+use Rattle.form.specs.Order.{keep, below, from, find_record, replaced, after}
 use Rattle.form.proofs.Numbers.{both}
 use Rattle.form.proofs.Codec.{Sorted, sorted_inv, sorted_cons}
 use Rattle.form.proofs.Order.{below_in, below_out, Side, before, behind, side, split_at, weaken, sorted_from, sorted_behind, sorted_anywhere, after_low}
@@ -58,7 +58,7 @@ module _ (rs : List Rec) (e : sorted 0 no_owner rs ≡ true) where
   char_new n c h new (new_char k d a) s =
       sorted_cons (key_of n (c + 1)) (owner_after no_owner (font n h)) (character n c k d) (from (key_of n (c + 1) + 1) rs) (record { ok = a; least = omega arith; rest = s })
 
-  pub char_replaced : (n c : ℕ) (h : List ℕ) (new : List Rec) → c ≤ last_code → find (key_of n 0) rs ≡ some (font n h) → NewChar n c h new
+  pub char_replaced : (n c : ℕ) (h : List ℕ) (new : List Rec) → c ≤ last_code → find_record (key_of n 0) rs ≡ some (font n h) → NewChar n c h new
       → sorted 0 no_owner (replaced (key_of n (c + 1)) (key_of n (c + 1) + 1) new rs) ≡ true
   char_replaced n c h new l f w =
       let lo = key_of n (c + 1) in

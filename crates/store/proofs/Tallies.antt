@@ -13,7 +13,7 @@ use borrow.Author.Tests.{eq-eqb, ne_eqb, leb-true, ltb-true}
 use Rattle.form.specs.Layout.{key_of, font_characters_at, font_kind, font_record, character_record, last_code, mark_record}
 use Rattle.form.specs.Num.{◌and◌, low_first}
 use Rattle.form.specs.Model.{Rec, font, character, Owner, owner_after, no_owner, sorted, number, place, key, no_characters, one_more, tally_of, tally_bytes, tally_in, font_head, bytes_of, run, size_of, total}
-use Rattle.form.specs.Order.{keep, below, from, find, replaced, after}
+use Rattle.form.specs.Order.{keep, below, from, find_record, replaced, after}
 use Rattle.store.specs.Calls.{characters_of, with_character}
 use Rattle.change.specs.Put.{with_bytes}
 use Rattle.change.specs.Change.{tally_by, recount}
@@ -230,7 +230,7 @@ pub record Gone (n k : ℕ) (rs : List Rec) : Type 0 where
 
 pub gone : (n c : ℕ) (rs : List Rec) → sorted 0 no_owner rs ≡ true → c ≤ last_code → Gone n (key_of n (c + 1)) rs
 unfolding total
-gone n c rs o l = go (find (key_of n (c + 1)) rs) refl
+gone n c rs o l = go (find_record (key_of n (c + 1)) rs) refl
   where
     k : ℕ
     k = key_of n (c + 1)
@@ -238,7 +238,7 @@ gone n c rs o l = go (find (key_of n (c + 1)) rs) refl
     here : (h d : List ℕ) → from (key_of n (c + 1)) rs ≡ character n c h d ∷ from (key_of n (c + 1) + 1) rs → total (below (key_of n (c + 1) + 1) rs) ≡ total (below (key_of n (c + 1)) rs) + size_of (character n c h d) → Gone n (key_of n (c + 1)) rs
     here h d a b = record { recs = character n c h d ∷ []; are = a; one = char_one n c h d; size = omega (arith, b) }
 
-    go : (x : Option Rec) → find (key_of n (c + 1)) rs ≡ x → Gone n (key_of n (c + 1)) rs
+    go : (x : Option Rec) → find_record (key_of n (c + 1)) rs ≡ x → Gone n (key_of n (c + 1)) rs
     go none q = let m = missing (key_of n (c + 1)) 0 no_owner rs o q in record { recs = []; are = m.0; one = none_one n; size = omega (arith, ap total m.1) }
     go (some r) q =
         let f = found (key_of n (c + 1)) 0 no_owner r rs o q in
@@ -275,7 +275,7 @@ module _ (n c : ℕ) (h : List ℕ) (new rs : List Rec) (o : sorted 0 no_owner r
       ∙ rw (p, q) (sym (ap (recount (total mid) (total new)) (char_before n ∙ ap (λ (t : Tally). plus A (plus t B)) (gone n c rs o l).one.adds)))
 
   -- the font stands in the records afterwards as before
-  pub char_apart : find (key_of n 0) rs ≡ some (font n h) → Apart n h (with_character n c new rs) (below (key_of n 0) rs) (below (key_of n (c + 1)) (from (key_of n 0 + 1) rs) ++ (new ++ from (key_of n (c + 1) + 1) rs))
+  pub char_apart : find_record (key_of n 0) rs ≡ some (font n h) → Apart n h (with_character n c new rs) (below (key_of n 0) rs) (below (key_of n (c + 1)) (from (key_of n 0 + 1) rs) ++ (new ++ from (key_of n (c + 1) + 1) rs))
   unfolding number place
   char_apart f =
       let j = key_of n 0 in

@@ -14,7 +14,7 @@ use Rattle.blocks.proofs.KeptHeader.{is_kept_length as header_length_lem}
 use Rattle.form.specs.Layout.{font_record, key_of, mark_record}
 use Rattle.form.specs.Model.{Rec, font, character, Store, Owner, number, place, key, owner_after, no_owner, sorted, held_of, held_under, is_kept, allowed, encode, decode, total, size_of, Valid}
 use Rattle.form.specs.Checks.{on_store}
-use Rattle.form.specs.Order.{keep, below, from, after, find}
+use Rattle.form.specs.Order.{keep, below, from, after, find_record}
 use Rattle.form.specs.Records.{records_of}
 use Rattle.store.specs.Calls.{fresh}
 use Rattle.store.proofs.Holds.{valid_decode}
@@ -80,7 +80,7 @@ pub record Kept (n : ℕ) (g : List ℕ) (rs : List Rec) : Type 0 where
   pub are : records_of n rs ≡ font n g ∷ rest
   pub chars : Chars n g (key_of n 0 + 1) rest
 
-pub kept_of_lem : (n : ℕ) (g : List ℕ) (rs : List Rec) → sorted 0 no_owner rs ≡ true → find (key_of n 0) rs ≡ some (font n g) → Kept n g rs
+pub kept_of_lem : (n : ℕ) (g : List ℕ) (rs : List Rec) → sorted 0 no_owner rs ≡ true → find_record (key_of n 0) rs ≡ some (font n g) → Kept n g rs
 unfolding number place owner_after
 kept_of_lem n g rs o f =
     let x = found (key_of n 0) 0 no_owner (font n g) rs o f in

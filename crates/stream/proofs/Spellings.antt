@@ -10,7 +10,7 @@ use lib.ListN.{length, take, drop, set, length-append}
 use lib.Seq.{append_snoc, get_or-append_seam, get_or-append-add, drop-append_seam, drop-append-add, take-append_seam}
 use Rattle.stream.specs.Command.{stream_byte, is_digit, number_of, starts_with, number_command, is_block, block_of, command, moved_by, command_at}
 use Rattle.change.specs.Put.{with_bytes}
-use Rattle.stream.specs.Digits.{decimal}
+use Rattle.stream.specs.Digits.{decimal_of}
 use Rattle.stream.specs.Writing.{spelling, set_font, set_code, font_block_head, font_block_command, character_block_head, character_block_command}
 use Rattle.stream.specs.declared.command.Command.{Command}
 use Rattle.stream.specs.declared.command.Command.TheVariants.{SetFont, SetCode, FontBlock, CharacterBlock}
@@ -18,9 +18,9 @@ use Rattle.stream.proofs.Commands.{command_seam}
 use Rattle.stream.proofs.Decimals.{decimal_some, decimal_spells, decimal_read}
 use Rattle.stream.proofs.Putting.{length_put, put_byte, put_joined}
 
-pub length_spelling : (a b n l : ℕ) → length (spelling a b n l) ≡ 4 + length (decimal n)
+pub length_spelling : (a b n l : ℕ) → length (spelling a b n l) ≡ 4 + length (decimal_of n)
 unfolding spelling
-length_spelling a b n l = let e = length-append (decimal n) (l ∷ []) in omega arith
+length_spelling a b n l = let e = length-append (decimal_of n) (l ∷ []) in omega arith
 
 -- ---- as it is written
 put_last : (s a : List ℕ) (at x : ℕ) → at + length a < length s → set (with_bytes s at a) (at + length a) x ≡ with_bytes s at (a ++ (x ∷ []))
@@ -29,16 +29,16 @@ put_last s a at x h =
     put_byte (with_bytes s at a) (at + length a) x l ∙ put_joined s a (x ∷ []) at (omega arith)
 
 pub spelling_put : (s : List ℕ) (at a b n l : ℕ) (out : List ℕ) (end : ℕ) → at + length (spelling a b n l) ≤ length s
-    → out ≡ with_bytes (set (set (set s at 27) (at + 1) a) (at + 2) b) (at + 3) (decimal n) → end ≡ at + 3 + length (decimal n)
+    → out ≡ with_bytes (set (set (set s at 27) (at + 1) a) (at + 2) b) (at + 3) (decimal_of n) → end ≡ at + 3 + length (decimal_of n)
     → set out end l ≡ with_bytes s at (spelling a b n l)
 unfolding spelling
 spelling_put s at a b n l out end h e q =
-    let k = length-append (decimal n) (l ∷ []) in
+    let k = length-append (decimal_of n) (l ∷ []) in
     let three : set (set (set s at 27) (at + 1) a) (at + 2) b ≡ with_bytes s at (27 ∷ a ∷ b ∷ []) =
     rw (put_byte s at 27 (omega arith), put_last s (27 ∷ []) at a (omega arith)) (put_last s (27 ∷ a ∷ []) at b (omega arith)) in
-    let all : out ≡ with_bytes s at (27 ∷ a ∷ b ∷ decimal n) = e ∙ rw three (put_joined s (27 ∷ a ∷ b ∷ []) (decimal n) at (omega arith)) in
-    let r : end ≡ at + length (27 ∷ a ∷ b ∷ decimal n) = omega arith in
-    rw (all, r) (put_last s (27 ∷ a ∷ b ∷ decimal n) at l (omega arith))
+    let all : out ≡ with_bytes s at (27 ∷ a ∷ b ∷ decimal_of n) = e ∙ rw three (put_joined s (27 ∷ a ∷ b ∷ []) (decimal_of n) at (omega arith)) in
+    let r : end ≡ at + length (27 ∷ a ∷ b ∷ decimal_of n) = omega arith in
+    rw (all, r) (put_last s (27 ∷ a ∷ b ∷ decimal_of n) at l (omega arith))
 
 -- a head, and the block behind it
 pub block_put : (s head b out last : List ℕ) (at from end : ℕ) → at + length (head ++ b) ≤ length s → from ≡ at + length head → out ≡ with_bytes s at head
@@ -49,17 +49,17 @@ block_put s head b out last at from end h p q r e =
 
 -- ---- as it is read
 module _ (a b n l : ℕ) (rest : List ℕ) where
-  spelling_front : spelling a b n l ++ rest ≡ 27 ∷ a ∷ b ∷ (decimal n ++ (l ∷ rest))
+  spelling_front : spelling a b n l ++ rest ≡ 27 ∷ a ∷ b ∷ (decimal_of n ++ (l ∷ rest))
   unfolding spelling
-  spelling_front = rw (append_snoc (decimal n) l rest)
+  spelling_front = rw (append_snoc (decimal_of n) l rest)
 
   spelling_number : n < 100000 → is_digit l ≡ false
-      → number_of (spelling a b n l ++ rest) ≡ record { value = n; next = 3 + length (decimal n) }
+      → number_of (spelling a b n l ++ rest) ≡ record { value = n; next = 3 + length (decimal_of n) }
   unfolding number_of
   spelling_number h e = rw (spelling_front, decimal_read n l rest h e, decimal_spells n)
 
-  spelling_letter : stream_byte (spelling a b n l ++ rest) (3 + length (decimal n)) ≡ l
-  spelling_letter = rw spelling_front (get_or-append-add (27 ∷ a ∷ b ∷ []) (decimal n ++ (l ∷ rest)) (length (decimal n)) 0 ∙ get_or-append_seam (decimal n) l rest 0)
+  spelling_letter : stream_byte (spelling a b n l ++ rest) (3 + length (decimal_of n)) ≡ l
+  spelling_letter = rw spelling_front (get_or-append-add (27 ∷ a ∷ b ∷ []) (decimal_of n ++ (l ∷ rest)) (length (decimal_of n)) 0 ∙ get_or-append_seam (decimal_of n) l rest 0)
 
   spelling_begins : (c d : ℕ) → starts_with (spelling a b n l ++ rest) c d ≡ starts_with (27 ∷ a ∷ b ∷ []) c d
   unfolding starts_with
@@ -69,26 +69,26 @@ module _ (a b n l : ℕ) (rest : List ℕ) where
   spelling_there = ne_eqb (length (spelling a b n l ++ rest)) 0 (λ e. omega (arith, e, length-append (spelling a b n l) rest, length_spelling a b n l))
 
 numbered_read : (n l : ℕ) (rest : List ℕ) → n < 100000 → is_digit l ≡ false
-    → command (spelling 42 99 n l ++ rest) ≡ number_command (spelling 42 99 n l ++ rest) (record { value = n; next = 3 + length (decimal n) })
+    → command (spelling 42 99 n l ++ rest) ≡ number_command (spelling 42 99 n l ++ rest) (record { value = n; next = 3 + length (decimal_of n) })
 unfolding command starts_with
 numbered_read n l rest h e = rw (spelling_there 42 99 n l rest, spelling_begins 42 99 n l rest 42 99, spelling_number 42 99 n l rest h e)
 
 -- a number has a digit
-has_digit_lem : (n : ℕ) → leb 4 (3 + length (decimal n)) ≡ true
-has_digit_lem n = le-leb 4 (3 + length (decimal n)) (omega (arith, decimal_some n))
+has_digit_lem : (n : ℕ) → leb 4 (3 + length (decimal_of n)) ≡ true
+has_digit_lem n = le-leb 4 (3 + length (decimal_of n)) (omega (arith, decimal_some n))
 
 pub set_font_read : (pre rest : List ℕ) (n : ℕ) → n < 100000
     → command_at (pre ++ (set_font n ++ rest)) (length pre) ≡ SetFont n (length pre + length (set_font n))
 unfolding set_font number_command moved_by
 set_font_read pre rest n h =
-    let k : length (spelling 42 99 n 68) ≡ 3 + length (decimal n) + 1 = omega (arith, length_spelling 42 99 n 68) in
+    let k : length (spelling 42 99 n 68) ≡ 3 + length (decimal_of n) + 1 = omega (arith, length_spelling 42 99 n 68) in
     command_seam pre (set_font n ++ rest) ∙ rw (numbered_read n 68 rest h refl, has_digit_lem n, spelling_letter 42 99 n 68 rest, k)
 
 pub set_code_read : (pre rest : List ℕ) (n : ℕ) → n < 100000
     → command_at (pre ++ (set_code n ++ rest)) (length pre) ≡ SetCode n (length pre + length (set_code n))
 unfolding set_code number_command moved_by
 set_code_read pre rest n h =
-    let k : length (spelling 42 99 n 69) ≡ 3 + length (decimal n) + 1 = omega (arith, length_spelling 42 99 n 69) in
+    let k : length (spelling 42 99 n 69) ≡ 3 + length (decimal_of n) + 1 = omega (arith, length_spelling 42 99 n 69) in
     command_seam pre (set_code n ++ rest) ∙ rw (numbered_read n 69 rest h refl, has_digit_lem n, spelling_letter 42 99 n 69 rest, k)
 
 -- a W and its block, of a font or of a character
@@ -99,7 +99,7 @@ unfolding block_of is_block
 block_read block a b rest h =
     let n = length b in
     let w = spelling a 115 n 87 in
-    let k : 3 + length (decimal n) + 1 ≡ length w = omega (arith, length_spelling a 115 n 87) in
+    let k : 3 + length (decimal_of n) + 1 ≡ length w = omega (arith, length_spelling a 115 n 87) in
     let whole : leb (length w + n) (length (w ++ (b ++ rest))) ≡ true =
     le-leb (length w + n) (length (w ++ (b ++ rest))) (simp length-append (omega arith)) in
     rw (append_assoc w b rest, spelling_number a 115 n 87 (b ++ rest) (omega arith) refl, has_digit_lem n, spelling_letter a 115 n 87 (b ++ rest), k, le-leb n 32767 h, whole, length-append w b)

@@ -17,7 +17,7 @@ use Rattle.store.specs.Calls.{onto}
 use Rattle.form.specs.declared.walk.Places.{Places}
 use Rattle.form.proofs.Seeks.{KeptFont, font_call}
 use Rattle.form.proofs.FontRecords.{between_none, between_next, font_records}
-use Rattle.stream.specs.Digits.{decimal}
+use Rattle.stream.specs.Digits.{decimal_of}
 use Rattle.change.specs.Put.{with_bytes}
 use Rattle.stream.specs.Writing.{spelling, set_font, set_code, font_block_head, font_block_command, character_block_head, character_block_command}
 use Rattle.stream.specs.Written.{first_data, continues, continuation, written_record, written_run, written, WriteOut, unwritten, writing_bytes, writing_font}
@@ -26,24 +26,24 @@ use Rattle.stream.proofs.Putting.{length_put, put_none, put_byte, put_joined}
 use Rattle.stream.proofs.Spellings.{length_spelling, block_put}
 
 -- ── lengths
-length_set_font : (n : ℕ) → length (set_font n) ≡ 4 + length (decimal n)
+length_set_font : (n : ℕ) → length (set_font n) ≡ 4 + length (decimal_of n)
 unfolding set_font
 length_set_font n = length_spelling 42 99 n 68
 
-length_set_code : (n : ℕ) → length (set_code n) ≡ 4 + length (decimal n)
+length_set_code : (n : ℕ) → length (set_code n) ≡ 4 + length (decimal_of n)
 unfolding set_code
 length_set_code n = length_spelling 42 99 n 69
 
-length_font_block : (b : List ℕ) → length (font_block_command b) ≡ 4 + length (decimal (length b)) + length b
+length_font_block : (b : List ℕ) → length (font_block_command b) ≡ 4 + length (decimal_of (length b)) + length b
 unfolding font_block_command font_block_head
 length_font_block b = omega (arith, length-append (spelling 41 115 (length b) 87) b, length_spelling 41 115 (length b) 87)
 
-length_block : (b : List ℕ) → length (character_block_command b) ≡ 4 + length (decimal (length b)) + length b
+length_block : (b : List ℕ) → length (character_block_command b) ≡ 4 + length (decimal_of (length b)) + length b
 unfolding character_block_command character_block_head
 length_block b = omega (arith, length-append (spelling 40 115 (length b) 87) b, length_spelling 40 115 (length b) 87)
 
-same_digits : (a b : ℕ) → a ≡ b → length (decimal a) ≡ length (decimal b)
-same_digits a b e = ap (λ (k : ℕ). length (decimal k)) e
+same_digits : (a b : ℕ) → a ≡ b → length (decimal_of a) ≡ length (decimal_of b)
+same_digits a b e = ap (λ (k : ℕ). length (decimal_of k)) e
 
 -- ── two parts, one behind the other
 joined_room : (w a b : List ℕ) (at n : ℕ) → w ≡ a ++ b → at + length w ≤ n → (at + length a ≤ n) × (at + length a + length b ≤ n)
@@ -70,10 +70,10 @@ pub blocks_room : (b : List ℕ) (to n : ℕ) → block_limit < length b → to 
 blocks_room b to n l h =
     joined_room (blocks b) (character_block_command (take block_limit b)) (character_block_command (character_format ∷ continues ∷ take (length b - block_limit) (drop block_limit b))) to n (blocks_two b l) h
 
-pub one_length : (b : List ℕ) (n x : ℕ) → length b ≡ n → n ≤ block_limit → x ≡ 4 + length (decimal n) → x + n ≡ length (blocks b)
+pub one_length : (b : List ℕ) (n x : ℕ) → length b ≡ n → n ≤ block_limit → x ≡ 4 + length (decimal_of n) → x + n ≡ length (blocks b)
 one_length b n x e h p = omega (arith, ap length (blocks_one b (omega arith)), length_block b, same_digits (length b) n e)
 
-pub two_length : (b : List ℕ) (n x y : ℕ) → length b ≡ n → block_limit < n → x ≡ 4 + length (decimal block_limit) → y ≡ 4 + length (decimal (n - block_limit + 2))
+pub two_length : (b : List ℕ) (n x y : ℕ) → length b ≡ n → block_limit < n → x ≡ 4 + length (decimal_of block_limit) → y ≡ 4 + length (decimal_of (n - block_limit + 2))
     → x + block_limit + (y + (n - block_limit + 2)) ≡ length (blocks b)
 two_length b n x y e h p q =
     let f = take block_limit b in
@@ -148,7 +148,7 @@ font_parts_room n to k h = joined_room (written_record (font n h)) (set_font n) 
 pub character_parts_room : (c to k : ℕ) (b : List ℕ) → to + length (written_character c b) ≤ k → (to + length (set_code c) ≤ k) × (to + length (set_code c) + length (blocks b) ≤ k)
 character_parts_room c to k b = joined_room (written_character c b) (set_code c) (blocks b) to k (character_parts c b)
 
-pub font_length : (n x y k : ℕ) (h : List ℕ) → length h ≡ header_bytes → k ≡ own_bytes h → x ≡ 4 + length (decimal n) → y ≡ 4 + length (decimal k) → x + (y + k) ≡ length (written_record (font n h))
+pub font_length : (n x y k : ℕ) (h : List ℕ) → length h ≡ header_bytes → k ≡ own_bytes h → x ≡ 4 + length (decimal_of n) → y ≡ 4 + length (decimal_of k) → x + (y + k) ≡ length (written_record (font n h))
 font_length n x y k h e o p q =
     let l : length (own_header h) ≡ k = own_length h (omega arith) ∙ sym o in
     omega (arith, ap length (font_parts n h), length-append (set_font n) (font_block_command (own_header h)), length_set_font n, length_font_block (own_header h), same_digits (length (own_header h)) k l)
@@ -157,7 +157,7 @@ pub font_fits : (n x : ℕ) (h : List ℕ) → x ≤ header_bytes + 18 → x ≤
 unfolding size_of
 font_fits n x h l = omega arith
 
-pub character_length_lem : (c x y : ℕ) (b : List ℕ) → x ≡ 4 + length (decimal c) → y ≡ length (blocks b) → x + y ≡ length (written_character c b)
+pub character_length_lem : (c x y : ℕ) (b : List ℕ) → x ≡ 4 + length (decimal_of c) → y ≡ length (blocks b) → x + y ≡ length (written_character c b)
 character_length_lem c x y b p q = omega (arith, ap length (character_parts c b), length-append (set_code c) (blocks b), length_set_code c)
 
 -- ── what is met at a place of the run

@@ -7,5 +7,5 @@ decimal_in zero n = []
 decimal_in (suc k) n = cond (ltb n 10) ((48 + n) ∷ []) (decimal_in k (n / 10) ++ ((48 + n % 10) ∷ []))
 
 -- no number has more digits than one more than itself; the law `decimal_spells` says that its digits spell it
-unfoldable pub decimal : ℕ → List ℕ
-decimal n = decimal_in (suc n) n
+unfoldable pub decimal_of : ℕ → List ℕ
+decimal_of n = decimal_in (suc n) n

@@ -1,10 +1,10 @@
 -- Document 01, "The stream": the bytes of the commands as they are written.
 use Rattle.std.specs.Prelude.{ℕ, List, [], ◌∷◌, ◌++◌, length}
-use Rattle.stream.specs.Digits.{decimal}
+use Rattle.stream.specs.Digits.{decimal_of}
 
 -- ESC, two bytes, a number and a letter
 unfoldable pub spelling : ℕ → ℕ → ℕ → ℕ → List ℕ
-spelling second third n letter = 27 ∷ second ∷ third ∷ (decimal n ++ (letter ∷ []))
+spelling second third n letter = 27 ∷ second ∷ third ∷ (decimal_of n ++ (letter ∷ []))
 
 -- "ESC *c#D (font number)"
 unfoldable pub set_font : ℕ → List ℕ

@@ -4,7 +4,7 @@ ghost use Rattle.blocks.specs.Header.{header_bytes};
 ghost use Rattle.form.specs.Layout.{most_store, last_font, last_code};
 ghost use Rattle.form.specs.Model.{Rec, font, size_of};
 ghost use Rattle.form.specs.Records.{records_at, RecordPlace, MetAt, Between};
-ghost use Rattle.stream.specs.Digits.{decimal};
+ghost use Rattle.stream.specs.Digits.{decimal_of};
 ghost use Rattle.change.specs.Put.{with_bytes};
 ghost use Rattle.stream.specs.Writing.{character_block_command};
 ghost use Rattle.blocks.specs.Character.{character_format};
@@ -61,7 +61,7 @@ const COMMAND_BYTES: usize = 4;
 // The length of a command with this number.
 fn command_length(n: usize) -> usize
     requires { n < 100000 }
-    ensures { (result ≡ 4 + length (decimal n)) × (result ≤ 9) }
+    ensures { (result ≡ 4 + length (decimal_of n)) × (result ≤ 9) }
 {
     COMMAND_BYTES + digit_count(n)
 }

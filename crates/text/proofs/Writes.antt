@@ -6,7 +6,7 @@ use native.Mathlib.Omega.{arith}
 use lib.ListN.{length, set, length-append}
 use lib.Seq.{length-take-le}
 use Rattle.std.specs.Counts.{IsPrefixLen}
-use Rattle.stream.specs.Digits.{decimal}
+use Rattle.stream.specs.Digits.{decimal_of}
 use Rattle.change.specs.Put.{with_bytes}
 use Rattle.stream.proofs.Decimals.{tens, decimal_short}
 use Rattle.stream.proofs.Putting.{length_put, put_none, put_byte, put_joined}
@@ -45,19 +45,19 @@ wrote_then s a b out last at from end w v =
     }
 
 -- ── columns
-pub column_length : (n x : ℕ) → length (column n x) ≡ length (decimal n) + 1
+pub column_length : (n x : ℕ) → length (column n x) ≡ length (decimal_of n) + 1
 unfolding column
-column_length n x = length-append (decimal n) (x ∷ [])
+column_length n x = length-append (decimal_of n) (x ∷ [])
 
 -- k + 1 digits, and the byte after them
 pub column_short : (k n x : ℕ) → n < tens k * 10 → length (column n x) ≤ k + 2
 column_short k n x h = omega (arith, column_length n x, decimal_short k n h)
 
-pub wrote_column : (s out : List ℕ) (at n x end : ℕ) → at + length (column n x) ≤ length s → end ≡ at + length (decimal n) → out ≡ with_bytes s at (decimal n)
+pub wrote_column : (s out : List ℕ) (at n x end : ℕ) → at + length (column n x) ≤ length s → end ≡ at + length (decimal_of n) → out ≡ with_bytes s at (decimal_of n)
     → Wrote s at (column n x) (end + 1) (set out end x)
 unfolding column
 wrote_column s out at n x end h e p =
     let d = column_length n x in
-    let w = wrote_put s (decimal n) out at end (omega (arith, d)) e p in
-    let l : length out ≡ length s = ap length p ∙ length_put s (decimal n) at (omega (arith, d)) in
-    wrote_then s (decimal n) (x ∷ []) out (set out end x) at end (end + 1) w (wrote_byte out end x (omega (arith, d)))
+    let w = wrote_put s (decimal_of n) out at end (omega (arith, d)) e p in
+    let l : length out ≡ length s = ap length p ∙ length_put s (decimal_of n) at (omega (arith, d)) in
+    wrote_then s (decimal_of n) (x ∷ []) out (set out end x) at end (end + 1) w (wrote_byte out end x (omega (arith, d)))

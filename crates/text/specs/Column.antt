@@ -1,6 +1,6 @@
 -- A number in a line, with the byte after it.
 use Rattle.std.specs.Prelude.{ℕ, List, [], ◌∷◌, ◌++◌}
-use Rattle.stream.specs.Digits.{decimal}
+use Rattle.stream.specs.Digits.{decimal_of}
 
 -- ' ' and the end of a line
 abbrev pub space : ℕ
@@ -14,4 +14,4 @@ abbrev pub number_room : ℕ
 number_room = 21
 
 unfoldable pub column : ℕ → ℕ → List ℕ
-column n after = decimal n ++ (after ∷ [])
+column n after = decimal_of n ++ (after ∷ [])

@@ -4,11 +4,10 @@ use Rattle.choice.proofs.Asked.{weights}
 use Rattle.choice.proofs.weight_of.Goals as goal
 
 pub returns : goal.returns
-returns c =
-    (
-      λ p n.
-          c.weight_number.ensures.0
-          ∙ weights c.args.r c.requires.1 c.raised_request.ensures.1 c.raised_request.result c.raised_request.ensures.0
-          (record { soft = p; number = n; kept = c.args.f.now }) ((c.kept_byte.result + 128) % 256) (ap raised c.kept_byte.ensures.0),
-      c.weight_number.ensures.1,
-    )
+returns c = (
+  λ p n.
+      c.weight_number.ensures.0
+      ∙ weights c.args.r c.requires.1 c.raised_request.ensures.1 c.raised_request.result c.raised_request.ensures.0
+      (record { soft = p; number = n; kept = c.args.f.now }) ((c.kept_byte.result + 128) % 256) (ap raised c.kept_byte.ensures.0),
+  c.weight_number.ensures.1,
+)

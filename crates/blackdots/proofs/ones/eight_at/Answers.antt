@@ -5,8 +5,7 @@ use borrow.Author.Rules.{rules}
 use Rattle.blackdots.proofs.ones.eight_at.Goals as goal
 
 pub returns : goal.returns
-returns c =
-    (
-      ones_joined 32 4 c.four_at.result c.four_at-2.result c.args.at c.args.b.now c.four_at.ensures.0 c.four_at-2.ensures.0 c.four_at.ensures.1,
-      omega (arith, c.four_at.ensures.1, c.four_at-2.ensures.1),
-    )
+returns c = (
+  ones_joined 32 4 c.four_at.result c.four_at-2.result c.args.at c.args.b.now c.four_at.ensures.0 c.four_at-2.ensures.0 c.four_at.ensures.1,
+  omega (arith, c.four_at.ensures.1, c.four_at-2.ensures.1),
+)

@@ -15,12 +15,11 @@ pub overflow_add-n : goal.overflow_add-n
 overflow_add-n c = record { fits = omega (arith, ones-le 64 c.eight_at.result c.eight_at.ensures.1) }
 
 pub loop-i-preserved : goal.loop-i-preserved
-loop-i-preserved c =
-    (
-      omega arith,
-      omega (arith, ones-le 64 c.eight_at.result c.eight_at.ensures.1),
-      ones_next 8 c.loop-i.n _ c.loop-i.i c.eight_at.result c.args.b.now c.loop-i.invariant.2 c.eight_at.ensures.0,
-    )
+loop-i-preserved c = (
+  omega arith,
+  omega (arith, ones-le 64 c.eight_at.result c.eight_at.ensures.1),
+  ones_next 8 c.loop-i.n _ c.loop-i.i c.eight_at.result c.args.b.now c.loop-i.invariant.2 c.eight_at.ensures.0,
+)
 
 pub last_seven-requires : goal.last_seven-requires
 last_seven-requires c = (c.loop-i.invariant.0, omega (arith, c.loop-i-test.false))

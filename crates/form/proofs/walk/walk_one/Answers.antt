@@ -16,7 +16,7 @@ pass-requires c =
     let a = c.args in
     let i = c.in-Rec.i in
     let e : head_of (standing a.p) (drop a.p.at a.s.now) ≡ HeadRec i = sym c.look.ensures ∙ c.in-Rec.is in
-    let k = looked_item (standing a.p) (drop a.p.at a.s.now) i e in record { font_le_last_font = (k.0, k.1, omega (arith, k.3, length-drop a.p.at a.s.now, c.requires.0), within_more _ most_store a.p c.requires.1 c.requires.0); character_record_le_len = λ f. k.2; }
+    let k = looked_item (standing a.p) (drop a.p.at a.s.now) i e in record { font_le_last_font = (k.0, k.1, omega (arith, k.3, length-drop a.p.at a.s.now, c.requires.0), within_more _ most_store a.p c.requires.1 c.requires.0); character_record_le_len = λ f. k.2 }
 
 pub returns-then-same_tally-zeros : goal.returns-then-same_tally-zeros
 unfolding walk_after Ahead

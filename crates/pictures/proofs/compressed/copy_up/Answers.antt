@@ -9,10 +9,10 @@ loop-i-init c = (search rules, refl, paste-zero c.args.out.now c.args.to c.args.
 pub loop-i-preserved : goal.loop-i-preserved
 loop-i-preserved c =
     let a = c.args in (
-  search rules,
-  simp length-set c.loop-i.invariant.1,
-  rw c.loop-i.invariant.2 (copy_more a.out.now a.to a.n c.loop-i.i (omega arith) (omega arith) (omega arith)),
-)
+      search rules,
+      simp length-set c.loop-i.invariant.1,
+      rw c.loop-i.invariant.2 (copy_more a.out.now a.to a.n c.loop-i.i (omega arith) (omega arith) (omega arith)),
+    )
 
 pub returns : goal.returns
 returns c =

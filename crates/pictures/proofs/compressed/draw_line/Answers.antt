@@ -19,13 +19,13 @@ pub returns-then-width-end : goal.returns-then-width-end
 unfolding line_from
 returns-then-width-end c =
     let i = c.loop-at.invariant.1 in
-    let q = sym (line_over _ _ _ _ _ c.loop-at-test.true _ i.1 c.if-width-end.true) ∙ i.3 in record { value = ap line_of q; out_after = white_row_lem c.clear-then-width-end.ensures (omega arith) (ap dots_of q); }
+    let q = sym (line_over _ _ _ _ _ c.loop-at-test.true _ i.1 c.if-width-end.true) ∙ i.3 in record { value = ap line_of q; out_after = white_row_lem c.clear-then-width-end.ensures (omega arith) (ap dots_of q) }
 
 pub returns-then-end-width : goal.returns-then-end-width
 unfolding line_from
 returns-then-end-width c =
     let i = c.loop-at.invariant.1 in
-    let q = sym (line_whole _ _ _ _ _ c.loop-at-test.true _ i.1 c.if-end-width.true) ∙ i.3 in record { value = ap line_of q; out_after = c.put_run.ensures _ i.0 i.1 i.2 ∙ same_pack (omega arith) (ap dots_of q); }
+    let q = sym (line_whole _ _ _ _ _ c.loop-at-test.true _ i.1 c.if-end-width.true) ∙ i.3 in record { value = ap line_of q; out_after = c.put_run.ensures _ i.0 i.1 i.2 ∙ same_pack (omega arith) (ap dots_of q) }
 
 pub loop-at-preserved : goal.loop-at-preserved
 loop-at-preserved c =
@@ -42,4 +42,4 @@ loop-at-preserved c =
 pub returns : goal.returns
 unfolding line_from
 returns c =
-    let q = sym (line_end _ _ _ _ _ c.loop-at-test.false) ∙ c.loop-at.invariant.1.3 in record { value = ap line_of q; out_after = white_row_lem c.clear-2.ensures (omega arith) (ap dots_of q); }
+    let q = sym (line_end _ _ _ _ _ c.loop-at-test.false) ∙ c.loop-at.invariant.1.3 in record { value = ap line_of q; out_after = white_row_lem c.clear-2.ensures (omega arith) (ap dots_of q) }

@@ -27,11 +27,14 @@ returns-in-Ends c =
     let n = c.row_size-n.result in
     let a = c.args in
     let q = sym c.in-Ends.is ∙ c.draw_line-line.ensures.value in
-    let e = line_ends a.width a.bytes.now a.from _ q in record { value = q; out_after = rw e.1 (c.repeat_row.ensures ∙ drawn_times n a.times a.out.now _ e.0 c.requires.0
+    let e = line_ends a.width a.bytes.now a.from _ q in record {
+      value = q;
+      out_after = rw e.1 (c.repeat_row.ensures ∙ drawn_times n a.times a.out.now _ e.0 c.requires.0
           (c.draw_line-line.ensures.out_after ∙ same_pack (length-take-le n a.out.now (room a.width n a.times _ c.row_size-n.ensures c.requires)) (ap dots_of e.1))
-          ∙ rw c.row_size-n.ensures); }
+          ∙ rw c.row_size-n.ensures);
+    }
 
 pub returns-in-Unfinished : goal.returns-in-Unfinished
 returns-in-Unfinished c =
     let a = c.args in
-    let q = sym c.in-Unfinished.is ∙ c.draw_line-line.ensures.value in record { value = q; out_after = rw (line_unfinished a.width a.bytes.now a.from q) (white_as c.clear.ensures (omega arith)); }
+    let q = sym c.in-Unfinished.is ∙ c.draw_line-line.ensures.value in record { value = q; out_after = rw (line_unfinished a.width a.bytes.now a.from q) (white_as c.clear.ensures (omega arith)) }

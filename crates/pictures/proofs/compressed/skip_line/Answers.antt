@@ -26,14 +26,14 @@ returns-else-filled-width c =
 pub loop-at-preserved : goal.loop-at-preserved
 loop-at-preserved c =
     let i = c.loop-at.invariant.1 in let b = get_or c.args.bytes.now c.loop-at.at 0 in (
-  omega arith,
-  (
-    i.0 ++ replicate b i.1,
-    not i.1,
-    simp (length-append, length-replicate) (omega arith),
-    sym (line_part _ i.0 i.1 _ _ c.loop-at-test.true _ i.2 c.if-width-filled.false) ∙ i.3,
-  ),
-)
+      omega arith,
+      (
+        i.0 ++ replicate b i.1,
+        not i.1,
+        simp (length-append, length-replicate) (omega arith),
+        sym (line_part _ i.0 i.1 _ _ c.loop-at-test.true _ i.2 c.if-width-filled.false) ∙ i.3,
+      ),
+    )
 
 pub returns : goal.returns
 unfolding line_from

@@ -1,4 +1,3 @@
-
 use Rattle.pictures.proofs.runs.place_of.Goals as goal
 
 pub returns-then-black : goal.returns-then-black

@@ -36,7 +36,7 @@ unmark_character-requires c =
 
 pub returns-in-Refused : goal.returns-in-Refused
 unfolding removing_character
-returns-in-Refused c = record { value = (answered (char_refused _ _ _ _ _ _ (sym c.seek_character.ensures ∙ c.in-Refused.is))).0; s_after = (answered (char_refused _ _ _ _ _ _ (sym c.seek_character.ensures ∙ c.in-Refused.is))).1; }
+returns-in-Refused c = record { value = (answered (char_refused _ _ _ _ _ _ (sym c.seek_character.ensures ∙ c.in-Refused.is))).0; s_after = (answered (char_refused _ _ _ _ _ _ (sym c.seek_character.ensures ∙ c.in-Refused.is))).1 }
 
 -- behind the seeking
 pub returns-in-Here : goal.returns-in-Here
@@ -45,6 +45,9 @@ returns-in-Here c =
     let at_found : KeptChar c.args.font c.args.code c.args.s.now c.in-Here.p = char_sought _ _ _ c.in-Here.p (λ i. (c.slice_known-1.given i).fits) (sym c.seek_character.ensures ∙ c.in-Here.is) in
     let p = c.in-Here.p in
     let x = at_found in
-    let e = answered (char_call _ _ _ _ (refuse c.args.s.now) (λ st r. done (store_without_character c.args.font c.args.code st)) x) in record { value = e.0; s_after = c.unmark_character.ensures
+    let e = answered (char_call _ _ _ _ (refuse c.args.s.now) (λ st r. done (store_without_character c.args.font c.args.code st)) x) in record {
+      value = e.0;
+      s_after = c.unmark_character.ensures
           ∙ ap (unmarked_at c.args.font c.args.code) (c.recount.ensures ∙ ap (recounted p.lo (p.to - p.from) 0) c.splice.ensures)
-          ∙ cut_done _ _ _ _ x ∙ e.1; }
+          ∙ cut_done _ _ _ _ x ∙ e.1;
+    }

@@ -8,13 +8,13 @@ use borrow.Author.Rules.{rules}
 use Rattle.store.proofs.download.download_character.Goals as goal
 
 pub returns-in_default : goal.returns-in_default
-returns-in_default c = record { value = (answered_by c.without_run.ensures (download_not _ _ _ _ (not_store_lem _ _ _ (sym c.inspect.ensures ∙ c.in_default.is)))).0; s_after = (answered_by c.without_run.ensures (download_not _ _ _ _ (not_store_lem _ _ _ (sym c.inspect.ensures ∙ c.in_default.is)))).1; }
+returns-in_default c = record { value = (answered_by c.without_run.ensures (download_not _ _ _ _ (not_store_lem _ _ _ (sym c.inspect.ensures ∙ c.in_default.is)))).0; s_after = (answered_by c.without_run.ensures (download_not _ _ _ _ (not_store_lem _ _ _ (sym c.inspect.ensures ∙ c.in_default.is)))).1 }
 
 -- behind the inspection
 pub returns-then-not-in_range : goal.returns-then-not-in_range
 returns-then-not-in_range c =
     let at_found : Ready c.args.font (c.args.code + 1) c.args.s.now c.in-Found.p = ready _ _ _ (λ i. (c.slice_known-1.given i).fits) c.in-Found.p (sym c.inspect.ensures ∙ c.in-Found.is) in
-    record { value = (answered_by c.without_run-then-not-in_range.ensures (download_range _ _ _ _ _ (at_found) (failed c.in_range.ensures c.if-not-in_range.true-raw))).0; s_after = (answered_by c.without_run-then-not-in_range.ensures (download_range _ _ _ _ _ (at_found) (failed c.in_range.ensures c.if-not-in_range.true-raw))).1; }
+    record { value = (answered_by c.without_run-then-not-in_range.ensures (download_range _ _ _ _ _ (at_found) (failed c.in_range.ensures c.if-not-in_range.true-raw))).0; s_after = (answered_by c.without_run-then-not-in_range.ensures (download_range _ _ _ _ _ (at_found) (failed c.in_range.ensures c.if-not-in_range.true-raw))).1 }
 
 -- behind the inspection
 pub put_block-requires : goal.put_block-requires
@@ -26,4 +26,4 @@ put_block-requires c =
 pub returns : goal.returns
 returns c =
     let at_found : Ready c.args.font (c.args.code + 1) c.args.s.now c.in-Found.p = ready _ _ _ (λ i. (c.slice_known-1.given i).fits) c.in-Found.p (sym c.inspect.ensures ∙ c.in-Found.is) in
-    let e = answered_block (download_block _ _ c.args.block.now _ _ (at_found) (passed c.in_range.ensures c.if-not-in_range.false-raw)) in record { value = c.put_block.ensures.value ∙ e.0; s_after = c.put_block.ensures.s_after ∙ e.1; }
+    let e = answered_block (download_block _ _ c.args.block.now _ _ (at_found) (passed c.in_range.ensures c.if-not-in_range.false-raw)) in record { value = c.put_block.ensures.value ∙ e.0; s_after = c.put_block.ensures.s_after ∙ e.1 }

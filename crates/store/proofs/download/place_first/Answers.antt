@@ -46,7 +46,7 @@ returns-then-s-used c =
     let data_length : length (take c.args.n (drop descriptor_bytes c.args.block.now)) ≡ c.args.n = simp (length-take, length-drop) (omega (arith, c.requires.n_le_data_limit.1)) in
     let x = at_start in
     let l = data_length in
-    let e = answered_block (place_full _ _ _ _ _ _ x (omega (arith, c.if-s-used.true, l))) in record { value = c.without_run.ensures ∙ e.0; s_after = c.cut_font.ensures ∙ e.1; }
+    let e = answered_block (place_full _ _ _ _ _ _ x (omega (arith, c.if-s-used.true, l))) in record { value = c.without_run.ensures ∙ e.0; s_after = c.cut_font.ensures ∙ e.1 }
 
 -- what is known at the start: the space, and the length of the data
 pub splice-requires : goal.splice-requires
@@ -98,8 +98,11 @@ returns c =
     let e = answered_block (place_done _ _ _ _ _ _ (at_start) (omega (arith, c.if-s-used.false, l))) in
     let old = a.p.to - a.p.from in
     let put : c.write_character.new.s ≡ with_bytes (spliced_at a.p.from old a.p.used (character_record + length d) a.s.now) a.p.from (character_bytes a.font a.code (kept_first a.block.now) d) =
-    c.write_character.ensures ∙ ap (λ (y : List ℕ). with_bytes y a.p.from (character_bytes a.font a.code (kept_first a.block.now) d)) (c.splice.ensures ∙ ap (λ (y : ℕ). spliced_at a.p.from old a.p.used (character_record + y) a.s.now) (sym l)) in record { value = c.without_run-2.ensures ∙ e.0; s_after = c.mark_character.ensures
+    c.write_character.ensures ∙ ap (λ (y : List ℕ). with_bytes y a.p.from (character_bytes a.font a.code (kept_first a.block.now) d)) (c.splice.ensures ∙ ap (λ (y : ℕ). spliced_at a.p.from old a.p.used (character_record + y) a.s.now) (sym l)) in record {
+      value = c.without_run-2.ensures ∙ e.0;
+      s_after = c.mark_character.ensures
           ∙ ap (λ (y : Bool). remarked (cond y (record { on = 1; font_of = a.font; code_of = a.code }) shut) c.recount.new.s) c.requires.marked_value
           ∙ ap (remarked (mark_for a.font a.code (kept_first a.block.now) d))
           (c.recount.ensures ∙ ap (λ (y : ℕ). recounted a.p.lo old (character_record + y) c.write_character.new.s) (sym l) ∙ ap (recounted a.p.lo old (character_record + length d)) put)
-          ∙ e.1; }
+          ∙ e.1;
+    }

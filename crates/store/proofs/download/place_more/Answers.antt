@@ -145,9 +145,9 @@ returns c =
     record {
       value = c.without_run-2.ensures ∙ e.0;
       s_after =
-        c.mark_character.ensures
-        ∙ ap (λ (y : Bool). remarked (cond y (record { on = 1; font_of = a.font; code_of = a.code }) shut) c.recount.new.s) c.requires.marked_value
-        ∙ ap (remarked (mark_for a.font a.code (kept_at s a.p) (data_at s a.p ++ t)))
-        (c.recount.ensures ∙ ap (λ (y : ℕ). recounted a.p.lo old y c.extend_character.new.s) (sym m) ∙ ap (recounted a.p.lo old (character_record + length (data_at s a.p ++ t))) put)
-        ∙ e.1;
+          c.mark_character.ensures
+          ∙ ap (λ (y : Bool). remarked (cond y (record { on = 1; font_of = a.font; code_of = a.code }) shut) c.recount.new.s) c.requires.marked_value
+          ∙ ap (remarked (mark_for a.font a.code (kept_at s a.p) (data_at s a.p ++ t)))
+          (c.recount.ensures ∙ ap (λ (y : ℕ). recounted a.p.lo old y c.extend_character.new.s) (sym m) ∙ ap (recounted a.p.lo old (character_record + length (data_at s a.p ++ t))) put)
+          ∙ e.1;
     }

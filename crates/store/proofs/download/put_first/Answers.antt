@@ -17,12 +17,12 @@ bounds-s-at c =
     let x = at_start in omega (arith, x.ready.end, x.ready.room, host_span _ _ _ _ x)
 
 pub receive_first-requires : goal.receive_first-requires
-receive_first-requires c = record { arriving = (c.requires.0, c.requires.1, c.requires.2); p_value = sym c.read_first.ensures ∙ c.in-Taken.is; }
+receive_first-requires c = record { arriving = (c.requires.0, c.requires.1, c.requires.2); p_value = sym c.read_first.ensures ∙ c.in-Taken.is }
 
 pub returns-in-Refused : goal.returns-in-Refused
 returns-in-Refused c =
     let at_start : Host c.args.font c.args.code c.args.s.now c.args.p = host _ _ _ _ (λ i. (c.slice_known-1.given i).fits) c.requires.0 in
-    let x = at_start in record { value = (answered_by c.without_run.ensures (first_refused _ _ _ _ _ x _ (sym c.read_first.ensures ∙ c.in-Refused.is))).0; s_after = (answered_by c.without_run.ensures (first_refused _ _ _ _ _ x _ (sym c.read_first.ensures ∙ c.in-Refused.is))).1; }
+    let x = at_start in record { value = (answered_by c.without_run.ensures (first_refused _ _ _ _ _ x _ (sym c.read_first.ensures ∙ c.in-Refused.is))).0; s_after = (answered_by c.without_run.ensures (first_refused _ _ _ _ _ x _ (sym c.read_first.ensures ∙ c.in-Refused.is))).1 }
 
 pub returns-in-Taken : goal.returns-in-Taken
-returns-in-Taken c = record { value = c.receive_first.ensures.value; s_after = c.receive_first.ensures.s_after; }
+returns-in-Taken c = record { value = c.receive_first.ensures.value; s_after = c.receive_first.ensures.s_after }

@@ -23,7 +23,7 @@ is_open-requires c =
 pub returns-then-not-is_open : goal.returns-then-not-is_open
 returns-then-not-is_open c =
     let at_start : Host c.args.font c.args.code c.args.s.now c.args.p = host _ _ _ _ (λ i. (c.slice_known-1.given i).fits) c.requires.0 in
-    record { value = (answered_by c.without_run.ensures (more_not _ _ _ _ _ (at_start) (failed c.is_open.ensures c.if-not-is_open.true-raw))).0; s_after = (answered_by c.without_run.ensures (more_not _ _ _ _ _ (at_start) (failed c.is_open.ensures c.if-not-is_open.true-raw))).1; }
+    record { value = (answered_by c.without_run.ensures (more_not _ _ _ _ _ (at_start) (failed c.is_open.ensures c.if-not-is_open.true-raw))).0; s_after = (answered_by c.without_run.ensures (more_not _ _ _ _ _ (at_start) (failed c.is_open.ensures c.if-not-is_open.true-raw))).1 }
 
 pub overflow_add-h : goal.overflow_add-h
 overflow_add-h c =
@@ -99,7 +99,7 @@ receive_more-requires c =
     let b = c.args.block.now in
     let e = sym (joined_at _ _ b _ c.args.p (at_start)) ∙ sym c.judge_more.ensures ∙ c.in-Complete.is in
     let q = more_within _ _ b _ c.args.p (at_start) (named) _ e in
-    let l = (block_short _ c.requires.1).0 in record { n_in_bounds = (omega (arith, q, o, l, length-drop continuation_bytes b), c.requires.0, named); continued = e ∙ ap Complete (omega (arith, q, o)); }
+    let l = (block_short _ c.requires.1).0 in record { n_in_bounds = (omega (arith, q, o, l, length-drop continuation_bytes b), c.requires.0, named); continued = e ∙ ap Complete (omega (arith, q, o)) }
 
 pub overflow_sub-block : goal.overflow_sub-block
 overflow_sub-block c = (block_short _ c.requires.1).0
@@ -110,17 +110,17 @@ receive_more-requires-in-Incomplete c =
     let named : names c.args.font c.args.code (mark_in c.args.s.now) ≡ true = passed c.is_open.ensures c.if-not-is_open.false-raw in
     let at_start : Host c.args.font c.args.code c.args.s.now c.args.p = host _ _ _ _ (λ i. (c.slice_known-1.given i).fits) c.requires.0 in
     let b = c.args.block.now in
-    let l = (block_short _ c.requires.1).0 in record { n_in_bounds = (omega (arith, l), c.requires.0, named); continued = (sym (joined_at _ _ b _ c.args.p (at_start)) ∙ sym c.judge_more.ensures ∙ c.in-Incomplete.is, refl); }
+    let l = (block_short _ c.requires.1).0 in record { n_in_bounds = (omega (arith, l), c.requires.0, named); continued = (sym (joined_at _ _ b _ c.args.p (at_start)) ∙ sym c.judge_more.ensures ∙ c.in-Incomplete.is, refl) }
 
 -- behind the test of the open mark
 pub returns-in-PastWidth : goal.returns-in-PastWidth
 returns-in-PastWidth c =
     let at_start : Host c.args.font c.args.code c.args.s.now c.args.p = host _ _ _ _ (λ i. (c.slice_known-1.given i).fits) c.requires.0 in
     let named : names c.args.font c.args.code (mark_in c.args.s.now) ≡ true = passed c.is_open.ensures c.if-not-is_open.false-raw in
-    let x = at_start in record { value = (answered_by c.past_width.ensures (more_past _ _ c.args.block.now _ c.args.p x (named) _ _ _ (sym (joined_at _ _ c.args.block.now _ c.args.p x) ∙ sym c.judge_more.ensures ∙ c.in-PastWidth.is))).0; s_after = (answered_by c.past_width.ensures (more_past _ _ c.args.block.now _ c.args.p x (named) _ _ _ (sym (joined_at _ _ c.args.block.now _ c.args.p x) ∙ sym c.judge_more.ensures ∙ c.in-PastWidth.is))).1; }
+    let x = at_start in record { value = (answered_by c.past_width.ensures (more_past _ _ c.args.block.now _ c.args.p x (named) _ _ _ (sym (joined_at _ _ c.args.block.now _ c.args.p x) ∙ sym c.judge_more.ensures ∙ c.in-PastWidth.is))).0; s_after = (answered_by c.past_width.ensures (more_past _ _ c.args.block.now _ c.args.p x (named) _ _ _ (sym (joined_at _ _ c.args.block.now _ c.args.p x) ∙ sym c.judge_more.ensures ∙ c.in-PastWidth.is))).1 }
 
 pub returns-in-Complete : goal.returns-in-Complete
-returns-in-Complete c = record { value = c.receive_more.ensures.value; s_after = c.receive_more.ensures.s_after; }
+returns-in-Complete c = record { value = c.receive_more.ensures.value; s_after = c.receive_more.ensures.s_after }
 
 pub returns-in-Incomplete : goal.returns-in-Incomplete
-returns-in-Incomplete c = record { value = c.receive_more-in-Incomplete.ensures.value; s_after = c.receive_more-in-Incomplete.ensures.s_after; }
+returns-in-Incomplete c = record { value = c.receive_more-in-Incomplete.ensures.value; s_after = c.receive_more-in-Incomplete.ensures.s_after }

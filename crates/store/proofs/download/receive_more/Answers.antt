@@ -39,7 +39,7 @@ returns-then-p-n-gt-DATA_LIMIT c =
     let x = at_start in
     let q = sum in
     let a = c.args in
-    let l : data_limit < length (data_at a.s.now a.p) + length (take a.n (drop continuation_bytes a.block.now)) = omega (arith, q, c.if-p-n-gt-DATA_LIMIT.true) in record { value = (answered_by c.without_run.ensures (more_large _ _ a.block.now _ a.p x c.requires.n_in_bounds.2 a.n a.marked c.requires.continued l)).0; s_after = (answered_by c.without_run.ensures (more_large _ _ a.block.now _ a.p x c.requires.n_in_bounds.2 a.n a.marked c.requires.continued l)).1; }
+    let l : data_limit < length (data_at a.s.now a.p) + length (take a.n (drop continuation_bytes a.block.now)) = omega (arith, q, c.if-p-n-gt-DATA_LIMIT.true) in record { value = (answered_by c.without_run.ensures (more_large _ _ a.block.now _ a.p x c.requires.n_in_bounds.2 a.n a.marked c.requires.continued l)).0; s_after = (answered_by c.without_run.ensures (more_large _ _ a.block.now _ a.p x c.requires.n_in_bounds.2 a.n a.marked c.requires.continued l)).1 }
 
 -- what the code tests
 pub place_more-requires : goal.place_more-requires
@@ -51,7 +51,7 @@ place_more-requires c =
     let x = at_start in
     let q = sum in
     let a = c.args in
-    let l : length (data_at a.s.now a.p) + length (take a.n (drop continuation_bytes a.block.now)) ≤ data_limit = omega (arith, q, c.if-p-n-gt-DATA_LIMIT.false) in record { n_in_bounds = (c.requires.n_in_bounds.0, more_grows _ _ a.block.now _ a.p x c.requires.n_in_bounds.2 a.n a.marked c.requires.continued l); marked_value = more_marked _ _ a.block.now _ a.p x c.requires.n_in_bounds.2 a.n a.marked c.requires.continued l; }
+    let l : length (data_at a.s.now a.p) + length (take a.n (drop continuation_bytes a.block.now)) ≤ data_limit = omega (arith, q, c.if-p-n-gt-DATA_LIMIT.false) in record { n_in_bounds = (c.requires.n_in_bounds.0, more_grows _ _ a.block.now _ a.p x c.requires.n_in_bounds.2 a.n a.marked c.requires.continued l); marked_value = more_marked _ _ a.block.now _ a.p x c.requires.n_in_bounds.2 a.n a.marked c.requires.continued l }
 
 -- what the code tests
 pub returns : goal.returns
@@ -64,4 +64,4 @@ returns c =
     let q = sum in
     let a = c.args in
     let l : length (data_at a.s.now a.p) + length (take a.n (drop continuation_bytes a.block.now)) ≤ data_limit = omega (arith, q, c.if-p-n-gt-DATA_LIMIT.false) in
-    let e = answered_block (more_placed _ _ a.block.now _ a.p x c.requires.n_in_bounds.2 a.n a.marked c.requires.continued l) in record { value = c.place_more.ensures.value ∙ e.0; s_after = c.place_more.ensures.s_after ∙ e.1; }
+    let e = answered_block (more_placed _ _ a.block.now _ a.p x c.requires.n_in_bounds.2 a.n a.marked c.requires.continued l) in record { value = c.place_more.ensures.value ∙ e.0; s_after = c.place_more.ensures.s_after ∙ e.1 }

@@ -53,11 +53,11 @@ draw_row_of-requires c =
 
 pub returns-in-Refused : goal.returns-in-Refused
 unfolding drawing_row
-returns-in-Refused c = record { value = (answered (char_refused _ _ _ _ _ _ (sym c.seek_character.ensures ∙ c.in-Refused.is))).0; out_after = (answered (char_refused _ _ _ _ _ _ (sym c.seek_character.ensures ∙ c.in-Refused.is))).1; }
+returns-in-Refused c = record { value = (answered (char_refused _ _ _ _ _ _ (sym c.seek_character.ensures ∙ c.in-Refused.is))).0; out_after = (answered (char_refused _ _ _ _ _ _ (sym c.seek_character.ensures ∙ c.in-Refused.is))).1 }
 
 -- behind the seeking
 pub returns-in-Here : goal.returns-in-Here
 returns-in-Here c =
     let at_found : KeptChar c.args.font c.args.code c.args.s.now c.in-Here.p = char_sought _ _ _ c.in-Here.p (λ i. (c.shared_slice_known-1.given i).fits) (sym c.seek_character.ensures ∙ c.in-Here.is) in
     let x = at_found in
-    let e = rw (← (kept_cut _ _ _ _ x), ← (data_cut _ _ _ _ x)) at (answered (row_call _ _ _ _ x c.args.row c.args.out.now)) in record { value = c.draw_row_of.ensures.value ∙ e.0; out_after = c.draw_row_of.ensures.out_after ∙ e.1; }
+    let e = rw (← (kept_cut _ _ _ _ x), ← (data_cut _ _ _ _ x)) at (answered (row_call _ _ _ _ x c.args.row c.args.out.now)) in record { value = c.draw_row_of.ensures.value ∙ e.0; out_after = c.draw_row_of.ensures.out_after ∙ e.1 }

@@ -34,7 +34,7 @@ overflow_add-used c =
 pub returns-then-s-used : goal.returns-then-s-used
 returns-then-s-used c =
     let at_start : Ready c.args.font 0 c.args.s.now c.args.p = standing _ 0 _ (λ i. (c.slice_known-1.given i).fits) c.args.p c.requires.2 in
-    record { value = (answered (put_full _ _ _ _ (at_start) c.requires.0 c.requires.1 c.if-s-used.true)).0; s_after = (answered (put_full _ _ _ _ (at_start) c.requires.0 c.requires.1 c.if-s-used.true)).1; }
+    record { value = (answered (put_full _ _ _ _ (at_start) c.requires.0 c.requires.1 c.if-s-used.true)).0; s_after = (answered (put_full _ _ _ _ (at_start) c.requires.0 c.requires.1 c.if-s-used.true)).1 }
 
 -- what the places say
 pub splice-requires : goal.splice-requires
@@ -61,4 +61,4 @@ pub returns : goal.returns
 returns c =
     let at_start : Ready c.args.font 0 c.args.s.now c.args.p = standing _ 0 _ (λ i. (c.slice_known-1.given i).fits) c.args.p c.requires.2 in
     let r = at_start in
-    let e = answered (put_done _ _ _ _ r c.requires.0 c.requires.1 c.if-s-used.false) in record { value = e.0; s_after = c.unmark_font.ensures ∙ ap (unmarked_for c.args.font) (c.write_font.ensures ∙ ap (λ (l : List ℕ). with_bytes l c.args.p.lo (font_head c.args.font no_characters ++ kept_header c.args.block.now)) c.splice.ensures) ∙ e.1; }
+    let e = answered (put_done _ _ _ _ r c.requires.0 c.requires.1 c.if-s-used.false) in record { value = e.0; s_after = c.unmark_font.ensures ∙ ap (unmarked_for c.args.font) (c.write_font.ensures ∙ ap (λ (l : List ℕ). with_bytes l c.args.p.lo (font_head c.args.font no_characters ++ kept_header c.args.block.now)) c.splice.ensures) ∙ e.1 }

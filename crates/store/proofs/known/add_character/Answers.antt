@@ -13,4 +13,4 @@ past_character-behind-requires c =
 
 pub returns : goal.returns
 returns c =
-    let e = answered_block (known_block _ c.args.block.now _ (store_is _ _ c.requires.0.is) c.requires.1 _ c.requires.2) in record { answer_value = (c.put_block-answer.ensures.value ∙ e.0, c.past_character-behind.ensures); s_after = c.put_block-answer.ensures.s_after ∙ e.1; }
+    let e = answered_block (known_block _ c.args.block.now _ (store_is _ _ c.requires.0.is) c.requires.1 _ c.requires.2) in record { answer_value = (c.put_block-answer.ensures.value ∙ e.0, c.past_character-behind.ensures); s_after = c.put_block-answer.ensures.s_after ∙ e.1 }

@@ -16,13 +16,16 @@ font_end-requires c =
 
 pub returns-in-Refused : goal.returns-in-Refused
 returns-in-Refused c =
-    let e = answered_by c.without_run.ensures (known_refused _ c.args.block.now _ (store_is _ _ c.requires.0.is) c.requires.1 _ (sym c.read_header.ensures ∙ c.in-Refused.is)) in record { answer_value = (e.0, c.requires.0); s_after = e.1; }
+    let e = answered_by c.without_run.ensures (known_refused _ c.args.block.now _ (store_is _ _ c.requires.0.is) c.requires.1 _ (sym c.read_header.ensures ∙ c.in-Refused.is)) in record { answer_value = (e.0, c.requires.0); s_after = e.1 }
 
 pub returns-in-Taken : goal.returns-in-Taken
 returns-in-Taken c =
     let q = known_taken _ c.args.block.now _ (store_is _ _ c.requires.0.is) c.requires.1 (sym c.read_header.ensures ∙ c.in-Taken.is) in
     let e = answered q in
-    let b = c.put_font-answer.ensures.s_after ∙ e.1 in record { answer_value = (
+    let b = c.put_font-answer.ensures.s_after ∙ e.1 in record {
+      answer_value = (
         plainly _ _ q (font_run _ _ _).1 c.without_run-in-Taken.ensures c.put_font-answer.ensures.value,
         font_behind _ c.args.block.now _ _ c.locate-p.ensures c.requires.1 _ _ _ b (c.put_font-answer.ensures.value ∙ e.0) c.font_end.ensures,
-      ); s_after = b; }
+      );
+      s_after = b;
+    }

@@ -44,24 +44,30 @@ take_character-requires c =
 
 pub returns-in-SetFont : goal.returns-in-SetFont
 returns-in-SetFont c =
-    record { result_after = (obey_number _ _ _ c.requires _ _ _ (sym c.read_command.ensures ∙ c.in-SetFont.is)
-    (c.set_target.ensures ∙ rw (c.with_number.ensures, c.range_answer-answer.ensures))).0; leads = (obey_number _ _ _ c.requires _ _ _ (sym c.read_command.ensures ∙ c.in-SetFont.is)
-    (c.set_target.ensures ∙ rw (c.with_number.ensures, c.range_answer-answer.ensures))).1; }
+    record {
+      result_after = (obey_number _ _ _ c.requires _ _ _ (sym c.read_command.ensures ∙ c.in-SetFont.is)
+          (c.set_target.ensures ∙ rw (c.with_number.ensures, c.range_answer-answer.ensures))).0;
+      leads = (obey_number _ _ _ c.requires _ _ _ (sym c.read_command.ensures ∙ c.in-SetFont.is)
+          (c.set_target.ensures ∙ rw (c.with_number.ensures, c.range_answer-answer.ensures))).1;
+    }
 
 pub returns-in-SetCode : goal.returns-in-SetCode
 returns-in-SetCode c =
-    record { result_after = (obey_code _ _ _ c.requires _ _ _ (sym c.read_command.ensures ∙ c.in-SetCode.is)
-    (c.set_target-in-SetCode.ensures ∙ rw (c.with_code.ensures, c.range_answer-answer-in-SetCode.ensures))).0; leads = (obey_code _ _ _ c.requires _ _ _ (sym c.read_command.ensures ∙ c.in-SetCode.is)
-    (c.set_target-in-SetCode.ensures ∙ rw (c.with_code.ensures, c.range_answer-answer-in-SetCode.ensures))).1; }
+    record {
+      result_after = (obey_code _ _ _ c.requires _ _ _ (sym c.read_command.ensures ∙ c.in-SetCode.is)
+          (c.set_target-in-SetCode.ensures ∙ rw (c.with_code.ensures, c.range_answer-answer-in-SetCode.ensures))).0;
+      leads = (obey_code _ _ _ c.requires _ _ _ (sym c.read_command.ensures ∙ c.in-SetCode.is)
+          (c.set_target-in-SetCode.ensures ∙ rw (c.with_code.ensures, c.range_answer-answer-in-SetCode.ensures))).1;
+    }
 
 pub returns-in-FontBlock : goal.returns-in-FontBlock
-returns-in-FontBlock c = record { result_after = (obey_font _ _ _ c.requires _ _ _ _ (sym c.read_command.ensures ∙ c.in-FontBlock.is) c.take_font.ensures.value.0 c.take_font.ensures.s_after c.take_font.ensures.value.1).0; leads = (obey_font _ _ _ c.requires _ _ _ _ (sym c.read_command.ensures ∙ c.in-FontBlock.is) c.take_font.ensures.value.0 c.take_font.ensures.s_after c.take_font.ensures.value.1).1; }
+returns-in-FontBlock c = record { result_after = (obey_font _ _ _ c.requires _ _ _ _ (sym c.read_command.ensures ∙ c.in-FontBlock.is) c.take_font.ensures.value.0 c.take_font.ensures.s_after c.take_font.ensures.value.1).0; leads = (obey_font _ _ _ c.requires _ _ _ _ (sym c.read_command.ensures ∙ c.in-FontBlock.is) c.take_font.ensures.value.0 c.take_font.ensures.s_after c.take_font.ensures.value.1).1 }
 
 pub returns-in-CharacterBlock : goal.returns-in-CharacterBlock
-returns-in-CharacterBlock c = record { result_after = (obey_character _ _ _ c.requires _ _ _ _ (sym c.read_command.ensures ∙ c.in-CharacterBlock.is) c.take_character.ensures.value.0 c.take_character.ensures.s_after c.take_character.ensures.value.1).0; leads = (obey_character _ _ _ c.requires _ _ _ _ (sym c.read_command.ensures ∙ c.in-CharacterBlock.is) c.take_character.ensures.value.0 c.take_character.ensures.s_after c.take_character.ensures.value.1).1; }
+returns-in-CharacterBlock c = record { result_after = (obey_character _ _ _ c.requires _ _ _ _ (sym c.read_command.ensures ∙ c.in-CharacterBlock.is) c.take_character.ensures.value.0 c.take_character.ensures.s_after c.take_character.ensures.value.1).0; leads = (obey_character _ _ _ c.requires _ _ _ _ (sym c.read_command.ensures ∙ c.in-CharacterBlock.is) c.take_character.ensures.value.0 c.take_character.ensures.s_after c.take_character.ensures.value.1).1 }
 
 pub returns-in-Broken : goal.returns-in-Broken
-returns-in-Broken c = record { result_after = (obey_broken _ _ _ c.requires (sym c.read_command.ensures ∙ c.in-Broken.is)).0; leads = (obey_broken _ _ _ c.requires (sym c.read_command.ensures ∙ c.in-Broken.is)).1; }
+returns-in-Broken c = record { result_after = (obey_broken _ _ _ c.requires (sym c.read_command.ensures ∙ c.in-Broken.is)).0; leads = (obey_broken _ _ _ c.requires (sym c.read_command.ensures ∙ c.in-Broken.is)).1 }
 
 pub returns-in-End : goal.returns-in-End
-returns-in-End c = record { result_after = (obey_end _ _ _ c.requires (sym c.read_command.ensures ∙ c.in-End.is)).0; leads = (obey_end _ _ _ c.requires (sym c.read_command.ensures ∙ c.in-End.is)).1; }
+returns-in-End c = record { result_after = (obey_end _ _ _ c.requires (sym c.read_command.ensures ∙ c.in-End.is)).0; leads = (obey_end _ _ _ c.requires (sym c.read_command.ensures ∙ c.in-End.is)).1 }

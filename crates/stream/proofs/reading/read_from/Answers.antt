@@ -28,4 +28,4 @@ shape_of-s-in-Stop c = c.obey.auto.s ∙ c.loop-behind.invariant.2
 
 pub returns-in-Stop : goal.returns-in-Stop
 returns-in-Stop c =
-    let h = went_last c.args.stream.now _ _ c.loop-behind.x _ (c.obey.ensures.result_after, c.obey.ensures.leads) _ c.in-Stop.is in record { s_after = h.0 ∙ c.loop-behind.invariant.1; ends_within = h.1; }
+    let h = went_last c.args.stream.now _ _ c.loop-behind.x _ (c.obey.ensures.result_after, c.obey.ensures.leads) _ c.in-Stop.is in record { s_after = h.0 ∙ c.loop-behind.invariant.1; ends_within = h.1 }

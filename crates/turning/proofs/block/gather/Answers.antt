@@ -22,8 +22,7 @@ overflow_add-block c = omega (arith, join_fits c.loop-i.i (omega arith))
 
 pub loop-i-preserved : goal.loop-i-preserved
 loop-i-preserved c =
-    let a = c.args in
-    (
+    let a = c.args in (
       search rules,
       join_room c.loop-i.i c.loop-i.block c.row_byte.result (omega arith) (search rules) (search rules),
       join_more (λ (j : ℕ). column_byte a.picture.now a.n a.height a.up a.at (a.first + j)) c.loop-i.i c.loop-i.block c.row_byte.result c.loop-i.invariant.2 c.row_byte.ensures,

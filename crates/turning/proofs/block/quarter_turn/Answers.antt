@@ -17,13 +17,12 @@ pub turn_column-requires : goal.turn_column-requires
 turn_column-requires c = (search rules, search rules, search rules, search rules, omega arith)
 
 pub loop-column-preserved : goal.loop-column-preserved
-loop-column-preserved c =
-    (
-      search rules,
-      c.turn_column.auto.out ∙ c.loop-column.invariant.1,
-      λ a q l m k. c.turn_column.ensures.0 c.loop-column.invariant.2 a q l m (omega arith),
-      λ j l. c.turn_column.ensures.1 j l ∙ c.loop-column.invariant.3 j l,
-    )
+loop-column-preserved c = (
+  search rules,
+  c.turn_column.auto.out ∙ c.loop-column.invariant.1,
+  λ a q l m k. c.turn_column.ensures.0 c.loop-column.invariant.2 a q l m (omega arith),
+  λ j l. c.turn_column.ensures.1 j l ∙ c.loop-column.invariant.3 j l,
+)
 
 pub shape_of-out : goal.shape_of-out
 shape_of-out c = c.loop-column.invariant.1

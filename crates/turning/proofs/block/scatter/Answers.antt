@@ -36,8 +36,7 @@ bounds-out-flip c =
 
 pub loop-i-preserved : goal.loop-i-preserved
 loop-i-preserved c =
-    let a = c.args in
-    (
+    let a = c.args in (
       search rules,
       simp length-set c.loop-i.invariant.1,
       rw (c.flip.ensures, c.byte_of.ensures) (put_next a.block a.m a.width a.up a.at a.first c.requires.0 a.out.now c.loop-i.i _ (omega arith) (omega arith) c.loop-i.invariant.2),

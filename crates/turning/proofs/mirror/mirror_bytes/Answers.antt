@@ -30,8 +30,7 @@ loop-from-smaller c = omega arith
 pub loop-from-preserved : goal.loop-from-preserved
 loop-from-preserved c =
     let a = c.args in
-    let pre = c.requires in
-    (
+    let pre = c.requires in (
       omega arith,
       c.mirror_eight.auto.out ∙ c.loop-from.invariant.1,
       run_next a.width a.height a.picture.now pre.1 pre.4 pre.5 a.out.now _ _ c.loop-from.i c.loop-from.from 8 c.loop-from.invariant.0 (omega arith) pre.6 c.mirror_eight.ensures c.loop-from.invariant.2,

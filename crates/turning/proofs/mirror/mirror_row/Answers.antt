@@ -30,8 +30,7 @@ join-requires c =
 
 pub loop-q-preserved : goal.loop-q-preserved
 loop-q-preserved c =
-    let a = c.args in
-    (
+    let a = c.args in (
       search rules,
       c.mirrored-right.ensures ∙ sym (mirrored_in a.picture.now a.from a.n (c.loop-q.q + 1) (omega arith)),
       simp length-set c.loop-q.invariant.2,

@@ -37,8 +37,7 @@ loop-k-smaller c = omega arith
 
 pub loop-k-preserved : goal.loop-k-preserved
 loop-k-preserved c =
-    let a = c.args in
-    (
+    let a = c.args in (
       omega arith,
       simp length-set c.loop-k.invariant.1,
       λ all out₁ k l g p. row_next all out₁ _ a.to a.count c.loop-k.k _ (omega arith) k l (c.mirrored.ensures ∙ sym (g c.loop-k.k (omega arith))) (c.loop-k.invariant.2 all out₁ k l g p),
