@@ -1,0 +1,6 @@
+use Rattle.marlinfold.proofs.Outcomes.{downloaded_by}
+use borrow.Author.Rules.{rules}
+use Rattle.marlinfold.proofs.mf_download_character.Goals as goal
+
+pub returns : goal.returns
+returns c = downloaded_by c.download_character.ensures.value c.download_character.ensures.s_after

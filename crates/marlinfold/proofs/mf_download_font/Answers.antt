@@ -1,0 +1,5 @@
+use borrow.Author.Rules.{rules}
+use Rattle.marlinfold.proofs.mf_download_font.Goals as goal
+
+pub returns : goal.returns
+returns c = cc

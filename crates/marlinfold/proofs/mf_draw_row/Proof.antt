@@ -1,6 +1,0 @@
-use borrow.Author.Rules.{rules}
-use Rattle.marlinfold.proofs.mf_draw_row.Statement.{statement}
-use Rattle.marlinfold.proofs.mf_draw_row.Tie as tie
-
-pub mf_draw_row_spec : {M : Type 1} → statement M
-mf_draw_row_spec = tie.close (tie.spec (λ c κs. search rules) (λ c. search rules) (λ c. cc))

@@ -1,0 +1,7 @@
+use mathlib.Core.Path.{ap}
+use Rattle.marlinfold.specs.Calls.{of_telling}
+use borrow.Author.Rules.{rules}
+use Rattle.marlinfold.proofs.mf_tell_character.Goals as goal
+
+pub returns : goal.returns
+returns c = ap (of_telling _) c.tell_character.ensures

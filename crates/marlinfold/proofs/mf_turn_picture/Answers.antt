@@ -1,0 +1,6 @@
+use Rattle.marlinfold.proofs.Outcomes.{turned_by}
+use borrow.Author.Rules.{rules}
+use Rattle.marlinfold.proofs.mf_turn_picture.Goals as goal
+
+pub returns : goal.returns
+returns c = turned_by _ c.turn_picture.ensures.value c.turn_picture.ensures.out_after
