@@ -116,8 +116,7 @@ pub fn record_of<'a>(soft: &'a [u8], cartridge: &'a [u8], a: RecordAnswer) -> &'
     &soft[..0]
 }
 
-// "The answer gives the chosen font's record itself, as the part of whichever store holds it, without copying": proved by hand, as it makes a
-// struct that holds a reference.
+// "The answer gives the chosen font's record itself, as the part of whichever store holds it, without copying".
 pub fn choose_from_two<'a>(soft: &'a [u8], cartridge: &'a [u8], r: Request) -> ChosenRecord<'a>
     ensures { (result.answer ≡ answering_from_two soft.now cartridge.now r) × (part_of result.part ≡ record_part (part_of soft.entry) (part_of cartridge.entry) result.answer) }
 {

@@ -160,7 +160,7 @@ pub fn mf_read_stream(store: &mut [u8], stream: &[u8]) -> StreamRead
     reading::read_stream(store, stream)
 }
 
-// W-201. The borrow checker does not cover slices of structs, so this proof is written by hand; all that is decided here is decided by the two calls.
+// W-201. All that is decided here is decided by the two calls.
 pub fn mf_choose_sheet(store: &[u8], requests: &[Request], answers: &mut [SheetAnswer]) -> u32
     ensures { answered result [] store.now (answer_numbers answers.new) ≡ outcome (choose_sheet requests.now answers.old) store.now }
 {
