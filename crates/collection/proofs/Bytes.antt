@@ -1,12 +1,11 @@
 -- Numbers of eight bytes, and the bytes of a figure. Assumes nothing.
-use Prim.Native.Nat.{ℕ, zero, suc, ◌+◌, ◌*◌, ◌-◌, ◌/◌, ◌%◌, ◌≤◌, min}
+use Prim.Native.Nat.{ℕ, zero, suc, ◌+◌, ◌*◌, ◌/◌, ◌%◌, ◌≤◌, min}
 use mathlib.Core.Path.{◌≡◌, refl, sym, ap, ◌∙◌}
 use mathlib.Core.List.{List, ◌++◌}
 use native.Mathlib.Omega.{arith}
 use lib.ListN.{length}
 use Rattle.form.specs.Num.{low_first, field, double_end}
 use Rattle.form.proofs.Fields.{field_suc, field_zero}
-use Rattle.form.proofs.Numbers.{low, high}
 use Rattle.change.specs.Put.{with_bytes}
 use Rattle.change.proofs.Puts.{put_put}
 use Rattle.collection.specs.Figures.{lesser_width, mean, rest, code_bytes, figure_from, bytes_of_figure}

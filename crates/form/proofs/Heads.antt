@@ -2,7 +2,6 @@
 use mathlib.Core.Path.{◌≡◌, sym, ◌∙◌}
 use mathlib.Core.List.{List}
 use mathlib.Core.Bool.{true, false, cond}
-use mathlib.Core.Option.{some}
 use Prim.Native.Nat.{ℕ, ◌+◌, ◌-◌, ◌<◌, ◌≤◌}
 use native.Mathlib.Omega.{arith}
 use lib.ListN.{length, get_or, take, drop, length-drop, length-take}
@@ -15,7 +14,7 @@ use Rattle.pictures.specs.declared.picture.Held.TheVariants.{Foreign}
 use Rattle.blocks.specs.Character.{descriptor_bytes}
 use Rattle.form.specs.Layout.{character_kept_at, character_kind, character_record, code_at, font_kept_at, font_kind, font_orientation_at, font_record, kind_at, last_code, last_font, number_at}
 use Rattle.form.specs.Num.{◌and◌, field}
-use Rattle.form.specs.Model.{font, Owner, owner_after, allowed, held_of, held_under, is_kept, is_unfinished, unfinished, number, place, no_characters, tally_in, only_if, head_rec, size_of}
+use Rattle.form.specs.Model.{Owner, owner_after, allowed, held_of, held_under, is_kept, is_unfinished, unfinished, number, place, no_characters, tally_in, only_if, head_rec, size_of}
 use Rattle.form.specs.Walk.{head_of, tally_held, seen, Heading}
 use Rattle.form.specs.declared.walk.Head.TheVariants.{End, Rec as HeadRec, Bad}
 use Rattle.form.proofs.Fields.{field_drop}

@@ -1,5 +1,5 @@
 -- Demand 1. Assumes nothing.
-use Prim.Native.Nat.{ℕ, ◌+◌}
+use Prim.Native.Nat.{ℕ}
 use mathlib.Core.Path.{◌≡◌, refl, sym, ap, ◌∙◌, subst}
 use mathlib.Core.Logic.{◌⊎◌, inl, inr}
 use mathlib.Core.List.{List, [], ◌∷◌, ◌++◌}
@@ -17,7 +17,7 @@ use Rattle.form.specs.Num.{◌and◌}
 use Rattle.form.specs.Model.{Rec, Store, decode}
 use Rattle.form.specs.Order.{font_at, character_at}
 use Rattle.form.specs.Checks.{on_store, checked, taking, finding, numbered, on_font, on_character}
-use Rattle.store.specs.Answer.{After, no_run, refuse, done, Telling, untold}
+use Rattle.store.specs.Answer.{After, no_run, refuse, Telling, untold}
 use Rattle.form.specs.Records.{is_store}
 use Rattle.store.specs.Calls.{used, making_fresh, put_font, removing_font, downloading_font, removing_character, kept_of, onto, telling_font, telling_character}
 use Rattle.store.specs.Download.{downloading_character}

@@ -4,7 +4,7 @@ use mathlib.Core.Path.{◌≡◌, refl, sym, ap, ap₂, ◌∙◌, subst}
 use mathlib.Core.Logic.{◌⊎◌, inl, inr}
 use mathlib.Core.List.{List, [], ◌∷◌, ◌++◌, append-nil, append_assoc}
 use mathlib.Core.Bool.{Bool, true, false, cond}
-use mathlib.Core.Option.{Option, none, some}
+use mathlib.Core.Option.{some}
 use native.Mathlib.Omega.{arith}
 use borrow.Author.Tests.{leb-true, leb-false, le-leb}
 use lib.Dec.{leb}
@@ -12,7 +12,7 @@ use lib.ListN.{length, get_or, take, drop, length-append, length-drop, length-ta
 use lib.Seq.{take_at, drop_at, drop-drop, drop-append-add}
 use Rattle.form.specs.Num.{low_first}
 use Rattle.form.specs.Model.{Store, decode}
-use Rattle.form.specs.Records.{is_store, some_store}
+use Rattle.form.specs.Records.{is_store}
 use Rattle.form.proofs.Numbers.{length_le}
 use Rattle.store.specs.Answer.{no_run}
 use Rattle.store.specs.Calls.{onto}

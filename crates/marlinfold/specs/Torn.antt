@@ -1,5 +1,5 @@
 -- W-212, "Reading past a torn place": what a salvage reading answers, by what reading answers from each place on.
-use Rattle.std.specs.Prelude.{ℕ, zero, suc, ◌+◌, ◌-◌, ◌≤◌, ◌<◌, ◌≡◌, ◌⊎◌, List, [], ◌∷◌, ◌++◌, true, length, get_or, take, drop}
+use Rattle.std.specs.Prelude.{ℕ, ◌+◌, ◌-◌, ◌≤◌, ◌<◌, ◌≡◌, ◌⊎◌, List, [], ◌∷◌, ◌++◌, true, length, get_or, take, drop}
 use Rattle.form.specs.Num.{low_first}
 use Rattle.form.specs.Records.{is_store}
 use Rattle.stream.specs.Command.{command_at}

@@ -1,17 +1,16 @@
 -- Laws of class 1 data: its bytes are those of the rows, but for the bits beyond the width. Assumes nothing.
-use Rattle.std.proofs.Common.{◌≡◌, ℕ, zero, suc, ◌+◌, ◌-◌, ◌*◌, ◌/◌, ◌%◌, ◌^◌, ◌<◌, ◌≤◌, Bool, true, false, eqb, List, [], ◌∷◌, ◌++◌, length, get_or, take, drop, set, sym, refl, ap, ◌∙◌, append_assoc, mul-le-mul_right, mod-lt, mod-eq_of_lt, mul_assoc, suc-mul, add-mul, one-mul, zero-add, zero-mul, add-one, arith, length-append, length-drop, length-take-le, get_or-drop, take-take, drop-drop, take_at, get_or-append-add, drop_at, pow_pos, pow-add, eqb-true}
+use Rattle.std.proofs.Common.{◌≡◌, ℕ, zero, suc, ◌+◌, ◌-◌, ◌*◌, ◌/◌, ◌%◌, ◌^◌, ◌<◌, ◌≤◌, Bool, true, false, eqb, List, [], ◌∷◌, ◌++◌, length, get_or, take, drop, set, sym, refl, ap, ◌∙◌, append_assoc, mul-le-mul_right, mod-lt, mod-eq_of_lt, mul_assoc, suc-mul, add-mul, one-mul, zero-add, zero-mul, add-one, arith, length-append, length-drop, get_or-drop, take-take, drop-drop, take_at, get_or-append-add, drop_at, pow_pos, pow-add, eqb-true}
 use native.Mathlib.Nat.{sub-zero, zero-sub, suc-sub-suc, zero-div, div-eq_of_lt, mul-add-div_right}
 use borrow.Author.Tests.{eqb-false}
 use borrow.Rule.Slice.PartMut.{put_mid}
 use lib.ListN.{get_or-append}
-use lib.Seq.{take-length, take-nil, drop-nil, take-append-le, take-append-add, set-append_left, set-get_or}
+use lib.Seq.{take-nil, drop-nil, take-append-le, take-append-add, set-append_left, set-get_or}
 use lib.Bits.{bit_and, and_high}
 use lib.Pow.{mod-pow-add, shr_mod}
 use Rattle.pictures.specs.Size.{row_size, picture_size}
 use Rattle.pictures.specs.Dots.{bit, bits, pack, dots_in, unpack}
 use Rattle.pictures.specs.Rows.{bitmap_row, row_dots, row_bytes, picture}
 use Rattle.pictures.specs.Drawing.{white, padded}
-use Rattle.pictures.proofs.Lists.{copied_all}
 use Rattle.pictures.proofs.Packing.{bits_append, pack_none}
 use Rattle.pictures.proofs.Pictures.{length_picture, tail_lent, tail_back}
 

@@ -9,7 +9,7 @@ use borrow.Author.Tests.{leb-true, leb-false}
 use lib.Dec.{leb, eqb}
 use lib.ListN.{length, get_or, take, drop, length-take, length-drop}
 use lib.Seq.{get_or-take, get_or-drop}
-use Rattle.stream.specs.Command.{stream_byte, is_digit, leading_digits, number_of, starts_with, number_command, is_block, block_of, command, moved_by, command_at}
+use Rattle.stream.specs.Command.{is_digit, leading_digits, number_of, starts_with, number_command, is_block, block_of, command, moved_by, command_at}
 use Rattle.stream.specs.declared.command.Command.{Command}
 use Rattle.stream.specs.declared.command.Command.TheVariants.{SetFont, SetCode, FontBlock, CharacterBlock, Broken, End}
 use Rattle.stream.specs.declared.command.NumberRead.{NumberRead}

@@ -3,7 +3,7 @@ use mathlib.Core.Path.{◌≡◌, refl, sym, ap, ◌∙◌}
 use mathlib.Core.List.{List, [], ◌∷◌, ◌++◌}
 use mathlib.Core.Bool.{Bool, true, false, ◌||◌}
 use mathlib.Core.Option.{none, some}
-use mathlib.Core.Logic.{◌⊎◌, ⊎_elim}
+use mathlib.Core.Logic.{⊎_elim}
 use Prim.Native.Nat.{ℕ, ◌+◌, ◌-◌, ◌<◌, ◌≤◌}
 use native.Mathlib.Omega.{arith}
 use lib.ListN.{length, take, drop, length-append, length-drop, take-append-drop}
@@ -13,7 +13,7 @@ use borrow.Author.Tests.{eqb-true, eqb-false, eq-eqb, ne_eqb, le-leb, lt-leb}
 use Rattle.blocks.specs.Header.{orientation}
 use Rattle.blocks.specs.Character.{class, width, height, is_kept_first, descriptor_bytes, continuation_bytes}
 use Rattle.pictures.specs.Size.{data_limit}
-use Rattle.pictures.specs.Picture.{judge, kept_data, held}
+use Rattle.pictures.specs.Picture.{judge, kept_data}
 use Rattle.pictures.specs.declared.picture.Held.{Held}
 use Rattle.pictures.specs.declared.picture.Held.TheVariants.{Whole, Unfinished, Foreign}
 use Rattle.pictures.specs.declared.picture.Judged.{Judged}
@@ -33,7 +33,7 @@ use Rattle.form.proofs.Numbers.{both_l, both_r, less_or}
 use Rattle.form.proofs.Codec.{Sorted, sorted_inv, mark_fits, mark_back, encode_parts}
 use Rattle.form.proofs.Lookup.{find_here, find_other, find_behind, found, char_at, kept_under}
 use Rattle.store.proofs.Marks.{Shut, Open, mark_key, mark_inv}
-use Rattle.form.proofs.Ready.{Ready, font_there}
+use Rattle.form.proofs.Ready.{Ready}
 use Rattle.form.proofs.Seeks.{KeptChar}
 use Rattle.store.proofs.Spots.{char_span, char_kept, char_bytes}
 use Rattle.store.proofs.Host.{Host, fitting}

@@ -14,7 +14,7 @@ use Rattle.form.specs.Model.{font, held_under, is_kept}
 use Rattle.form.specs.Order.{find_record}
 use Rattle.form.specs.Walk.{Stands, Arriving, Fitting, font_orientation}
 use Rattle.form.specs.declared.walk.Places.{Places}
-use Rattle.form.proofs.Ready.{Ready, standing, font_there, same_store}
+use Rattle.form.proofs.Ready.{Ready, standing, same_store}
 use Rattle.form.proofs.Seeks.{KeptFont}
 use Rattle.store.proofs.Spots.{font_kept, font_span}
 

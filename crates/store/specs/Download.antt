@@ -1,5 +1,5 @@
 -- Document 01, "The character block": what a download answers and leaves.
-use Rattle.std.specs.Prelude.{ℕ, zero, suc, ◌+◌, List, [], ◌∷◌, ◌++◌, Bool, cond, eqb, leb, length, drop}
+use Rattle.std.specs.Prelude.{ℕ, zero, suc, List, [], ◌∷◌, ◌++◌, Bool, cond, eqb, leb, length, drop}
 use Rattle.blocks.specs.Header.{orientation}
 use Rattle.blocks.specs.Character.{descriptor_bytes, continuation_bytes, class, width, height, character_length, kind_of, read_first, kept_first}
 use Rattle.pictures.specs.Size.{data_limit}

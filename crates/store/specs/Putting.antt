@@ -1,6 +1,6 @@
 -- For the code alone: what is left of a download, by what the code has found out so far. The laws `download_taken` and `download_block` tie it
 -- to the calls.
-use Rattle.std.specs.Prelude.{ℕ, ◌+◌, List, ◌++◌, leb, length, drop}
+use Rattle.std.specs.Prelude.{ℕ, List, ◌++◌, leb, length, drop}
 use Rattle.blocks.specs.Header.{orientation, kept_header}
 use Rattle.blocks.specs.Character.{descriptor_bytes, continuation_bytes, character_length, kind_of, read_first, kept_first}
 use Rattle.pictures.specs.Size.{data_limit}

@@ -5,7 +5,7 @@ use mathlib.Core.List.{List, [], ◌++◌, append-nil, append_assoc}
 use native.Mathlib.Omega.{arith}
 use borrow.Author.Tests.{le-leb}
 use lib.ListN.{length, length-append}
-use Rattle.form.specs.Model.{font, Store, encode}
+use Rattle.form.specs.Model.{Store, encode}
 use Rattle.store.specs.Answer.{done, no_run}
 use Rattle.store.specs.Calls.{downloading_font}
 use Rattle.store.specs.Download.{downloading_character}

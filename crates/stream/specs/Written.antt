@@ -1,5 +1,5 @@
 -- Document 01, "The stream", "Writing a font": the stream that a kept font is written as, and the whole call.
-use Rattle.std.specs.Prelude.{ℕ, ◌+◌, List, [], ◌∷◌, ◌++◌, leb, length, take, drop}
+use Rattle.std.specs.Prelude.{ℕ, List, [], ◌∷◌, ◌++◌, leb, length, take, drop}
 use Rattle.blocks.specs.Header.{own_header}
 use Rattle.blocks.specs.Character.{character_format}
 use Rattle.form.specs.Model.{Rec, font, character}

@@ -1,5 +1,4 @@
 use mathlib.Core.Path.{refl}
-use borrow.Author.Rules.{rules}
 use Rattle.cartridge.specs.Cartridge.{record_answer}
 use Rattle.cartridge.proofs.Cartridge.{named_answer, none_for}
 use Rattle.cartridge.proofs.answer_by.Goals as goal

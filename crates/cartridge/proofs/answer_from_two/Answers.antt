@@ -1,5 +1,4 @@
 use mathlib.Core.Path.{◌∙◌}
-use borrow.Author.Rules.{rules}
 use Rattle.cartridge.specs.Cartridge.{record_answer}
 use Rattle.cartridge.proofs.Cartridge.{begun, no_store, first_refused, second_refused, both_stores, picked_place}
 use Rattle.cartridge.proofs.answer_from_two.Goals as goal

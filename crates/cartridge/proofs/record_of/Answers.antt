@@ -2,7 +2,6 @@ use Prim.Native.Nat.{◌+◌, ◌≤◌}
 use native.Mathlib.Omega.{arith}
 use lib.Dec.{eqb}
 use lib.ListN.{length}
-use borrow.Author.Rules.{rules}
 use Rattle.form.specs.Layout.{font_record}
 use Rattle.cartridge.specs.Cartridge.{part_of}
 use Rattle.cartridge.proofs.Cartridge.{room, first_part, second_part, empty_part}

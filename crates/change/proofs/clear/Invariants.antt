@@ -1,10 +1,7 @@
-use mathlib.Core.Path.{◌≡◌, refl}
+use mathlib.Core.Path.{◌≡◌}
 use Prim.Native.Nat.{◌≤◌, ◌-◌}
-use native.Mathlib.Omega.{arith}
-use borrow.Author.Rules.{rules}
-use lib.ListN.{length, replicate, length-set}
-use lib.Seq.{paste, paste-zero}
-use Rattle.change.proofs.Moves.{clear_turn, paste_end}
+use lib.ListN.{length, replicate}
+use lib.Seq.{paste}
 use Rattle.change.proofs.clear.Given as goal
 
 abbrev pub invariant-loop-i : goal.invariant-loop-i

@@ -1,10 +1,7 @@
-use mathlib.Core.Path.{◌≡◌, refl}
+use mathlib.Core.Path.{◌≡◌}
 use Prim.Native.Nat.{◌≤◌, ◌-◌}
-use native.Mathlib.Omega.{arith}
-use borrow.Author.Rules.{rules}
-use lib.ListN.{length, length-set}
-use lib.Seq.{paste, paste-zero}
-use Rattle.change.proofs.Puts.{copy_turn, copy_end}
+use lib.ListN.{length}
+use lib.Seq.{paste}
 use Rattle.change.proofs.copy.Given as goal
 
 abbrev pub invariant-loop-i : goal.invariant-loop-i

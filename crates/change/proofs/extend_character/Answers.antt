@@ -4,7 +4,6 @@ use Prim.Native.Nat.{ℕ, ◌+◌, ◌-◌}
 use lib.ListN.{take, drop, length-take, length-drop}
 use Rattle.blocks.specs.Character.{continuation_bytes}
 use Rattle.change.specs.Put.{with_bytes}
-use borrow.Author.Rules.{rules}
 use native.Mathlib.Omega.{arith}
 use Rattle.change.proofs.extend_character.Goals as goal
 

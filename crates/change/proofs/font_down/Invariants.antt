@@ -1,11 +1,8 @@
-use mathlib.Core.Path.{◌≡◌, refl}
+use mathlib.Core.Path.{◌≡◌}
 use Prim.Native.Nat.{◌≤◌, ◌-◌, ◌+◌}
-use native.Mathlib.Omega.{arith}
-use borrow.Author.Rules.{rules}
-use lib.ListN.{length, drop, length-set}
-use lib.Seq.{paste, paste-zero}
+use lib.ListN.{length, drop}
+use lib.Seq.{paste}
 use Rattle.form.specs.Layout.{font_record}
-use Rattle.change.proofs.Moves.{down_turn, paste_end}
 use Rattle.change.proofs.font_down.Given as goal
 
 abbrev pub invariant-loop-i : goal.invariant-loop-i

@@ -1,9 +1,8 @@
-use mathlib.Core.Path.{◌≡◌, refl}
-use Prim.Native.Nat.{◌≤◌, ◌-◌, ◌+◌}
+use mathlib.Core.Path.{refl}
+use Prim.Native.Nat.{◌+◌}
 use native.Mathlib.Omega.{arith}
 use borrow.Author.Rules.{rules}
-use lib.ListN.{length, drop, length-set}
-use lib.Seq.{paste}
+use lib.ListN.{length-set}
 use Rattle.form.specs.Layout.{font_record}
 use Rattle.change.proofs.Moves.{up_turn, up_start, up_end}
 use Rattle.change.proofs.font_up.Goals as goal

@@ -1,5 +1,4 @@
 use mathlib.Core.Path.{◌∙◌}
-use borrow.Author.Rules.{rules}
 use Rattle.change.proofs.mark_character.Goals as goal
 
 pub returns-then-marked : goal.returns-then-marked

@@ -1,9 +1,7 @@
-use mathlib.Core.Path.{◌≡◌, refl}
-use Prim.Native.Nat.{◌≤◌, ◌-◌, ◌+◌}
+use mathlib.Core.Path.{refl}
 use native.Mathlib.Omega.{arith}
 use borrow.Author.Rules.{rules}
-use lib.ListN.{length, drop, length-set}
-use lib.Seq.{paste}
+use lib.ListN.{length-set}
 use Rattle.change.proofs.Moves.{up_turn, up_start, up_end}
 use Rattle.change.proofs.move_up.Goals as goal
 

@@ -4,10 +4,6 @@ use Prim.Native.Nat.{ℕ, ◌+◌, ◌/◌}
 use Rattle.form.specs.Num.{low_first, word_end}
 use Rattle.change.specs.Put.{with_bytes}
 use Rattle.change.proofs.Written.{four_put}
-use borrow.Author.Rules.{rules}
-use Rattle.change.proofs.put32.Reads as reads
-use Rattle.change.proofs.put32.Lts as lts
-use Rattle.change.proofs.put16.Reads as put16-reads
 use Rattle.change.proofs.put32.Goals as goal
 
 pub returns : goal.returns

@@ -4,7 +4,6 @@ use Prim.Native.Nat.{ℕ, ◌+◌, ◌/◌}
 use Rattle.form.specs.Num.{low_first, double_end}
 use Rattle.change.specs.Put.{with_bytes}
 use Rattle.change.proofs.Written.{eight_put}
-use borrow.Author.Rules.{rules}
 use Rattle.change.proofs.put64.Goals as goal
 
 pub returns : goal.returns

@@ -5,11 +5,6 @@ use Rattle.form.specs.Layout.{font_bytes_at}
 use Rattle.form.specs.Num.{low_first}
 use Rattle.change.specs.Put.{with_bytes}
 use Rattle.change.proofs.Written.{tally_put}
-use borrow.Author.Rules.{rules}
-use Rattle.change.proofs.put_tally.Reads as reads
-use Rattle.change.proofs.put_tally.Lts as lts
-use Rattle.change.proofs.put16.Reads as put16-reads
-use Rattle.change.proofs.put32.Reads as put32-reads
 use Rattle.change.proofs.put_tally.Goals as goal
 
 pub returns : goal.returns

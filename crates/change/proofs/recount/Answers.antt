@@ -6,12 +6,6 @@ use Rattle.form.specs.Model.{tally_bytes}
 use Rattle.change.specs.Put.{with_bytes}
 use Rattle.change.specs.Change.{recounted}
 use Rattle.form.specs.declared.tally.Tally.{Tally}
-use borrow.Author.Rules.{rules}
-use Rattle.change.proofs.recount.Reads as reads
-use Rattle.change.proofs.recount.Lts as lts
-use Rattle.change.proofs.put_tally.Reads as put-tally-reads
-use Rattle.change.proofs.tally_by.Reads as tally-by-reads
-use Rattle.form.proofs.tally.tally_at.Reads as tally-at-reads
 use Rattle.change.proofs.recount.Goals as goal
 
 changed : {h o n x y z : Tally} → h ≡ x → o ≡ y → n ≡ z

@@ -5,7 +5,6 @@ use Rattle.form.specs.Layout.{mark_code_at, mark_font_at}
 use Rattle.form.specs.Num.{low_first}
 use Rattle.change.specs.Put.{with_bytes}
 use Rattle.change.proofs.Written.{remark_put}
-use borrow.Author.Rules.{rules}
 use Rattle.change.proofs.remark.Goals as goal
 
 pub returns : goal.returns

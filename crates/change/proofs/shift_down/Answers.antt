@@ -3,7 +3,6 @@ use lib.ListN.{drop}
 use native.Mathlib.Omega.{arith}
 use Prim.Native.Nat.{ℕ, ◌+◌}
 use mathlib.Core.Path.{◌≡◌, ap, ◌∙◌}
-use borrow.Author.Rules.{rules}
 use Rattle.form.specs.Layout.{font_record}
 use Rattle.change.proofs.shift_down.Goals as goal
 

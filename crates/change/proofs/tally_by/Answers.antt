@@ -1,7 +1,5 @@
 use native.Mathlib.Omega.{arith}
 use borrow.Author.Tests.{ne_eqb}
-use Rattle.change.proofs.tally_by.Reads as reads
-use Rattle.change.proofs.tally_by.Lts as lts
 use Rattle.change.proofs.tally_by.Goals as goal
 
 pub returns-then-len-eq0 : goal.returns-then-len-eq0

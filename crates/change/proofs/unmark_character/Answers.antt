@@ -1,6 +1,5 @@
 use mathlib.Core.Path.{sym, ◌∙◌}
 use Rattle.change.proofs.Unmarks.{unmark_off, unmark_other, unmark_code, unmark_char}
-use borrow.Author.Rules.{rules}
 use native.Mathlib.Omega.{arith}
 use Rattle.change.proofs.unmark_character.Goals as goal
 

@@ -1,6 +1,5 @@
 use mathlib.Core.Path.{sym, ◌∙◌}
 use Rattle.change.proofs.Unmarks.{unmark_off, unmark_other, unmark_font}
-use borrow.Author.Rules.{rules}
 use native.Mathlib.Omega.{arith}
 use Rattle.change.proofs.unmark_font.Goals as goal
 

@@ -8,7 +8,6 @@ use Rattle.form.specs.Layout.{character_kept_at, character_record}
 use Rattle.form.specs.Model.{character_head}
 use Rattle.change.specs.Put.{with_bytes}
 use Rattle.change.proofs.Written.{char_put}
-use borrow.Author.Rules.{rules}
 use native.Mathlib.Omega.{arith}
 use Rattle.change.proofs.write_character.Goals as goal
 

@@ -4,7 +4,6 @@ use lib.ListN.{length}
 use Rattle.blocks.specs.Character.{kept_first, descriptor_bytes}
 use Rattle.blocks.proofs.KeptFirst.{kept_length}
 use Rattle.change.proofs.Written.{mid_put}
-use borrow.Author.Rules.{rules}
 use native.Mathlib.Omega.{arith}
 use Rattle.change.proofs.write_descriptor.Goals as goal
 

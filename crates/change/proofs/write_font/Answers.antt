@@ -9,7 +9,6 @@ use Rattle.form.specs.Num.{low_first}
 use Rattle.form.specs.Model.{no_characters, tally_bytes}
 use Rattle.change.specs.Put.{with_bytes}
 use Rattle.change.proofs.Written.{mid_put, font_put}
-use borrow.Author.Rules.{rules}
 use native.Mathlib.Omega.{arith}
 use Rattle.change.proofs.write_font.Goals as goal
 

@@ -5,7 +5,6 @@ use Rattle.form.specs.Layout.{character_kind, code_at, kind_at, number_at}
 use Rattle.form.specs.Num.{low_first}
 use Rattle.change.specs.Put.{with_bytes}
 use Rattle.change.proofs.Written.{head_put}
-use borrow.Author.Rules.{rules}
 use Rattle.change.proofs.write_head.Goals as goal
 
 pub returns : goal.returns

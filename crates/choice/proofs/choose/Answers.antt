@@ -1,4 +1,4 @@
-use Rattle.std.proofs.Common.{sym, ◌∙◌, rules}
+use Rattle.std.proofs.Common.{sym, ◌∙◌}
 use Rattle.choice.proofs.Walk.{no_store, begun, on_store, out_of_range, chooses, store_keyed, one_pass}
 use Rattle.choice.proofs.choose.Goals as goal
 

@@ -1,4 +1,4 @@
-use Rattle.std.proofs.Common.{sym, refl, ap, ◌∙◌, rules}
+use Rattle.std.proofs.Common.{sym, refl, ap, ◌∙◌}
 use Rattle.choice.proofs.Walk.{out_of_range, chooses, stores_keyed, one_pass, two_passes, better_best, picked, picked_none}
 use Rattle.choice.specs.Scores.{score_answer}
 use Rattle.choice.specs.declared.BestSoFar.{BestSoFar}

@@ -1,4 +1,4 @@
-use Rattle.std.proofs.Common.{◌≡◌, true, false, eqb, sym, ◌∙◌, arith, rules}
+use Rattle.std.proofs.Common.{◌≡◌, true, false, eqb, sym, ◌∙◌, arith}
 use Rattle.blocks.specs.Header.{resolution, fine_resolution}
 use Rattle.choice.specs.Fields.{as_bytes, is_fine}
 use Rattle.choice.proofs.compared.Goals as goal

@@ -1,4 +1,3 @@
-use Rattle.std.proofs.Common.{rules}
 use Rattle.choice.specs.Fields.{compared_height}
 use Rattle.choice.proofs.compared_height.Goals as goal
 

@@ -1,4 +1,3 @@
-use Rattle.std.proofs.Common.{rules}
 use Rattle.choice.specs.Fields.{compared_pitch}
 use Rattle.choice.proofs.compared_pitch.Goals as goal
 

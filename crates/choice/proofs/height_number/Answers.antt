@@ -1,4 +1,4 @@
-use Rattle.std.proofs.Common.{◌*◌, ◌<◌, ◌≤◌, arith, rules, le-leb}
+use Rattle.std.proofs.Common.{◌*◌, ◌<◌, ◌≤◌, arith, le-leb}
 use borrow.Author.Tests.{lt-leb}
 use Rattle.choice.specs.Fields.{quarter_dot_parts}
 use Rattle.choice.specs.Steps.{quarter_dot, quarter_point, distance, height_distance}

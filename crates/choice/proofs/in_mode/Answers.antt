@@ -1,4 +1,3 @@
-use Rattle.std.proofs.Common.{rules}
 use Rattle.choice.specs.Steps.{in_mode}
 use Rattle.choice.proofs.in_mode.Goals as goal
 

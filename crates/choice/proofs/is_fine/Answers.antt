@@ -1,4 +1,3 @@
-use Rattle.std.proofs.Common.{rules}
 use Rattle.choice.specs.Fields.{is_fine}
 use Rattle.choice.proofs.is_fine.Goals as goal
 

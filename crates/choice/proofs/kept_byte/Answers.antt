@@ -1,4 +1,4 @@
-use Rattle.std.proofs.Common.{◌<◌, get_or, arith, rules}
+use Rattle.std.proofs.Common.{◌<◌, get_or, arith}
 use Rattle.choice.proofs.Fields.{byte_is}
 use Rattle.choice.proofs.kept_byte.Goals as goal
 

@@ -1,4 +1,4 @@
-use Rattle.std.proofs.Common.{ℕ, ◌*◌, eqb, leb, ap, ◌∙◌, ap₂, rules}
+use Rattle.std.proofs.Common.{ℕ, ◌*◌, eqb, leb, ap, ◌∙◌, ap₂}
 use mathlib.Core.Bool.{beq}
 use Rattle.choice.specs.Fields.{is_fixed}
 use Rattle.choice.specs.Steps.{has_set, has_spacing, pitch_test_limit, qualifies}

@@ -1,4 +1,4 @@
-use Rattle.std.proofs.Common.{ℕ, eqb, ap, ◌∙◌, rules}
+use Rattle.std.proofs.Common.{ℕ, eqb, ap, ◌∙◌}
 use Rattle.choice.specs.Steps.{height_distance, height_off, has_style, has_typeface, has_orientation}
 use Rattle.choice.specs.Scores.{miss, minor_of}
 use Rattle.choice.proofs.minor_of.Goals as goal

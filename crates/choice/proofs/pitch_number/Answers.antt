@@ -1,4 +1,4 @@
-use Rattle.std.proofs.Common.{◌≤◌, mul-le-mul, arith, rules, le-leb}
+use Rattle.std.proofs.Common.{◌≤◌, mul-le-mul, arith, le-leb}
 use borrow.Author.Tests.{lt-leb}
 use Rattle.choice.specs.Scores.{most_compared}
 use Rattle.choice.proofs.pitch_number.Goals as goal

@@ -1,11 +1,8 @@
-use Rattle.std.proofs.Common.{◌≡◌, ◌-◌, length, ap, ◌∙◌, arith, length-drop, length-take, rules}
+use Rattle.std.proofs.Common.{◌≡◌, ◌-◌, length}
 use Rattle.form.specs.Records.{RecordPlace}
 use Rattle.form.specs.Fonts.{fonts_at}
 use Rattle.choice.specs.Candidates.{candidates}
-use Rattle.choice.specs.Scores.{no_score, pass, StandsAt, nowhere}
-use Rattle.choice.specs.declared.Score.{Score}
-use Rattle.choice.specs.declared.BestSoFar.{BestSoFar}
-use Rattle.choice.proofs.Walk.{met, again, stops, weighed_best, stands_next}
+use Rattle.choice.specs.Scores.{no_score, pass, StandsAt}
 use Rattle.choice.proofs.scan.Given as goal
 
 -- the pass from here gives what the whole pass gives

@@ -1,4 +1,3 @@
-use Rattle.std.proofs.Common.{rules}
 use Rattle.choice.specs.Steps.{has_set, takes_part}
 use Rattle.choice.proofs.takes_part.Goals as goal
 

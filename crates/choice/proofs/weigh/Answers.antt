@@ -1,5 +1,5 @@
 use Rattle.choice.specs.Candidates.{Candidate}
-use Rattle.std.proofs.Common.{sym, ◌∙◌, rules}
+use Rattle.std.proofs.Common.{sym, ◌∙◌}
 use Rattle.choice.proofs.Pass.{weighed_out, weighed_behind, weighed_in}
 use Rattle.choice.proofs.weigh.Goals as goal
 

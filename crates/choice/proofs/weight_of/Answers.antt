@@ -1,4 +1,4 @@
-use Rattle.std.proofs.Common.{◌+◌, ◌%◌, ap, ◌∙◌, rules}
+use Rattle.std.proofs.Common.{◌+◌, ◌%◌, ap, ◌∙◌}
 use Rattle.choice.specs.Scores.{raised}
 use Rattle.choice.proofs.Asked.{weights}
 use Rattle.choice.proofs.weight_of.Goals as goal

@@ -1,5 +1,4 @@
 use Rattle.marlinfold.proofs.Outcomes.{added_by}
-use borrow.Author.Rules.{rules}
 use Rattle.marlinfold.proofs.mf_add_figures.Goals as goal
 
 pub returns : goal.returns

@@ -1,6 +1,5 @@
 use mathlib.Core.Path.{ap}
 use Rattle.marlinfold.specs.Calls.{of_check}
-use borrow.Author.Rules.{rules}
 use Rattle.marlinfold.proofs.mf_check_profile.Goals as goal
 
 pub returns : goal.returns

@@ -1,5 +1,4 @@
 use Rattle.marlinfold.proofs.Outcomes.{chosen_by_lem}
-use borrow.Author.Rules.{rules}
 use Rattle.marlinfold.proofs.mf_choose.Goals as goal
 
 pub returns : goal.returns

@@ -1,5 +1,4 @@
 use Rattle.marlinfold.proofs.Outcomes.{downloaded_by}
-use borrow.Author.Rules.{rules}
 use Rattle.marlinfold.proofs.mf_download_character.Goals as goal
 
 pub returns : goal.returns

@@ -1,4 +1,3 @@
-use borrow.Author.Rules.{rules}
 use Rattle.marlinfold.proofs.mf_make_fresh.Goals as goal
 
 pub returns : goal.returns

@@ -1,4 +1,3 @@
-use borrow.Author.Rules.{rules}
 use Rattle.marlinfold.proofs.mf_remove_character.Goals as goal
 
 pub returns : goal.returns

@@ -1,7 +1,6 @@
 use mathlib.Core.Path.{ap}
 use Rattle.salvage.specs.Salvage.{Salvaging}
 use Rattle.marlinfold.specs.Calls.{of_salvage}
-use borrow.Author.Rules.{rules}
 use Rattle.marlinfold.proofs.mf_salvage_stream.Goals as goal
 
 pub returns : goal.returns

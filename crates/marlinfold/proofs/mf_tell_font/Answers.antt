@@ -1,6 +1,5 @@
 use mathlib.Core.Path.{ap}
 use Rattle.marlinfold.specs.Calls.{of_telling}
-use borrow.Author.Rules.{rules}
 use Rattle.marlinfold.proofs.mf_tell_font.Goals as goal
 
 pub returns : goal.returns

@@ -1,5 +1,4 @@
 use Rattle.marlinfold.proofs.Outcomes.{turned_by}
-use borrow.Author.Rules.{rules}
 use Rattle.marlinfold.proofs.mf_turn_picture.Goals as goal
 
 pub returns : goal.returns

@@ -1,6 +1,5 @@
 use mathlib.Core.Path.{ap}
 use Rattle.marlinfold.specs.Calls.{of_writing}
-use borrow.Author.Rules.{rules}
 use Rattle.marlinfold.proofs.mf_write_font.Goals as goal
 
 pub returns : goal.returns

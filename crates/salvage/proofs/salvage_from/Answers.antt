@@ -1,15 +1,7 @@
 use Rattle.salvage.proofs.Onward.{went_end, went_full, went_on, torn_at_lem, answered}
-use Rattle.salvage.specs.Onward.{going_on}
-use mathlib.Core.Path.{◌≡◌, refl, sym, ◌∙◌}
-use Rattle.salvage.specs.Onward.{going_on}
-use Rattle.salvage.specs.Salvage.{room_of}
-use Rattle.stream.specs.Underway.{Underway}
-use Rattle.stream.specs.Reading.{first_target}
-use lib.ListN.{length}
-use Prim.Native.Nat.{◌+◌, ◌*◌, ◌-◌, ◌≤◌, ◌<◌}
-use mathlib.Core.Path.{◌≡◌, refl, sym, ◌∙◌}
+use mathlib.Core.Path.{refl, sym, ◌∙◌}
+use mathlib.Core.Path.{refl, sym, ◌∙◌}
 use native.Mathlib.Omega.{arith}
-use borrow.Author.Rules.{rules}
 use Rattle.salvage.proofs.salvage_from.Goals as goal
 
 pub loop-first-init : goal.loop-first-init
@@ -48,11 +40,11 @@ overflow_add-n c = omega (arith, c.loop-first.invariant.6, c.if-room-eq0.false)
 pub loop-first-preserved : goal.loop-first-preserved
 loop-first-preserved c =
     let h = went_on c.args.stream.now _ _ c.loop-first.list _ c.loop-first.n c.loop-first.room _ _ c.loop-first.x _ c.read_from-last.result c.loop-first.invariant.1 c.read_from-last.ensures.s_after c.read_from-last.ensures.ends_within c.in-BrokenAt.is (omega (arith, c.if-room-eq0.false)) c.loop-first.invariant.2 c.skip-next.ensures.value c.skip-next.ensures.list_after c.start_at-x.ensures in (
-  h.0,
-  h.1,
-  omega (arith, c.loop-first.invariant.2, c.skip-next.auto.list, c.if-room-eq0.false),
-  c.read_from-last.auto.s ∙ c.loop-first.invariant.3,
-  c.skip-next.auto.list ∙ c.loop-first.invariant.4,
-  h.2 ∙ c.loop-first.invariant.5,
-  omega (arith, c.loop-first.invariant.6, c.if-room-eq0.false),
-)
+      h.0,
+      h.1,
+      omega (arith, c.loop-first.invariant.2, c.skip-next.auto.list, c.if-room-eq0.false),
+      c.read_from-last.auto.s ∙ c.loop-first.invariant.3,
+      c.skip-next.auto.list ∙ c.loop-first.invariant.4,
+      h.2 ∙ c.loop-first.invariant.5,
+      omega (arith, c.loop-first.invariant.6, c.if-room-eq0.false),
+    )

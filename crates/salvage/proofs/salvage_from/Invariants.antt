@@ -1,15 +1,12 @@
-use Rattle.salvage.proofs.Onward.{went_end, went_full, went_on, torn_at_lem, answered}
 use Rattle.salvage.specs.Onward.{going_on}
-use mathlib.Core.Path.{◌≡◌, refl, sym, ◌∙◌}
+use mathlib.Core.Path.{◌≡◌}
 use Rattle.salvage.specs.Onward.{going_on}
 use Rattle.salvage.specs.Salvage.{room_of}
 use Rattle.stream.specs.Underway.{Underway}
 use Rattle.stream.specs.Reading.{first_target}
 use lib.ListN.{length}
-use Prim.Native.Nat.{◌+◌, ◌*◌, ◌-◌, ◌≤◌, ◌<◌}
-use mathlib.Core.Path.{◌≡◌, refl, sym, ◌∙◌}
-use native.Mathlib.Omega.{arith}
-use borrow.Author.Rules.{rules}
+use Prim.Native.Nat.{◌+◌, ◌*◌, ◌≤◌, ◌<◌}
+use mathlib.Core.Path.{◌≡◌}
 use Rattle.salvage.proofs.salvage_from.Given as goal
 
 abbrev pub invariant-loop-first : goal.invariant-loop-first

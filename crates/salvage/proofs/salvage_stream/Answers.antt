@@ -7,7 +7,6 @@ use Rattle.store.proofs.Cursors.{opened_at, opened_not}
 use lib.ListN.{length}
 use mathlib.Core.Path.{sym, ap, ◌∙◌, subst}
 use native.Mathlib.Omega.{arith}
-use borrow.Author.Rules.{rules}
 use Rattle.salvage.proofs.salvage_stream.Goals as goal
 
 pub returns-in_default : goal.returns-in_default

@@ -1,5 +1,4 @@
 use mathlib.Core.Path.{sym, ap}
-use borrow.Author.Rules.{rules}
 use Rattle.sheet.specs.Sheet.{answer_of}
 use Rattle.sheet.proofs.answer_of.Goals as goal
 

@@ -1,4 +1,3 @@
-use borrow.Author.Rules.{rules}
 use Rattle.sheet.proofs.Sheet.{on_store}
 use Rattle.sheet.proofs.answer_request.Goals as goal
 

@@ -1,5 +1,4 @@
 use native.Mathlib.Omega.{arith}
-use borrow.Author.Rules.{rules}
 use Rattle.sheet.proofs.Sheet.{no_store, too_many, no_room, taken}
 use Rattle.sheet.proofs.begin_sheet.Goals as goal
 

@@ -2,7 +2,6 @@ use native.Mathlib.Omega.{arith}
 use Prim.Native.Nat.{◌+◌, ◌-◌, ◌%◌}
 use lib.Pow.{pow_pos, pow_mono}
 use Rattle.pictures.proofs.Packing.{shifted}
-use borrow.Author.Rules.{rules}
 use Rattle.blackdots.proofs.beyond.beyond.Goals as goal
 
 pub overflow_sub-result-2 : goal.overflow_sub-result-2

@@ -1,11 +1,9 @@
 use Rattle.blackdots.proofs.ByteOnes.{overhang_rest, overhang_more, ones_masked}
-use Rattle.blackdots.specs.Counting.{overhang}
-use Prim.Native.Nat.{ℕ, ◌+◌, ◌*◌, ◌-◌, ◌≤◌, ◌^◌}
-use mathlib.Core.Path.{◌≡◌, ◌∙◌}
+use Prim.Native.Nat.{ℕ, ◌+◌}
+use mathlib.Core.Path.{◌∙◌}
 use native.Mathlib.Nat.{zero-mul, add-mul, one-mul, add-zero}
 use native.Mathlib.Omega.{arith}
-use lib.ListN.{length, get_or}
-use borrow.Author.Rules.{rules}
+use lib.ListN.{get_or}
 use Rattle.blackdots.proofs.beyond.beyond_from.Goals as goal
 
 pub loop-at-init : goal.loop-at-init

@@ -1,11 +1,7 @@
-use Rattle.blackdots.proofs.ByteOnes.{overhang_rest, overhang_more, ones_masked}
 use Rattle.blackdots.specs.Counting.{overhang}
 use Prim.Native.Nat.{ℕ, ◌+◌, ◌*◌, ◌-◌, ◌≤◌, ◌^◌}
-use mathlib.Core.Path.{◌≡◌, ◌∙◌}
-use native.Mathlib.Nat.{zero-mul, add-mul, one-mul, add-zero}
-use native.Mathlib.Omega.{arith}
-use lib.ListN.{length, get_or}
-use borrow.Author.Rules.{rules}
+use mathlib.Core.Path.{◌≡◌}
+use lib.ListN.{length}
 use Rattle.blackdots.proofs.beyond.beyond_from.Given as goal
 
 abbrev pub invariant-loop-at : goal.invariant-loop-at

@@ -1,12 +1,8 @@
 use Rattle.blackdots.proofs.ByteOnes.{overhang_start, apart_overhang}
-use Rattle.blackdots.specs.Counting.{overhang}
-use Prim.Native.Nat.{ℕ, ◌+◌, ◌*◌, ◌-◌, ◌≤◌, ◌^◌}
-use mathlib.Core.Path.{◌≡◌}
+use Prim.Native.Nat.{ℕ, ◌+◌}
 use native.Mathlib.Nat.{zero-mul, add-mul}
 use native.Mathlib.Omega.{arith}
 use lib.Count.{ones-le}
-use lib.ListN.{length}
-use borrow.Author.Rules.{rules}
 use Rattle.blackdots.proofs.beyond.by_eights.Goals as goal
 
 pub loop-at-init : goal.loop-at-init

@@ -1,12 +1,7 @@
-use Rattle.blackdots.proofs.ByteOnes.{overhang_start, apart_overhang}
 use Rattle.blackdots.specs.Counting.{overhang}
 use Prim.Native.Nat.{ℕ, ◌+◌, ◌*◌, ◌-◌, ◌≤◌, ◌^◌}
 use mathlib.Core.Path.{◌≡◌}
-use native.Mathlib.Nat.{zero-mul, add-mul}
-use native.Mathlib.Omega.{arith}
-use lib.Count.{ones-le}
 use lib.ListN.{length}
-use borrow.Author.Rules.{rules}
 use Rattle.blackdots.proofs.beyond.by_eights.Given as goal
 
 abbrev pub invariant-loop-at : goal.invariant-loop-at

@@ -1,7 +1,6 @@
 use native.Mathlib.Nat.{lt_of_le_of_lt}
 use native.Mathlib.Omega.{arith}
 use lib.Bits.{and_le_l}
-use borrow.Author.Rules.{rules}
 use Rattle.blackdots.proofs.beyond.eight_masked.Goals as goal
 
 pub overflow_mul-result : goal.overflow_mul-result

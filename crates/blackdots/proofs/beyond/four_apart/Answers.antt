@@ -2,7 +2,6 @@ use Rattle.blackdots.proofs.ByteOnes.{masked_joined}
 use Prim.Native.Nat.{◌+◌, ◌*◌}
 use mathlib.Core.Path.{◌≡◌}
 use native.Mathlib.Omega.{arith}
-use borrow.Author.Rules.{rules}
 use Rattle.blackdots.proofs.beyond.four_apart.Goals as goal
 
 pub returns : goal.returns

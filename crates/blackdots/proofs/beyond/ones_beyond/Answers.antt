@@ -1,7 +1,6 @@
 use Rattle.blackdots.proofs.ByteOnes.{overhang_start}
 use native.Mathlib.Nat.{zero-mul}
 use native.Mathlib.Omega.{arith}
-use borrow.Author.Rules.{rules}
 use Rattle.blackdots.proofs.beyond.ones_beyond.Goals as goal
 
 pub returns-then-b-n : goal.returns-then-b-n

@@ -6,7 +6,6 @@ use native.Mathlib.Nat.{one-mul}
 use native.Mathlib.Omega.{arith}
 use lib.Bits.{bit_and}
 use lib.Count.{ones}
-use borrow.Author.Rules.{rules}
 use Rattle.blackdots.proofs.beyond.two_apart.Goals as goal
 
 pub returns : goal.returns

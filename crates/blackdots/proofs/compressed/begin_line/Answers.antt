@@ -1,5 +1,4 @@
 use Rattle.blackdots.proofs.RunDots.{counting_starts}
-use borrow.Author.Rules.{rules}
 use Rattle.blackdots.proofs.compressed.begin_line.Goals as goal
 
 pub returns-then-width-lt-WIDE : goal.returns-then-width-lt-WIDE

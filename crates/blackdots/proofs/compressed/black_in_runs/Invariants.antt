@@ -1,9 +1,6 @@
-use Rattle.blackdots.proofs.RunDots.{LineCounted, line_counted, line_uncounted, Rows, rows_start, rows_room, rows_done, rows_ended, rows_unfinished, rows_next}
-use native.Mathlib.Omega.{arith}
-use borrow.Author.Rules.{rules}
-use lib.ListN.{length, get_or}
-use mathlib.Core.Path.{◌≡◌, sym, ◌∙◌}
-use Prim.Native.Nat.{◌-◌, ◌+◌, ◌*◌, ◌≤◌, min}
+use Rattle.blackdots.proofs.RunDots.{Rows}
+use lib.ListN.{length}
+use Prim.Native.Nat.{◌-◌}
 use Rattle.blackdots.proofs.compressed.black_in_runs.Given as goal
 
 abbrev pub invariant-loop-at : goal.invariant-loop-at

@@ -1,10 +1,6 @@
-use Rattle.blackdots.specs.Counting.{Counting}
 use Rattle.blackdots.proofs.RunDots.{counting_ends, white_last, white_unfinished, black_last, black_next}
 use native.Mathlib.Omega.{arith}
-use borrow.Author.Rules.{rules}
-use lib.ListN.{length}
 use mathlib.Core.Path.{◌∙◌}
-use Prim.Native.Nat.{◌-◌}
 use Rattle.blackdots.proofs.compressed.count_line.Goals as goal
 
 pub loop-at-init : goal.loop-at-init

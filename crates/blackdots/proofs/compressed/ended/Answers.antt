@@ -1,4 +1,3 @@
-use borrow.Author.Rules.{rules}
 use Rattle.blackdots.proofs.compressed.ended.Goals as goal
 
 pub returns-then-whole : goal.returns-then-whole

@@ -1,9 +1,5 @@
-use Rattle.blackdots.specs.Counting.{Counting}
 use Rattle.blackdots.proofs.RunDots.{counting_starts, eight_next}
-use Prim.Native.Nat.{◌-◌}
 use native.Mathlib.Omega.{arith}
-use lib.ListN.{length}
-use borrow.Author.Rules.{rules}
 use Rattle.blackdots.proofs.compressed.pass_eights.Goals as goal
 
 pub loop-at-init : goal.loop-at-init

@@ -1,9 +1,6 @@
 use Rattle.blackdots.specs.Counting.{Counting}
-use Rattle.blackdots.proofs.RunDots.{counting_starts, eight_next}
 use Prim.Native.Nat.{◌-◌}
-use native.Mathlib.Omega.{arith}
 use lib.ListN.{length}
-use borrow.Author.Rules.{rules}
 use Rattle.blackdots.proofs.compressed.pass_eights.Given as goal
 
 abbrev pub invariant-loop-at : goal.invariant-loop-at

@@ -1,7 +1,6 @@
 use Rattle.blackdots.proofs.ByteOnes.{block_ones}
 use Rattle.blackdots.specs.Counting.{ones_said}
 use native.Mathlib.Omega.{arith}
-use borrow.Author.Rules.{rules}
 use Rattle.blackdots.proofs.ones.add_block.Goals as goal
 
 pub count_more-eights-requires : goal.count_more-eights-requires

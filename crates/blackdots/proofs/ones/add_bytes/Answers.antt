@@ -1,6 +1,5 @@
 use Rattle.blackdots.proofs.ByteOnes.{ones_split}
 use native.Mathlib.Omega.{arith}
-use borrow.Author.Rules.{rules}
 use Rattle.blackdots.proofs.ones.add_bytes.Goals as goal
 
 pub returns : goal.returns

@@ -1,6 +1,5 @@
 use Rattle.blackdots.specs.Counting.{ones_of_two}
 use native.Mathlib.Omega.{arith}
-use borrow.Author.Rules.{rules}
 use Rattle.blackdots.proofs.ones.add_pairs.Goals as goal
 
 pub returns : goal.returns

@@ -1,7 +1,5 @@
 use Rattle.blackdots.proofs.ByteOnes.{ones_joined}
-use Prim.Native.Nat.{◌-◌}
 use native.Mathlib.Omega.{arith}
-use borrow.Author.Rules.{rules}
 use Rattle.blackdots.proofs.ones.four_at.Goals as goal
 
 pub returns : goal.returns

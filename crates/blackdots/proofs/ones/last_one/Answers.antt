@@ -2,7 +2,6 @@ use Rattle.blackdots.proofs.ByteOnes.{ones_last, ones_past}
 use mathlib.Core.Path.{sym, ap, ◌∙◌}
 use lib.Count.{ones}
 use native.Mathlib.Omega.{arith}
-use borrow.Author.Rules.{rules}
 use Rattle.blackdots.proofs.ones.last_one.Goals as goal
 
 pub returns-then-at-b : goal.returns-then-at-b

@@ -1,6 +1,5 @@
 use Rattle.blackdots.proofs.ByteOnes.{ones_rest}
 use native.Mathlib.Omega.{arith}
-use borrow.Author.Rules.{rules}
 use Rattle.blackdots.proofs.ones.last_seven.Goals as goal
 
 pub returns : goal.returns

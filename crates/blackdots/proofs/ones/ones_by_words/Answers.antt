@@ -1,11 +1,6 @@
 use Rattle.blackdots.proofs.ByteOnes.{ones_next}
-use Rattle.blackdots.specs.Black.{ones_of}
-use Prim.Native.Nat.{◌+◌, ◌*◌, ◌-◌, ◌≤◌}
-use mathlib.Core.Path.{◌≡◌}
 use lib.Count.{ones-le}
-use lib.ListN.{length, drop}
 use native.Mathlib.Omega.{arith}
-use borrow.Author.Rules.{rules}
 use Rattle.blackdots.proofs.ones.ones_by_words.Goals as goal
 
 pub loop-i-init : goal.loop-i-init

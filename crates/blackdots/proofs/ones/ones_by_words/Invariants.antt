@@ -1,11 +1,7 @@
-use Rattle.blackdots.proofs.ByteOnes.{ones_next}
 use Rattle.blackdots.specs.Black.{ones_of}
 use Prim.Native.Nat.{◌+◌, ◌*◌, ◌-◌, ◌≤◌}
 use mathlib.Core.Path.{◌≡◌}
-use lib.Count.{ones-le}
 use lib.ListN.{length, drop}
-use native.Mathlib.Omega.{arith}
-use borrow.Author.Rules.{rules}
 use Rattle.blackdots.proofs.ones.ones_by_words.Given as goal
 
 abbrev pub invariant-loop-i : goal.invariant-loop-i

@@ -1,11 +1,7 @@
 use Rattle.blackdots.proofs.ByteOnes.{said_none, ones_back, ones_parts}
-use Rattle.blackdots.specs.Black.{ones_of}
-use Rattle.blackdots.specs.Counting.{ones_said}
-use Prim.Native.Nat.{ℕ, ◌+◌, ◌-◌, ◌≤◌}
-use mathlib.Core.Path.{◌≡◌}
-use lib.ListN.{length, drop, length-take}
+use Prim.Native.Nat.{ℕ, ◌-◌}
+use lib.ListN.{length-take}
 use native.Mathlib.Omega.{arith}
-use borrow.Author.Rules.{rules}
 use Rattle.blackdots.proofs.ones.ones_in_blocks.Goals as goal
 
 pub loop-left-init : goal.loop-left-init

@@ -1,11 +1,8 @@
-use Rattle.blackdots.proofs.ByteOnes.{said_none, ones_back, ones_parts}
 use Rattle.blackdots.specs.Black.{ones_of}
 use Rattle.blackdots.specs.Counting.{ones_said}
-use Prim.Native.Nat.{ℕ, ◌+◌, ◌-◌, ◌≤◌}
+use Prim.Native.Nat.{◌+◌, ◌≤◌}
 use mathlib.Core.Path.{◌≡◌}
-use lib.ListN.{length, drop, length-take}
-use native.Mathlib.Omega.{arith}
-use borrow.Author.Rules.{rules}
+use lib.ListN.{length, drop}
 use Rattle.blackdots.proofs.ones.ones_in_blocks.Given as goal
 
 abbrev pub invariant-loop-left : goal.invariant-loop-left

@@ -1,7 +1,6 @@
 use Rattle.blackdots.proofs.ByteOnes.{ones_split}
 use Rattle.blackdots.specs.Counting.{ones_of_two}
 use native.Mathlib.Omega.{arith}
-use borrow.Author.Rules.{rules}
 use Rattle.blackdots.proofs.ones.pair_at.Goals as goal
 
 pub returns : goal.returns

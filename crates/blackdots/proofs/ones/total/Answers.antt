@@ -1,6 +1,5 @@
 use Rattle.blackdots.specs.Counting.{ones_said}
 use native.Mathlib.Omega.{arith}
-use borrow.Author.Rules.{rules}
 use Rattle.blackdots.proofs.ones.total.Goals as goal
 
 pub returns : goal.returns

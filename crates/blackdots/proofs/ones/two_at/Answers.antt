@@ -1,12 +1,11 @@
 use mathlib.Core.List.{List}
 use Rattle.blackdots.proofs.ByteOnes.{ones_joined, ones_byte}
 use Rattle.blackdots.specs.Black.{ones_of}
-use Prim.Native.Nat.{ℕ, ◌+◌, ◌-◌, ◌≤◌}
+use Prim.Native.Nat.{ℕ, ◌+◌, ◌≤◌}
 use mathlib.Core.Path.{◌≡◌, sym, ap, ◌∙◌}
 use lib.Count.{ones}
 use lib.ListN.{length, take, drop}
 use native.Mathlib.Omega.{arith}
-use borrow.Author.Rules.{rules}
 use Rattle.blackdots.proofs.ones.two_at.Goals as goal
 
 pub returns : goal.returns

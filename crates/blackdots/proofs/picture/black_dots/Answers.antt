@@ -2,7 +2,6 @@ use Rattle.blackdots.proofs.RunDots.{black_runs}
 use Prim.Native.Nat.{ℕ}
 use Rattle.blackdots.specs.Black.{black_dots}
 use mathlib.Core.Path.{sym, ap, ◌∙◌}
-use borrow.Author.Rules.{rules}
 use Rattle.blackdots.proofs.picture.black_dots.Goals as goal
 
 pub black_in_bitmap-requires : goal.black_in_bitmap-requires

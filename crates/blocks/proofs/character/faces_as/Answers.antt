@@ -3,7 +3,6 @@ use lib.ListN.{get_or}
 use native.Mathlib.Omega.{arith}
 use mathlib.Core.Path.{◌≡◌}
 use Prim.Native.Nat.{◌+◌, ◌*◌}
-use borrow.Author.Rules.{rules}
 use Rattle.blocks.proofs.character.faces_as.Goals as goal
 
 pub returns : goal.returns

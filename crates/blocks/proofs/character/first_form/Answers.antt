@@ -1,4 +1,3 @@
-use borrow.Author.Rules.{rules}
 use Rattle.blocks.proofs.character.first_form.Goals as goal
 
 pub returns : goal.returns

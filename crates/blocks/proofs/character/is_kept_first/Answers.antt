@@ -4,7 +4,6 @@ use Rattle.blocks.specs.Field.{byte, negative}
 use mathlib.Core.Bool.{not}
 use lib.Dec.{eqb}
 use borrow.Author.Tests.{eq-eqb, ne_eqb}
-use borrow.Author.Rules.{rules}
 use Rattle.blocks.proofs.character.is_kept_first.Goals as goal
 
 pub returns-then-k-ne-KEPT : goal.returns-then-k-ne-KEPT

@@ -1,4 +1,3 @@
-use borrow.Author.Rules.{rules}
 use Rattle.blocks.specs.Character.{fix_first, kept_first}
 use Rattle.blocks.proofs.character.keep_first.Goals as goal
 

@@ -1,6 +1,5 @@
 use borrow.Author.Tests.{eq-eqb, ne_eqb}
 use Rattle.blocks.specs.Character.{kind_of}
-use borrow.Author.Rules.{rules}
 use Rattle.blocks.proofs.character.kind_of.Goals as goal
 
 pub returns-then-block-ne-FORMAT : goal.returns-then-block-ne-FORMAT

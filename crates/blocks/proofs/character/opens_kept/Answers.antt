@@ -1,7 +1,6 @@
 use lib.ListN.{get_or}
 use Rattle.blocks.proofs.Openings.{opens}
 use native.Mathlib.Omega.{arith}
-use borrow.Author.Rules.{rules}
 use Rattle.blocks.proofs.character.opens_kept.Goals as goal
 
 pub returns : goal.returns

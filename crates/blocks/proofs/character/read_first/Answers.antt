@@ -1,6 +1,5 @@
 -- `blocks::read_first` meets its contract: at each `return` the tests that led there say which check fails first. Assumes nothing.
 use mathlib.Core.Path.{sym}
-use borrow.Author.Rules.{rules}
 use borrow.Author.Tests.{le-leb, lt-leb}
 use Rattle.blocks.specs.Character.{read_first}
 use Rattle.pictures.proofs.Tests.{failed, passed}

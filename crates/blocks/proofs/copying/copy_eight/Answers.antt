@@ -1,6 +1,5 @@
 use native.Mathlib.Omega.{arith}
 use lib.ListN.{length-set}
-use borrow.Author.Rules.{rules}
 use Rattle.blocks.proofs.copying.copy_eight.Goals as goal
 
 pub bounds-to-at-2 : goal.bounds-to-at-2

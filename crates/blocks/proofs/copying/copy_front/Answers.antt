@@ -1,9 +1,7 @@
 use Rattle.blocks.proofs.Copies.{all_copied}
-use lib.Seq.{paste, paste-zero}
-use lib.ListN.{length}
+use lib.Seq.{paste-zero}
 use native.Mathlib.Omega.{arith}
-use Prim.Native.Nat.{◌-◌, ◌≤◌}
-use mathlib.Core.Path.{◌≡◌, refl, ◌∙◌}
+use mathlib.Core.Path.{refl, ◌∙◌}
 use borrow.Author.Rules.{rules}
 use Rattle.blocks.proofs.copying.copy_front.Goals as goal
 

@@ -1,10 +1,7 @@
-use Rattle.blocks.proofs.Copies.{all_copied}
-use lib.Seq.{paste, paste-zero}
+use lib.Seq.{paste}
 use lib.ListN.{length}
-use native.Mathlib.Omega.{arith}
 use Prim.Native.Nat.{◌-◌, ◌≤◌}
-use mathlib.Core.Path.{◌≡◌, refl, ◌∙◌}
-use borrow.Author.Rules.{rules}
+use mathlib.Core.Path.{◌≡◌}
 use Rattle.blocks.proofs.copying.copy_front.Given as goal
 
 abbrev pub invariant-loop-at : goal.invariant-loop-at

@@ -1,5 +1,4 @@
 use mathlib.Core.Path.{◌∙◌}
-use borrow.Author.Rules.{rules}
 use Rattle.blocks.proofs.field.floor_word.Goals as goal
 
 pub returns-then-is_negative : goal.returns-then-is_negative

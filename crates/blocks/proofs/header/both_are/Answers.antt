@@ -1,4 +1,3 @@
-use borrow.Author.Rules.{rules}
 use Rattle.blocks.proofs.header.both_are.Goals as goal
 
 pub returns : goal.returns

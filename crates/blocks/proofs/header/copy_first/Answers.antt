@@ -4,7 +4,6 @@ use lib.ListN.{length, take, drop, length-take, length-drop}
 use lib.Seq.{length-take-le}
 use Rattle.blocks.specs.Header.{plain_bytes, first_bytes}
 use Rattle.blocks.proofs.HeaderBytes.{own_within, own_fine, put_coarse}
-use borrow.Author.Rules.{rules}
 use Rattle.blocks.proofs.header.copy_first.Goals as goal
 
 pub says_resolution-requires : goal.says_resolution-requires

@@ -1,7 +1,6 @@
 use native.Mathlib.Omega.{arith}
 use lib.ListN.{length-set}
 use Rattle.blocks.specs.Header.{fix_header}
-use borrow.Author.Rules.{rules}
 use Rattle.blocks.proofs.header.fix_header.Goals as goal
 
 pub overflow_cast-size : goal.overflow_cast-size

@@ -1,5 +1,4 @@
 -- `blocks::header_form` meets its contract: each call's result is what it ensures. Assumes nothing.
-use borrow.Author.Rules.{rules}
 use Rattle.blocks.proofs.header.header_form.Goals as goal
 
 pub returns : goal.returns

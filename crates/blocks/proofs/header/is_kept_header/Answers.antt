@@ -5,7 +5,6 @@ use borrow.Author.Tests.{eq-eqb, ne_eqb}
 use Rattle.blocks.specs.Header.{is_kept_header, header_fields}
 use Rattle.pictures.proofs.Tests.{failed, passed}
 use Rattle.blocks.proofs.HeaderBytes.{own_within}
-use borrow.Author.Rules.{rules}
 use Rattle.blocks.proofs.header.is_kept_header.Goals as goal
 
 -- the definition has the fields before the resolution

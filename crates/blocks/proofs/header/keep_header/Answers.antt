@@ -1,4 +1,3 @@
-use borrow.Author.Rules.{rules}
 use Rattle.blocks.specs.Header.{fix_header, kept_header}
 use Rattle.blocks.proofs.header.keep_header.Goals as goal
 

@@ -1,6 +1,5 @@
 use native.Mathlib.Omega.{arith}
 use Rattle.blocks.specs.Header.{own_bytes}
-use borrow.Author.Rules.{rules}
 use Rattle.blocks.proofs.header.own_bytes.Goals as goal
 
 pub returns-then-says_resolution : goal.returns-then-says_resolution

@@ -2,7 +2,6 @@ use Rattle.collection.specs.Figures.{figure_from}
 use Rattle.collection.proofs.Passing.{character_added, dots_are, draw_by, room_by}
 use Prim.Native.Nat.{ℕ}
 use mathlib.Core.Path.{ap, ◌∙◌}
-use borrow.Author.Rules.{rules}
 use Rattle.collection.proofs.adding.add_character.Goals as goal
 
 pub black_dots-dots-requires : goal.black_dots-dots-requires

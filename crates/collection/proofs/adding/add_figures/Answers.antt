@@ -1,9 +1,7 @@
 use Rattle.collection.proofs.Passing.{answered, begun_not, begun_at, not_store_lem, not_taken, added, after_room, after_stores, Ready, ready}
 use Rattle.collection.proofs.Passing.{answered, begun_not, begun_at, not_store_lem, not_taken, added, after_room, after_stores}
-use Rattle.collection.proofs.Checking.{taken}
 use Rattle.pictures.proofs.Tests.{passed, failed}
 use native.Mathlib.Omega.{arith}
-use borrow.Author.Rules.{rules}
 use Rattle.collection.proofs.adding.add_figures.Goals as goal
 
 pub returns-in_default : goal.returns-in_default

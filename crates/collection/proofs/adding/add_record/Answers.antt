@@ -3,7 +3,6 @@ use Rattle.collection.proofs.Passing.{descriptor_long, drawable, character_room,
 use Rattle.form.specs.Records.{CharacterMet}
 use native.Mathlib.Omega.{arith}
 use mathlib.Core.Path.{refl}
-use borrow.Author.Rules.{rules}
 use Rattle.collection.proofs.adding.add_record.Goals as goal
 
 -- what was met, where a pattern has bound it

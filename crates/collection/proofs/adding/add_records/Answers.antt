@@ -1,9 +1,6 @@
-use Rattle.collection.proofs.Passing.{Going, going_next, going_ends, step_next, step_end}
+use Rattle.collection.proofs.Passing.{going_next, going_ends, step_next, step_end}
 use native.Mathlib.Omega.{arith}
-use borrow.Author.Rules.{rules}
-use lib.ListN.{length}
 use mathlib.Core.Path.{refl}
-use Prim.Native.Nat.{◌-◌}
 use Rattle.collection.proofs.adding.add_records.Goals as goal
 
 pub loop-next-init : goal.loop-next-init

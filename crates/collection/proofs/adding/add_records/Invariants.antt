@@ -1,8 +1,5 @@
-use Rattle.collection.proofs.Passing.{Going, going_next, going_ends, step_next, step_end}
-use native.Mathlib.Omega.{arith}
-use borrow.Author.Rules.{rules}
+use Rattle.collection.proofs.Passing.{Going}
 use lib.ListN.{length}
-use mathlib.Core.Path.{refl}
 use Prim.Native.Nat.{◌-◌}
 use Rattle.collection.proofs.adding.add_records.Given as goal
 

@@ -1,4 +1,3 @@
-use borrow.Author.Rules.{rules}
 use Rattle.collection.proofs.check.code_within.Goals as goal
 
 pub returns : goal.returns

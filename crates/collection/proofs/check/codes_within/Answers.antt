@@ -1,10 +1,7 @@
 use Rattle.pictures.proofs.Tests.{passed, failed}
 use Rattle.collection.proofs.Checking.{codes_start, codes_next, codes_fail}
-use Rattle.collection.specs.Figures.{codes_within}
 use native.Mathlib.Omega.{arith}
-use mathlib.Core.Bool.{true}
 use mathlib.Core.Path.{◌≡◌, sym, ◌∙◌}
-use Prim.Native.Nat.{◌-◌, ◌≤◌}
 use Rattle.collection.proofs.check.codes_within.Goals as goal
 
 pub loop-c-init : goal.loop-c-init

@@ -1,5 +1,4 @@
 use Rattle.collection.proofs.Checking.{not_long, too_many, taken_by}
-use borrow.Author.Rules.{rules}
 use Rattle.collection.proofs.check.figures_taken.Goals as goal
 
 pub returns-then-b-ne-FIGURES_BYTES : goal.returns-then-b-ne-FIGURES_BYTES

@@ -1,5 +1,4 @@
 use Rattle.collection.proofs.Bytes.{figure_read}
-use borrow.Author.Rules.{rules}
 use Rattle.collection.proofs.figure.figure_at.Goals as goal
 
 pub returns : goal.returns

@@ -1,7 +1,6 @@
 use Rattle.collection.specs.Figures.{figure_from}
 use Prim.Native.Nat.{ℕ}
 use mathlib.Core.Path.{ap, ◌∙◌}
-use borrow.Author.Rules.{rules}
 use Rattle.collection.proofs.figure.figure_of.Goals as goal
 
 pub returns : goal.returns

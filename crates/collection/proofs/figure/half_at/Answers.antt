@@ -1,6 +1,5 @@
 use native.Mathlib.Omega.{arith}
 use Rattle.form.proofs.Fields.{field_four}
-use borrow.Author.Rules.{rules}
 use Rattle.collection.proofs.figure.half_at.Goals as goal
 
 pub returns : goal.returns

@@ -1,6 +1,5 @@
 use Rattle.collection.proofs.Bytes.{lesser_none, lesser_both}
 use native.Mathlib.Omega.{arith}
-use borrow.Author.Rules.{rules}
 use Rattle.collection.proofs.figure.lesser_width.Goals as goal
 
 pub returns-then-b-eq0 : goal.returns-then-b-eq0

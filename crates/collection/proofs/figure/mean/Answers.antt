@@ -1,5 +1,4 @@
 use Rattle.collection.proofs.Bytes.{mean_some}
-use borrow.Author.Rules.{rules}
 use Rattle.collection.proofs.figure.mean.Goals as goal
 
 pub returns : goal.returns

@@ -1,6 +1,5 @@
 use native.Mathlib.Omega.{arith}
 use Rattle.collection.proofs.Bytes.{field_eight}
-use borrow.Author.Rules.{rules}
 use Rattle.collection.proofs.figure.number_at.Goals as goal
 
 pub returns : goal.returns

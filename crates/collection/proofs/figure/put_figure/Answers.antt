@@ -1,5 +1,4 @@
 use Rattle.collection.proofs.Bytes.{figure_put}
-use borrow.Author.Rules.{rules}
 use Rattle.collection.proofs.figure.put_figure.Goals as goal
 
 pub returns : goal.returns

@@ -1,5 +1,4 @@
 use Rattle.collection.proofs.Bytes.{rest_some}
-use borrow.Author.Rules.{rules}
 use Rattle.collection.proofs.figure.rest.Goals as goal
 
 pub returns : goal.returns

@@ -1,6 +1,5 @@
 use Prim.Native.Nat.{◌+◌}
 use Rattle.collection.specs.Figures.{joined}
-use borrow.Author.Rules.{rules}
 use Rattle.collection.proofs.figure.with_character.Goals as goal
 
 pub returns : goal.returns

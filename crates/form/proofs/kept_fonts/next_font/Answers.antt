@@ -1,9 +1,6 @@
-use mathlib.Core.Path.{◌≡◌, refl, sym, ap, ◌∙◌}
-use Prim.Native.Nat.{ℕ, ◌+◌, ◌-◌, ◌≤◌}
-use lib.ListN.{length}
+use mathlib.Core.Path.{refl, sym, ap, ◌∙◌}
+use Prim.Native.Nat.{ℕ, ◌+◌}
 use Rattle.form.specs.Layout.{font_kept_at}
-use Rattle.form.specs.Records.{RecordPlace}
-use Rattle.form.specs.Fonts.{fonts_at}
 use Rattle.form.proofs.RecordRuns.{font_met, character_met}
 use Rattle.form.proofs.KeptFonts.{fonts_short, fonts_zero, font_listed, character_passed, font_place_lem}
 use borrow.Author.Rules.{rules}

@@ -1,6 +1,5 @@
-use Rattle.form.proofs.Locates.{Passing, passing, passed_all, next, stopped, passed_one}
+use Rattle.form.proofs.Locates.{passing, passed_all, next, stopped, passed_one}
 use native.Mathlib.Omega.{arith}
-use Prim.Native.Nat.{◌-◌}
 use Rattle.form.proofs.locate.advance.Goals as goal
 
 pub loop-at-init : goal.loop-at-init

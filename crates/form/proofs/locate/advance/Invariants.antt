@@ -1,5 +1,4 @@
-use Rattle.form.proofs.Locates.{Passing, passing, passed_all, next, stopped, passed_one}
-use native.Mathlib.Omega.{arith}
+use Rattle.form.proofs.Locates.{Passing}
 use Prim.Native.Nat.{◌-◌}
 use Rattle.form.proofs.locate.advance.Given as goal
 

@@ -3,7 +3,6 @@ use Rattle.form.specs.Num.{field}
 use borrow.Author.Tests.{ne_eqb}
 use Prim.Native.Nat.{◌+◌}
 use mathlib.Core.Path.{◌≡◌, sym, ◌∙◌}
-use borrow.Author.Rules.{rules}
 use Rattle.form.proofs.locate.key_at.Goals as goal
 
 pub returns-then-le16-eq-FONT_KIND : goal.returns-then-le16-eq-FONT_KIND

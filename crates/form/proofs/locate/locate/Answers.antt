@@ -1,6 +1,5 @@
 use Rattle.form.proofs.Locates.{ends_there, from_found, four}
 use native.Mathlib.Omega.{arith}
-use borrow.Author.Rules.{rules}
 use Rattle.form.proofs.locate.locate.Goals as goal
 
 pub seek_place-from-requires : goal.seek_place-from-requires

@@ -1,6 +1,5 @@
 use Rattle.form.proofs.Locates.{behind_it, from_near, from_found, four}
 use native.Mathlib.Omega.{arith}
-use borrow.Author.Rules.{rules}
 use Rattle.form.proofs.locate.places_in.Goals as goal
 
 pub reach-lo-requires : goal.reach-lo-requires

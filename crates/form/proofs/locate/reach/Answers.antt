@@ -1,5 +1,4 @@
 use Rattle.form.proofs.Locates.{reached_end}
-use borrow.Author.Rules.{rules}
 use Rattle.form.proofs.locate.reach.Goals as goal
 
 pub returns-then-least-key : goal.returns-then-least-key

@@ -1,6 +1,5 @@
 use Rattle.form.proofs.Locates.{from_found}
 use native.Mathlib.Omega.{arith}
-use borrow.Author.Rules.{rules}
 use Rattle.form.proofs.locate.seek_end.Goals as goal
 
 pub reach-requires : goal.reach-requires

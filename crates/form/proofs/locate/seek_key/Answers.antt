@@ -1,5 +1,4 @@
 use Rattle.form.proofs.Locates.{ends_there, from_front}
-use borrow.Author.Rules.{rules}
 use Rattle.form.proofs.locate.seek_key.Goals as goal
 
 pub advance-requires-2 : goal.advance-requires-2

@@ -1,5 +1,4 @@
 use Rattle.form.proofs.Locates.{from_here, ends_there, from_found}
-use borrow.Author.Rules.{rules}
 use Rattle.form.proofs.locate.seek_place.Goals as goal
 
 pub advance-requires : goal.advance-requires

@@ -1,6 +1,5 @@
 use Rattle.form.proofs.Locates.{behind_it, from_found, last_reached}
 use native.Mathlib.Omega.{arith}
-use borrow.Author.Rules.{rules}
 use Rattle.form.proofs.locate.seek_record.Goals as goal
 
 pub returns-then-key-end : goal.returns-then-key-end

@@ -1,10 +1,6 @@
-use Prim.Native.Nat.{◌-◌}
-use mathlib.Core.Path.{◌≡◌, refl, sym, ◌∙◌}
-use lib.Dec.{eqb}
-use lib.ListN.{length, drop}
-use Rattle.form.specs.Num.{◌and◌, all_zero}
+use mathlib.Core.Path.{refl, sym, ◌∙◌}
+use Rattle.form.specs.Num.{◌and◌}
 use Rattle.form.proofs.Fields.{zeros_turn, zeros_end}
-use borrow.Author.Rules.{rules}
 use Rattle.form.proofs.number.all_zeros.Goals as goal
 
 pub loop-i-init : goal.loop-i-init

@@ -1,10 +1,8 @@
 use Prim.Native.Nat.{◌-◌}
-use mathlib.Core.Path.{◌≡◌, refl, sym, ◌∙◌}
+use mathlib.Core.Path.{◌≡◌}
 use lib.Dec.{eqb}
 use lib.ListN.{length, drop}
 use Rattle.form.specs.Num.{◌and◌, all_zero}
-use Rattle.form.proofs.Fields.{zeros_turn, zeros_end}
-use borrow.Author.Rules.{rules}
 use Rattle.form.proofs.number.all_zeros.Given as goal
 
 abbrev pub invariant-loop-i : goal.invariant-loop-i

@@ -1,10 +1,6 @@
-use Prim.Native.Nat.{◌-◌}
-use mathlib.Core.Path.{◌≡◌, refl, sym, ◌∙◌}
+use mathlib.Core.Path.{refl, sym, ◌∙◌}
 use native.Mathlib.Omega.{arith}
-use lib.ListN.{length, drop}
-use Rattle.form.specs.Num.{all_zero}
 use Rattle.form.proofs.Fields.{zero_here, more_here, zeros_part, zeros_none}
-use borrow.Author.Rules.{rules}
 use Rattle.form.proofs.number.zeros.Goals as goal
 
 pub loop-i-init : goal.loop-i-init

@@ -1,10 +1,7 @@
 use Prim.Native.Nat.{◌-◌}
-use mathlib.Core.Path.{◌≡◌, refl, sym, ◌∙◌}
-use native.Mathlib.Omega.{arith}
+use mathlib.Core.Path.{◌≡◌}
 use lib.ListN.{length, drop}
 use Rattle.form.specs.Num.{all_zero}
-use Rattle.form.proofs.Fields.{zero_here, more_here, zeros_part, zeros_none}
-use borrow.Author.Rules.{rules}
 use Rattle.form.proofs.number.zeros.Given as goal
 
 abbrev pub invariant-loop-i : goal.invariant-loop-i

@@ -1,7 +1,6 @@
 use mathlib.Core.Path.{sym, ◌∙◌}
 use Rattle.form.proofs.Inspects.{not_checked, ends_by}
 use Rattle.form.proofs.RecordRuns.{begun, not_begun}
-use borrow.Author.Rules.{rules}
 use Rattle.form.proofs.records.begin_records.Goals as goal
 
 pub returns-in_default : goal.returns-in_default

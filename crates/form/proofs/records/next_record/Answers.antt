@@ -1,6 +1,5 @@
 use mathlib.Core.Path.{sym, ◌∙◌}
 use Rattle.form.proofs.RecordRuns.{records_short, records_zero, record_here}
-use borrow.Author.Rules.{rules}
 use Rattle.form.proofs.records.next_record.Goals as goal
 
 pub returns-then-s-at-lt-CHARACTER_RECORD : goal.returns-then-s-at-lt-CHARACTER_RECORD

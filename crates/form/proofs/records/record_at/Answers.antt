@@ -1,6 +1,5 @@
 use mathlib.Core.Path.{sym, ◌∙◌}
 use Rattle.form.proofs.RecordRuns.{records_zero, record_room, font_met, character_met}
-use borrow.Author.Rules.{rules}
 use native.Mathlib.Omega.{arith}
 use Rattle.form.proofs.records.record_at.Goals as goal
 

@@ -12,7 +12,6 @@ use Rattle.form.specs.declared.walk.Inspected.TheVariants.{Found}
 use Rattle.form.specs.declared.seek.Sought.TheVariants.{Here}
 use Rattle.form.proofs.Ready.{Ready, ready, not_store_lem, looked_at, looked_not}
 use Rattle.form.proofs.Seeks.{char_not, char_range, char_no_font, char_none, char_here}
-use borrow.Author.Rules.{rules}
 use Rattle.form.proofs.seek.seek_character.Goals as goal
 
 pub returns-in_default : goal.returns-in_default

@@ -5,7 +5,6 @@ use Rattle.form.specs.declared.walk.Inspected.TheVariants.{Found}
 use Rattle.form.specs.declared.seek.Sought.TheVariants.{Here}
 use Rattle.form.proofs.Ready.{Ready, ready, not_store_lem, looked_at, looked_not}
 use Rattle.form.proofs.Seeks.{font_not, font_range, font_none, font_here_lem}
-use borrow.Author.Rules.{rules}
 use Rattle.form.proofs.seek.seek_font.Goals as goal
 
 pub returns-in_default : goal.returns-in_default

@@ -1,7 +1,5 @@
 use borrow.Author.Rules.{rules}
 use Rattle.form.specs.Num.{◌and◌}
-use Rattle.form.proofs.tally.same_tally.Reads as reads
-use Rattle.form.proofs.tally.same_tally.Lts as lts
 use Rattle.form.proofs.tally.same_tally.Goals as goal
 
 pub returns : goal.returns

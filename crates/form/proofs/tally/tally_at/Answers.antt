@@ -3,11 +3,6 @@ use Prim.Native.Nat.{ℕ}
 use Rattle.form.specs.Layout.{font_bytes_at, font_characters_at}
 use Rattle.form.specs.declared.tally.Tally.{Tally}
 use Rattle.form.proofs.Fields.{field_drop}
-use borrow.Author.Rules.{rules}
-use Rattle.form.proofs.tally.tally_at.Reads as reads
-use Rattle.form.proofs.tally.tally_at.Lts as lts
-use Rattle.form.proofs.number.le16.Reads as le16-reads
-use Rattle.form.proofs.number.le32.Reads as le32-reads
 use Rattle.form.proofs.tally.tally_at.Goals as goal
 
 same : {a b x y : ℕ} → a ≡ x → b ≡ y → ◌≡◌ {A = Tally} (record { characters = a; bytes = b }) (record { characters = x; bytes = y })

@@ -2,7 +2,6 @@ use mathlib.Core.Path.{sym, ap, ◌∙◌}
 use lib.Dec.{eqb}
 use Prim.Native.Nat.{ℕ}
 use Rattle.form.proofs.Inspects.{begins_short, begins_long, begins_len, begins_is}
-use borrow.Author.Rules.{rules}
 use native.Mathlib.Omega.{arith}
 use Rattle.form.proofs.walk.begins_right.Goals as goal
 

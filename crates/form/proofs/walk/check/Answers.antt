@@ -2,7 +2,6 @@ use mathlib.Core.Path.{sym, ◌∙◌}
 use Rattle.pictures.proofs.Tests.{failed, passed}
 use Rattle.form.proofs.Codec.{begins_parts}
 use Rattle.form.proofs.Inspects.{check_not, check_wrong, check_shut, check_open}
-use borrow.Author.Rules.{rules}
 use Rattle.form.proofs.walk.check.Goals as goal
 
 pub returns-then-not-begins_right : goal.returns-then-not-begins_right

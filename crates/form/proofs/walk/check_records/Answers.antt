@@ -1,6 +1,5 @@
 use mathlib.Core.Path.{sym, ◌∙◌}
 use Rattle.form.proofs.Inspects.{surveyed_run, surveyed_broken}
-use borrow.Author.Rules.{rules}
 use Rattle.form.proofs.walk.check_records.Goals as goal
 
 pub returns-then-must-marked : goal.returns-then-must-marked

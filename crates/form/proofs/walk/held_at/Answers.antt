@@ -4,7 +4,6 @@ use lib.ListN.{length-take, length-drop}
 use Rattle.blocks.specs.Character.{descriptor_bytes}
 use Rattle.form.specs.Layout.{character_kept_at, character_record}
 use Rattle.form.proofs.Heads.{part_at}
-use borrow.Author.Rules.{rules}
 use native.Mathlib.Omega.{arith}
 use Rattle.form.proofs.walk.held_at.Goals as goal
 

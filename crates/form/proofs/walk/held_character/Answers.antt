@@ -1,7 +1,6 @@
 use mathlib.Core.Path.{◌∙◌}
 use Rattle.pictures.proofs.Tests.{failed, passed}
 use Rattle.form.specs.Model.{held_under}
-use borrow.Author.Rules.{rules}
 use Rattle.form.proofs.walk.held_character.Goals as goal
 
 pub returns-then-not-is_kept_first : goal.returns-then-not-is_kept_first

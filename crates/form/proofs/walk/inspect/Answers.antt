@@ -1,6 +1,5 @@
 use mathlib.Core.Path.{sym, ◌∙◌}
 use Rattle.form.proofs.Inspects.{inspect_not, ends_by, inspect_found}
-use borrow.Author.Rules.{rules}
 use Rattle.form.proofs.walk.inspect.Goals as goal
 
 pub returns-in_default : goal.returns-in_default

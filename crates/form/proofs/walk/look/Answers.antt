@@ -1,6 +1,5 @@
 use mathlib.Core.Path.{sym}
 use Rattle.form.proofs.Heads.{look_short, look_zero, look_long, look_other}
-use borrow.Author.Rules.{rules}
 use native.Mathlib.Omega.{arith}
 use Rattle.form.proofs.walk.look.Goals as goal
 

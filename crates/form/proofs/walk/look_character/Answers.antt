@@ -1,7 +1,6 @@
 use mathlib.Core.Path.{refl, sym, ◌∙◌}
 use Rattle.pictures.specs.declared.picture.Held.TheVariants.{Whole, Unfinished}
 use Rattle.form.proofs.Heads.{char_short, char_owner, char_low, char_code, char_kept, char_foreign}
-use borrow.Author.Rules.{rules}
 use native.Mathlib.Omega.{arith}
 use Rattle.form.proofs.walk.look_character.Goals as goal
 

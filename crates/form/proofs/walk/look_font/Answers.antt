@@ -5,7 +5,6 @@ use Rattle.blocks.specs.Header.{header_bytes}
 use Rattle.form.specs.Layout.{font_kept_at, font_record}
 use Rattle.form.specs.Num.{◌and◌}
 use Rattle.form.proofs.Heads.{part_at, font_long, font_is}
-use borrow.Author.Rules.{rules}
 use native.Mathlib.Omega.{arith}
 use Rattle.form.proofs.walk.look_font.Goals as goal
 

@@ -2,7 +2,6 @@ use mathlib.Core.Path.{sym}
 use Rattle.pictures.proofs.Tests.{failed, passed}
 use Rattle.form.proofs.Walks.{pass_low, pass_untrue, pass_font, pass_character}
 use native.Mathlib.Omega.{arith}
-use borrow.Author.Rules.{rules}
 use Rattle.form.proofs.walk.pass.Goals as goal
 
 pub returns-then-key-p : goal.returns-then-key-p

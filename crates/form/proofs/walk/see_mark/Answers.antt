@@ -1,7 +1,6 @@
 use mathlib.Core.Path.{sym}
 use Rattle.form.specs.Model.{mark_in}
 use Rattle.form.proofs.Inspects.{seen_shut, seen_zero, seen_on, seen_font, seen_code, seen_open}
-use borrow.Author.Rules.{rules}
 use native.Mathlib.Omega.{arith}
 use Rattle.form.proofs.walk.see_mark.Goals as goal
 

@@ -1,8 +1,6 @@
 use mathlib.Core.Path.{◌≡◌, refl, sym, ap, ◌∙◌, subst}
-use Prim.Native.Nat.{◌-◌}
 use lib.ListN.{length, drop}
-use Rattle.form.specs.Layout.{mark_record}
-use Rattle.form.specs.Walk.{walked, walk_start, walk_after, Within, Ahead}
+use Rattle.form.specs.Walk.{walked, walk_after, Ahead}
 use Rattle.form.specs.declared.walk.Step.{Step}
 use Rattle.form.specs.declared.walk.Step.TheVariants.{Go, Stop}
 use borrow.Author.Rules.{rules}

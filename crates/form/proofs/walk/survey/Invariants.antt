@@ -1,12 +1,8 @@
-use mathlib.Core.Path.{◌≡◌, refl, sym, ap, ◌∙◌, subst}
+use mathlib.Core.Path.{◌≡◌}
 use Prim.Native.Nat.{◌-◌}
 use lib.ListN.{length, drop}
 use Rattle.form.specs.Layout.{mark_record}
-use Rattle.form.specs.Walk.{walked, walk_start, walk_after, Within, Ahead}
-use Rattle.form.specs.declared.walk.Step.{Step}
-use Rattle.form.specs.declared.walk.Step.TheVariants.{Go, Stop}
-use borrow.Author.Rules.{rules}
-use native.Mathlib.Omega.{arith}
+use Rattle.form.specs.Walk.{walked, walk_start, Within}
 use Rattle.form.proofs.walk.survey.Given as goal
 
 abbrev pub invariant-loop-next : goal.invariant-loop-next

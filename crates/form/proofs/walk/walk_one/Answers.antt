@@ -7,7 +7,6 @@ use Rattle.form.specs.Model.{same_tally}
 use Rattle.form.specs.Walk.{head_of, standing, walk_after, Ahead}
 use Rattle.form.specs.declared.walk.Head.TheVariants.{Rec as HeadRec}
 use Rattle.form.proofs.Walks.{walked_end, walked_bad, walked_pass, ahead_pass, looked_item, within_more}
-use borrow.Author.Rules.{rules}
 use native.Mathlib.Omega.{arith}
 use Rattle.form.proofs.walk.walk_one.Goals as goal
 

@@ -1,8 +1,7 @@
-use Rattle.std.proofs.Common.{◌≡◌, ℕ, ◌+◌, ◌-◌, ◌*◌, ◌<◌, ◌≤◌, List, ◌++◌, length, get_or, drop, refl, ◌∙◌, append-nil, zero-le, mul-le-mul_right, add-mul, one-mul, zero-mul, arith, length-set, drop_of_length-le, rules}
+use Rattle.std.proofs.Common.{◌≡◌, ℕ, ◌-◌, ◌*◌, ◌<◌, ◌≤◌, List, ◌++◌, length, get_or, drop}
 use Rattle.pictures.specs.Size.{bitmap_class, row_size, picture_size}
 use Rattle.pictures.specs.Rows.{picture}
-use Rattle.pictures.specs.Drawing.{padded, padding_bits}
-use Rattle.pictures.proofs.Bitmaps.{clip_next, masked}
+use Rattle.pictures.specs.Drawing.{padded}
 use Rattle.pictures.proofs.bitmap.clip_rows.Given as goal
 
 abbrev pub invariant-loop-row : goal.invariant-loop-row

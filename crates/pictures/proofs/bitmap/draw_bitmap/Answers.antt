@@ -1,4 +1,4 @@
-use Rattle.std.proofs.Common.{◌∙◌, rules}
+use Rattle.std.proofs.Common.{◌∙◌}
 use Rattle.pictures.proofs.Bitmaps.{picture_whole}
 use Rattle.pictures.proofs.bitmap.draw_bitmap.Goals as goal
 

@@ -1,4 +1,4 @@
-use Rattle.std.proofs.Common.{◌-◌, ◌≤◌, length, ◌∙◌, mul-le-mul_right, arith, rules}
+use Rattle.std.proofs.Common.{◌-◌, ◌≤◌, length, ◌∙◌, mul-le-mul_right, arith}
 use Rattle.pictures.specs.Drawing.{padding_bits}
 use Rattle.pictures.proofs.Bitmaps.{row_clipped, masked}
 use Rattle.pictures.proofs.bitmap.draw_bitmap_row.Goals as goal

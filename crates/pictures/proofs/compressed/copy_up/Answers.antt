@@ -1,5 +1,5 @@
-use Rattle.std.proofs.Common.{◌≡◌, ◌-◌, ◌≤◌, length, refl, ◌∙◌, arith, length-set, rules}
-use lib.Seq.{paste, paste-zero}
+use Rattle.std.proofs.Common.{◌≡◌, refl, ◌∙◌, arith, length-set, rules}
+use lib.Seq.{paste-zero}
 use Rattle.pictures.proofs.Copies.{copy_more}
 use Rattle.pictures.proofs.compressed.copy_up.Goals as goal
 

@@ -1,6 +1,5 @@
-use Rattle.std.proofs.Common.{◌≡◌, ◌-◌, ◌≤◌, length, refl, ◌∙◌, arith, length-set, rules}
-use lib.Seq.{paste, paste-zero}
-use Rattle.pictures.proofs.Copies.{copy_more}
+use Rattle.std.proofs.Common.{◌≡◌, ◌-◌, ◌≤◌, length}
+use lib.Seq.{paste}
 use Rattle.pictures.proofs.compressed.copy_up.Given as goal
 
 abbrev pub invariant-loop-i : goal.invariant-loop-i

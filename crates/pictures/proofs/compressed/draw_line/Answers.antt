@@ -1,7 +1,6 @@
-use Rattle.std.proofs.Common.{◌≡◌, ◌-◌, ◌≤◌, Bool, false, List, [], ◌++◌, length, get_or, drop, replicate, sym, refl, ap, ◌∙◌, arith, length-append, rules}
+use Rattle.std.proofs.Common.{[], ◌++◌, get_or, replicate, sym, refl, ap, ◌∙◌, arith, length-append, rules}
 use lib.ListN.{length-replicate}
-use Rattle.pictures.specs.Dots.{pack}
-use Rattle.pictures.specs.Drawing.{read_line, line_from, line_of, dots_of}
+use Rattle.pictures.specs.Drawing.{line_from, line_of, dots_of}
 use Rattle.pictures.proofs.Packing.{white_row_lem, same_pack}
 use Rattle.pictures.proofs.Lines.{line_end, line_over, line_whole, line_part}
 use Rattle.pictures.proofs.compressed.draw_line.Goals as goal

@@ -1,9 +1,6 @@
-use Rattle.std.proofs.Common.{◌≡◌, ℕ, ◌+◌, ◌-◌, ◌*◌, ◌<◌, ◌≤◌, length, get_or, take, drop, sym, refl, ap, ◌∙◌, zero-le, mul-le-mul_right, add-mul, zero-add, zero-mul, arith, length-drop, length-take, rules}
+use Rattle.std.proofs.Common.{◌≡◌, ℕ, ◌+◌, ◌-◌, ◌*◌, ◌<◌, ◌≤◌, length, take, drop}
 use Rattle.pictures.specs.Size.{runs_class, row_size}
-use Rattle.pictures.specs.Rows.{picture, row_dots, runs_row}
-use Rattle.pictures.specs.Drawing.{dots_of}
-use Rattle.pictures.proofs.Lines.{line_ends, line_unfinished, line_within, rows_here, rows_below, rows_none, rows_past}
-use Rattle.pictures.proofs.Pictures.{picture_more, picture_rest, picture_all}
+use Rattle.pictures.specs.Rows.{picture, runs_row}
 use Rattle.pictures.proofs.compressed.draw_runs.Given as goal
 
 abbrev pub invariant-loop-at : goal.invariant-loop-at

@@ -1,4 +1,4 @@
-use Rattle.std.proofs.Common.{sym, ◌∙◌, zero-le, arith, rules}
+use Rattle.std.proofs.Common.{sym, ◌∙◌, zero-le, arith}
 use Rattle.pictures.proofs.Packing.{white_row_lem, same_pack}
 use Rattle.pictures.proofs.Lines.{rows_past, rows_here}
 use Rattle.pictures.proofs.compressed.draw_runs_row.Goals as goal

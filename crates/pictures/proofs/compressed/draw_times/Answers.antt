@@ -1,4 +1,4 @@
-use Rattle.std.proofs.Common.{◌≡◌, ℕ, ◌*◌, ◌<◌, ◌≤◌, sym, ap, ◌∙◌, mul-le-mul_right, one-mul, arith, length-take, length-take-le, rules}
+use Rattle.std.proofs.Common.{◌≡◌, ℕ, ◌*◌, ◌<◌, ◌≤◌, sym, ap, ◌∙◌, mul-le-mul_right, one-mul, arith, length-take, length-take-le}
 use Rattle.pictures.specs.Size.{row_size}
 use Rattle.pictures.specs.Drawing.{dots_of}
 use Rattle.pictures.proofs.Packing.{same_pack}

@@ -1,5 +1,4 @@
-use Rattle.std.proofs.Common.{◌≡◌, ◌+◌, ◌-◌, ◌*◌, ◌<◌, ◌≤◌, ◌++◌, length, take, drop, refl, ◌∙◌, mul-le-mul_right, add-mul, one-mul, arith, length-take-le, rules}
-use Rattle.pictures.specs.Drawing.{repeated}
+use Rattle.std.proofs.Common.{◌≡◌, ◌+◌, ◌≤◌, length, take, refl, ◌∙◌, mul-le-mul_right, add-mul, one-mul, arith, length-take-le, rules}
 use Rattle.pictures.proofs.Copies.{repeat_more, repeat_one}
 use Rattle.pictures.proofs.compressed.repeat_row.Goals as goal
 

@@ -1,6 +1,5 @@
-use Rattle.std.proofs.Common.{◌≡◌, ◌+◌, ◌-◌, ◌*◌, ◌<◌, ◌≤◌, ◌++◌, length, take, drop, refl, ◌∙◌, mul-le-mul_right, add-mul, one-mul, arith, length-take-le, rules}
+use Rattle.std.proofs.Common.{◌≡◌, ◌-◌, ◌*◌, ◌<◌, ◌≤◌, ◌++◌, length, take, drop}
 use Rattle.pictures.specs.Drawing.{repeated}
-use Rattle.pictures.proofs.Copies.{repeat_more, repeat_one}
 use Rattle.pictures.proofs.compressed.repeat_row.Given as goal
 
 abbrev pub invariant-loop-done : goal.invariant-loop-done

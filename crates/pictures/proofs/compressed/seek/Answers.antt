@@ -1,5 +1,4 @@
-use Rattle.std.proofs.Common.{◌≡◌, ◌+◌, ◌-◌, length, get_or, drop, sym, refl, ◌∙◌, zero-le, arith, rules}
-use Rattle.pictures.specs.Rows.{runs_row}
+use Rattle.std.proofs.Common.{◌≡◌, ◌+◌, ◌-◌, length, get_or, sym, refl, ◌∙◌, zero-le, arith}
 use Rattle.pictures.proofs.Lines.{rows_past, rows_here, rows_below, rows_none, line_ends, line_unfinished, line_within}
 use Rattle.pictures.proofs.compressed.seek.Goals as goal
 

@@ -1,6 +1,5 @@
-use Rattle.std.proofs.Common.{◌≡◌, ◌+◌, ◌-◌, length, get_or, drop, sym, refl, ◌∙◌, zero-le, arith, rules}
+use Rattle.std.proofs.Common.{◌≡◌, ◌-◌, length, drop}
 use Rattle.pictures.specs.Rows.{runs_row}
-use Rattle.pictures.proofs.Lines.{rows_past, rows_here, rows_below, rows_none, line_ends, line_unfinished, line_within}
 use Rattle.pictures.proofs.compressed.seek.Given as goal
 
 abbrev pub invariant-loop-at : goal.invariant-loop-at

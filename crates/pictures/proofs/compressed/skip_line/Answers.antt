@@ -1,6 +1,6 @@
-use Rattle.std.proofs.Common.{◌≡◌, ◌-◌, ◌≤◌, Bool, false, not, List, [], ◌++◌, length, get_or, drop, replicate, sym, refl, ap, ◌∙◌, arith, length-append, rules}
+use Rattle.std.proofs.Common.{false, not, [], ◌++◌, get_or, replicate, sym, refl, ap, ◌∙◌, arith, length-append, rules}
 use lib.ListN.{length-replicate}
-use Rattle.pictures.specs.Drawing.{read_line, line_from, line_of}
+use Rattle.pictures.specs.Drawing.{line_from, line_of}
 use Rattle.pictures.proofs.Lines.{line_end, line_over, line_whole, line_part}
 use Rattle.pictures.proofs.compressed.skip_line.Goals as goal
 

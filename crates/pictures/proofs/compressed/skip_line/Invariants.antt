@@ -1,7 +1,5 @@
-use Rattle.std.proofs.Common.{◌≡◌, ◌-◌, ◌≤◌, Bool, false, not, List, [], ◌++◌, length, get_or, drop, replicate, sym, refl, ap, ◌∙◌, arith, length-append, rules}
-use lib.ListN.{length-replicate}
-use Rattle.pictures.specs.Drawing.{read_line, line_from, line_of}
-use Rattle.pictures.proofs.Lines.{line_end, line_over, line_whole, line_part}
+use Rattle.std.proofs.Common.{◌≡◌, ◌-◌, ◌≤◌, Bool, false, List, [], length, drop}
+use Rattle.pictures.specs.Drawing.{read_line}
 use Rattle.pictures.proofs.compressed.skip_line.Given as goal
 
 abbrev pub invariant-loop-at : goal.invariant-loop-at

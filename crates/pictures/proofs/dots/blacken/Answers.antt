@@ -1,4 +1,4 @@
-use Rattle.std.proofs.Common.{◌≡◌, ℕ, ◌+◌, ◌-◌, ◌*◌, ◌/◌, ◌%◌, Bool, true, List, ◌++◌, length, replicate, ◌∙◌, append_assoc, append-nil, arith, length-append, pow_mono, rules}
+use Rattle.std.proofs.Common.{◌≡◌, ℕ, ◌+◌, ◌-◌, ◌*◌, ◌/◌, ◌%◌, Bool, true, List, ◌++◌, length, replicate, ◌∙◌, append_assoc, append-nil, arith, length-append, pow_mono}
 use lib.ListN.{length-replicate, replicate-append-replicate}
 use Rattle.pictures.specs.Dots.{pack}
 use Rattle.pictures.proofs.Packing.{run_within, run_first, run_last, size}

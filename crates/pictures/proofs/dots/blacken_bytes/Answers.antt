@@ -1,4 +1,4 @@
-use Rattle.std.proofs.Common.{◌≡◌, ℕ, ◌+◌, ◌-◌, ◌*◌, ◌≤◌, Bool, true, List, ◌++◌, length, replicate, refl, ◌∙◌, append_assoc, append-nil, arith, length-append, length-set, rules}
+use Rattle.std.proofs.Common.{◌≡◌, ℕ, ◌+◌, ◌-◌, ◌*◌, ◌≤◌, Bool, true, List, ◌++◌, replicate, refl, ◌∙◌, append_assoc, append-nil, arith, length-append, length-set, rules}
 use native.Mathlib.Nat.{sub_self}
 use lib.ListN.{length-replicate, replicate-append-replicate}
 use Rattle.pictures.specs.Dots.{pack}

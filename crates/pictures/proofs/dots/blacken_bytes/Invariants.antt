@@ -1,8 +1,5 @@
-use Rattle.std.proofs.Common.{◌≡◌, ℕ, ◌+◌, ◌-◌, ◌*◌, ◌≤◌, Bool, true, List, ◌++◌, length, replicate, refl, ◌∙◌, append_assoc, append-nil, arith, length-append, length-set, rules}
-use native.Mathlib.Nat.{sub_self}
-use lib.ListN.{length-replicate, replicate-append-replicate}
+use Rattle.std.proofs.Common.{◌≡◌, ℕ, ◌-◌, ◌*◌, ◌≤◌, Bool, true, List, ◌++◌, length, replicate}
 use Rattle.pictures.specs.Dots.{pack}
-use Rattle.pictures.proofs.Packing.{pack_byte, size}
 use Rattle.pictures.proofs.dots.blacken_bytes.Given as goal
 
 abbrev pub invariant-loop-i : goal.invariant-loop-i

@@ -1,5 +1,5 @@
 use Rattle.pictures.specs.Drawing.{white}
-use Rattle.std.proofs.Common.{◌≡◌, ℕ, ◌-◌, ◌≤◌, List, ◌++◌, length, drop, replicate, refl, ◌∙◌, append-nil, arith, length-set, drop_of_length-le, rules}
+use Rattle.std.proofs.Common.{◌≡◌, ℕ, ◌≤◌, List, ◌++◌, length, drop, replicate, refl, ◌∙◌, append-nil, arith, length-set, drop_of_length-le, rules}
 use borrow.Author.Fill.{fill_none, fill_more}
 use Rattle.pictures.proofs.dots.clear.Goals as goal
 

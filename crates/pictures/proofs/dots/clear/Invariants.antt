@@ -1,6 +1,4 @@
-use Rattle.pictures.specs.Drawing.{white}
-use Rattle.std.proofs.Common.{◌≡◌, ℕ, ◌-◌, ◌≤◌, List, ◌++◌, length, drop, replicate, refl, ◌∙◌, append-nil, arith, length-set, drop_of_length-le, rules}
-use borrow.Author.Fill.{fill_none, fill_more}
+use Rattle.std.proofs.Common.{◌≡◌, ◌-◌, ◌≤◌, ◌++◌, length, drop, replicate}
 use Rattle.pictures.proofs.dots.clear.Given as goal
 
 abbrev pub invariant-loop-i : goal.invariant-loop-i

@@ -1,4 +1,3 @@
-use Rattle.std.proofs.Common.{rules}
 use Rattle.pictures.proofs.dots.darken.Goals as goal
 
 pub returns : goal.returns

@@ -1,4 +1,4 @@
-use Rattle.std.proofs.Common.{◌-◌, arith, pow_pos, pow_mono, rules}
+use Rattle.std.proofs.Common.{◌-◌, arith, pow_pos, pow_mono}
 use Rattle.pictures.proofs.Packing.{shifted}
 use Rattle.pictures.proofs.dots.dots_from.Goals as goal
 

@@ -1,4 +1,4 @@
-use Rattle.std.proofs.Common.{◌+◌, ◌-◌, ◌%◌, arith, pow_pos, rules}
+use Rattle.std.proofs.Common.{◌+◌, ◌-◌, ◌%◌, arith, pow_pos}
 use Rattle.pictures.proofs.dots.kept_bits.Goals as goal
 
 pub returns : goal.returns

@@ -1,4 +1,4 @@
-use Rattle.std.proofs.Common.{sym, ◌∙◌, rules}
+use Rattle.std.proofs.Common.{sym, ◌∙◌}
 use Rattle.pictures.proofs.Packing.{pack_white}
 use Rattle.pictures.proofs.dots.put_run.Goals as goal
 

@@ -1,4 +1,4 @@
-use Rattle.std.proofs.Common.{◌∙◌, rules}
+use Rattle.std.proofs.Common.{◌∙◌}
 use Rattle.pictures.proofs.Pictures.{picture_runs}
 use Rattle.pictures.proofs.picture.draw_picture.Goals as goal
 

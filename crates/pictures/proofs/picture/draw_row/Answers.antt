@@ -1,4 +1,4 @@
-use Rattle.std.proofs.Common.{rules, eq-eqb, ne_eqb}
+use Rattle.std.proofs.Common.{eq-eqb, ne_eqb}
 use Rattle.pictures.specs.Rows.{row_bytes, row_dots}
 use Rattle.pictures.proofs.picture.draw_row.Goals as goal
 

@@ -1,4 +1,4 @@
-use Rattle.std.proofs.Common.{rules, eq-eqb, ne_eqb}
+use Rattle.std.proofs.Common.{eq-eqb, ne_eqb}
 use Rattle.pictures.proofs.picture.held_by.Goals as goal
 
 pub returns-then-n-len : goal.returns-then-n-len

@@ -1,4 +1,4 @@
-use Rattle.std.proofs.Common.{◌∙◌, rules, eq-eqb, ne_eqb}
+use Rattle.std.proofs.Common.{◌∙◌, eq-eqb, ne_eqb}
 use Rattle.pictures.specs.Picture.{judge}
 use Rattle.pictures.proofs.picture.judge_first.Goals as goal
 

@@ -1,4 +1,4 @@
-use Rattle.std.proofs.Common.{◌∙◌, length-append, rules, eq-eqb, ne_eqb}
+use Rattle.std.proofs.Common.{◌∙◌, length-append, eq-eqb, ne_eqb}
 use Rattle.pictures.specs.Picture.{judge}
 use Rattle.pictures.proofs.picture.judge_joined.Goals as goal
 

@@ -1,4 +1,3 @@
-use Rattle.std.proofs.Common.{rules}
 use Rattle.pictures.proofs.picture.judge_scan.Goals as goal
 
 pub returns-in-Complete : goal.returns-in-Complete

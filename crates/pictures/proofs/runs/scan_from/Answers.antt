@@ -1,7 +1,6 @@
 use Rattle.pictures.proofs.Scanning.{scan_end}
 use Rattle.pictures.proofs.Passing.{passed_done, passed_next, passed_past}
-use Rattle.pictures.specs.Runs.{scan_from}
-use Rattle.std.proofs.Common.{◌≡◌, ◌+◌, ◌-◌, ◌≤◌, length, drop, sym, ◌∙◌, add-zero, arith, rules}
+use Rattle.std.proofs.Common.{sym, ◌∙◌, add-zero, arith, rules}
 use Rattle.pictures.proofs.runs.scan_from.Goals as goal
 
 pub loop-i-init : goal.loop-i-init

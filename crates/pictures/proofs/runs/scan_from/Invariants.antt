@@ -1,7 +1,5 @@
-use Rattle.pictures.proofs.Scanning.{scan_end}
-use Rattle.pictures.proofs.Passing.{passed_done, passed_next, passed_past}
 use Rattle.pictures.specs.Runs.{scan_from}
-use Rattle.std.proofs.Common.{◌≡◌, ◌+◌, ◌-◌, ◌≤◌, length, drop, sym, ◌∙◌, add-zero, arith, rules}
+use Rattle.std.proofs.Common.{◌≡◌, ◌+◌, ◌-◌, ◌≤◌, length, drop}
 use Rattle.pictures.proofs.runs.scan_from.Given as goal
 
 abbrev pub invariant-loop-i : goal.invariant-loop-i

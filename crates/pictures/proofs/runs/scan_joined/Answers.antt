@@ -1,4 +1,4 @@
-use Rattle.std.proofs.Common.{sym, ◌∙◌, rules}
+use Rattle.std.proofs.Common.{sym, ◌∙◌}
 use Rattle.pictures.proofs.Scanning.{joined_as}
 use Rattle.pictures.proofs.runs.scan_joined.Goals as goal
 

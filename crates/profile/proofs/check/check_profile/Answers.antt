@@ -1,5 +1,4 @@
 use mathlib.Core.Path.{sym, ◌∙◌}
-use borrow.Author.Rules.{rules}
 use Rattle.form.proofs.Seeks.{KeptFont, font_sought, font_refused}
 use Rattle.form.proofs.FontRecords.{font_records}
 use Rattle.profile.specs.Profile.{checking_profile}

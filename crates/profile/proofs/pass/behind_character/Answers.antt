@@ -1,4 +1,3 @@
-use borrow.Author.Rules.{rules}
 use Rattle.profile.proofs.Characters.{noted_lower, noted_same}
 use Rattle.profile.proofs.pass.behind_character.Goals as goal
 

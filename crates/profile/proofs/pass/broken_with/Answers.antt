@@ -1,5 +1,4 @@
 use mathlib.Core.Path.{ap, ◌∙◌}
-use borrow.Author.Rules.{rules}
 use borrow.Author.Tests.{eq-eqb, ne_eqb}
 use Rattle.profile.specs.Pass.{found_broken, broken_with}
 use Rattle.profile.proofs.pass.broken_with.Goals as goal

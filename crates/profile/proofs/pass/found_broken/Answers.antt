@@ -1,4 +1,3 @@
-use borrow.Author.Rules.{rules}
 use borrow.Author.Tests.{le-leb, lt-leb}
 use Rattle.profile.specs.Pass.{found_broken}
 use Rattle.profile.proofs.pass.found_broken.Goals as goal

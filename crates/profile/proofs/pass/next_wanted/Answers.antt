@@ -1,5 +1,4 @@
 use mathlib.Core.Path.{sym, ◌∙◌}
-use borrow.Author.Rules.{rules}
 use Rattle.profile.specs.Pass.{next_wanted}
 use Rattle.profile.proofs.pass.next_wanted.Goals as goal
 

@@ -1,8 +1,7 @@
-use Prim.Native.Nat.{◌-◌}
 use mathlib.Core.Path.{refl}
 use native.Mathlib.Omega.{arith}
 use Rattle.form.proofs.FontRecords.{between_some}
-use Rattle.profile.proofs.Characters.{Passing, pass_next, pass_ended}
+use Rattle.profile.proofs.Characters.{pass_next, pass_ended}
 use Rattle.profile.proofs.pass.pass_records.Goals as goal
 
 pub loop-at-init : goal.loop-at-init

@@ -1,8 +1,5 @@
 use Prim.Native.Nat.{◌-◌}
-use mathlib.Core.Path.{refl}
-use native.Mathlib.Omega.{arith}
-use Rattle.form.proofs.FontRecords.{between_some}
-use Rattle.profile.proofs.Characters.{Passing, pass_next, pass_ended}
+use Rattle.profile.proofs.Characters.{Passing}
 use Rattle.profile.proofs.pass.pass_records.Given as goal
 
 abbrev pub invariant-loop-at : goal.invariant-loop-at

@@ -1,4 +1,3 @@
-use borrow.Author.Rules.{rules}
 use Rattle.profile.specs.Profile.{advances_by_pitch}
 use Rattle.profile.proofs.rules.advances_by_pitch.Goals as goal
 

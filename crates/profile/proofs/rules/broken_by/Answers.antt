@@ -1,4 +1,3 @@
-use borrow.Author.Rules.{rules}
 use Rattle.pictures.proofs.Tests.{failed, passed}
 use Rattle.profile.specs.Pass.{broken_by}
 use Rattle.profile.proofs.rules.broken_by.Goals as goal

@@ -1,4 +1,3 @@
-use borrow.Author.Rules.{rules}
 use Rattle.profile.specs.Profile.{height_inside}
 use Rattle.profile.proofs.rules.height_inside.Goals as goal
 

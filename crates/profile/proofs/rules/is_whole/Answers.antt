@@ -1,5 +1,4 @@
 use mathlib.Core.Path.{sym, ap, ◌∙◌}
-use borrow.Author.Rules.{rules}
 use Rattle.profile.specs.Profile.{is_whole}
 use Rattle.profile.proofs.Characters.{whole_by}
 use Rattle.profile.proofs.rules.is_whole.Goals as goal

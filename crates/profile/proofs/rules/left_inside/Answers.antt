@@ -1,4 +1,3 @@
-use borrow.Author.Rules.{rules}
 use Rattle.profile.specs.Profile.{left_inside}
 use Rattle.profile.proofs.rules.left_inside.Goals as goal
 

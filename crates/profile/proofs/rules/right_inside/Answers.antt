@@ -1,5 +1,4 @@
 use mathlib.Core.Path.{sym, ◌∙◌}
-use borrow.Author.Rules.{rules}
 use native.Mathlib.Omega.{arith}
 use Rattle.profile.proofs.Characters.{right_from_zero, right_from_below}
 use Rattle.profile.proofs.rules.right_inside.Goals as goal

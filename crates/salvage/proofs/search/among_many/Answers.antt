@@ -1,10 +1,6 @@
-use Prim.Native.Nat.{ℕ, ◌+◌, ◌-◌}
-use mathlib.Core.Path.{◌≡◌, sym, ◌∙◌}
-use mathlib.Core.List.{List}
+use Prim.Native.Nat.{◌+◌, ◌-◌}
 use native.Mathlib.Omega.{arith}
-use lib.ListN.{length, take, drop}
 use Rattle.salvage.proofs.Restarts.{part_passed}
-use borrow.Author.Rules.{rules}
 use Rattle.salvage.proofs.search.among_many.Goals as goal
 
 pub returns-then-none_start : goal.returns-then-none_start

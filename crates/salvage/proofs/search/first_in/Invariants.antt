@@ -1,9 +1,6 @@
 use Prim.Native.Nat.{◌-◌, ◌≤◌}
-use mathlib.Core.Path.{◌≡◌, refl, sym, ap, ◌∙◌}
-use native.Mathlib.Omega.{arith}
-use Rattle.salvage.specs.Salvage.{restarts, restart_from}
-use Rattle.salvage.proofs.Restarts.{restart_later}
-use borrow.Author.Rules.{rules}
+use mathlib.Core.Path.{◌≡◌}
+use Rattle.salvage.specs.Salvage.{restart_from}
 use Rattle.salvage.proofs.search.first_in.Given as goal
 
 abbrev pub invariant-loop-i : goal.invariant-loop-i

@@ -1,10 +1,8 @@
-use Prim.Native.Nat.{◌+◌, ◌-◌, ◌≤◌}
+use Prim.Native.Nat.{◌+◌}
 use mathlib.Core.Path.{◌≡◌, refl, ap, ◌∙◌}
 use native.Mathlib.Omega.{arith}
-use lib.ListN.{length}
 use Rattle.salvage.specs.Salvage.{restart_from}
 use Rattle.salvage.proofs.Restarts.{restart_found}
-use borrow.Author.Rules.{rules}
 use Rattle.salvage.proofs.search.next_restart.Goals as goal
 
 pub loop-i-init : goal.loop-i-init

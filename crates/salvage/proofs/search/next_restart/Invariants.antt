@@ -1,10 +1,7 @@
-use Prim.Native.Nat.{◌+◌, ◌-◌, ◌≤◌}
-use mathlib.Core.Path.{◌≡◌, refl, ap, ◌∙◌}
-use native.Mathlib.Omega.{arith}
+use Prim.Native.Nat.{◌-◌, ◌≤◌}
+use mathlib.Core.Path.{◌≡◌}
 use lib.ListN.{length}
 use Rattle.salvage.specs.Salvage.{restart_from}
-use Rattle.salvage.proofs.Restarts.{restart_found}
-use borrow.Author.Rules.{rules}
 use Rattle.salvage.proofs.search.next_restart.Given as goal
 
 abbrev pub invariant-loop-i : goal.invariant-loop-i

@@ -1,11 +1,7 @@
-use Prim.Native.Nat.{ℕ, ◌-◌, ◌≤◌}
-use mathlib.Core.Path.{◌≡◌, refl, sym, ap, ap₂, ◌∙◌}
-use mathlib.Core.Bool.{Bool, ◌&&◌, not}
-use native.Mathlib.Omega.{arith}
+use Prim.Native.Nat.{◌-◌, ◌≤◌}
+use mathlib.Core.Path.{◌≡◌}
 use lib.ListN.{length}
 use Rattle.salvage.specs.Places.{none_start}
-use Rattle.salvage.proofs.Restarts.{none_turn}
-use borrow.Author.Rules.{rules}
 use Rattle.salvage.proofs.search.none_start.Given as goal
 
 abbrev pub invariant-loop-i : goal.invariant-loop-i

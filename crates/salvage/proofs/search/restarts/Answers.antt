@@ -1,4 +1,3 @@
-use borrow.Author.Rules.{rules}
 use Rattle.salvage.proofs.search.restarts.Goals as goal
 
 pub returns-in-SetFont : goal.returns-in-SetFont

@@ -6,7 +6,6 @@ use Rattle.store.specs.Answer.{refuse, done}
 use Rattle.form.proofs.Seeks.{KeptChar, char_sought, char_refused, char_call}
 use Rattle.store.proofs.FontCalls.{answered}
 use Rattle.store.proofs.CharacterCalls.{cut_ready, cut_done}
-use borrow.Author.Rules.{rules}
 use native.Mathlib.Omega.{arith}
 use Rattle.store.proofs.characters.remove_character.Goals as goal
 

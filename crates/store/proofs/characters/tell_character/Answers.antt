@@ -12,7 +12,6 @@ use Rattle.store.specs.Calls.{telling_character, onto}
 use Rattle.form.specs.declared.walk.Places.{Places}
 use Rattle.form.proofs.Seeks.{KeptChar, char_sought, char_refused, char_call}
 use Rattle.store.proofs.Spots.{char_span, char_kept, char_shape}
-use borrow.Author.Rules.{rules}
 use native.Mathlib.Omega.{arith}
 use Rattle.store.proofs.characters.tell_character.Goals as goal
 

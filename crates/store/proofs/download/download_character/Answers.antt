@@ -4,7 +4,6 @@ use Rattle.pictures.proofs.Tests.{failed, passed}
 use Rattle.store.proofs.FontCalls.{answered_block, answered_by}
 use Rattle.form.proofs.Ready.{Ready, ready, stands, not_store_lem}
 use Rattle.store.proofs.Receives.{download_not, download_range, download_block, in_range_lem}
-use borrow.Author.Rules.{rules}
 use Rattle.store.proofs.download.download_character.Goals as goal
 
 pub returns-in_default : goal.returns-in_default

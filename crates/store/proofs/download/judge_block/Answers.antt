@@ -1,7 +1,6 @@
 use mathlib.Core.Path.{◌∙◌}
 use Rattle.blocks.specs.Character.{descriptor_bytes}
 use Rattle.store.proofs.Downloads.{to_end}
-use borrow.Author.Rules.{rules}
 use Rattle.store.proofs.download.judge_block.Goals as goal
 
 pub returns : goal.returns

@@ -1,6 +1,5 @@
 use mathlib.Core.Path.{◌∙◌}
 use Rattle.store.proofs.Downloads.{to_end}
-use borrow.Author.Rules.{rules}
 use Rattle.store.proofs.download.judge_more.Goals as goal
 
 pub returns : goal.returns

@@ -11,7 +11,6 @@ use Rattle.change.specs.Change.{spliced_at, Recounting, recounted, remarked}
 use Rattle.store.specs.Download.{mark_for}
 use Rattle.store.proofs.Downloads.{Space, space, place_full, place_ready, place_done}
 use Rattle.store.proofs.FontCalls.{answered_block}
-use borrow.Author.Rules.{rules}
 use native.Mathlib.Omega.{arith}
 use Rattle.store.proofs.download.place_first.Goals as goal
 

@@ -14,7 +14,6 @@ use Rattle.form.specs.Walk.{Growing, kept_at, data_at}
 use Rattle.store.specs.Download.{mark_for}
 use Rattle.store.proofs.Downloads.{Space, growing, grow_span, grow_small, grow_put, place_full, place_ready, place_done}
 use Rattle.store.proofs.FontCalls.{answered_block}
-use borrow.Author.Rules.{rules}
 use native.Mathlib.Omega.{arith}
 use Rattle.form.specs.declared.walk.Places.{Places}
 use Rattle.store.proofs.download.place_more.Goals as goal

@@ -7,7 +7,6 @@ use Rattle.form.proofs.Ready.{Ready, standing, looked_at, looked_not}
 use Rattle.store.proofs.Host.{Host, arriving}
 use Rattle.store.proofs.FirstBlocks.{block_short}
 use Rattle.store.proofs.Receives.{block_length, block_no_font, block_host, block_unknown, block_first, block_more}
-use borrow.Author.Rules.{rules}
 use Rattle.store.proofs.download.put_block.Goals as goal
 
 pub returns-then-not-length_allowed : goal.returns-then-not-length_allowed

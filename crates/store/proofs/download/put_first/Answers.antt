@@ -2,7 +2,6 @@ use mathlib.Core.Path.{sym, ◌∙◌}
 use Rattle.store.proofs.FontCalls.{answered_by}
 use Rattle.store.proofs.Host.{Host, host, host_span}
 use Rattle.store.proofs.FirstBlocks.{first_refused}
-use borrow.Author.Rules.{rules}
 use native.Mathlib.Omega.{arith}
 use Rattle.store.proofs.download.put_first.Goals as goal
 

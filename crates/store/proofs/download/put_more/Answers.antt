@@ -1,6 +1,5 @@
 use mathlib.Core.Path.{◌≡◌, refl, sym, ap, ◌∙◌}
 use mathlib.Core.Bool.{true}
-use Prim.Native.Nat.{◌-◌}
 use lib.ListN.{length-take, length-drop}
 use Rattle.pictures.specs.declared.picture.Judged.TheVariants.{Complete}
 use Rattle.pictures.proofs.Tests.{failed, passed}
@@ -11,7 +10,6 @@ use Rattle.store.proofs.FontCalls.{answered_by}
 use Rattle.store.proofs.Host.{Host, host}
 use Rattle.store.proofs.FirstBlocks.{block_short}
 use Rattle.store.proofs.Continuations.{Opened, opened_there, joined_at, more_not, more_past, more_within}
-use borrow.Author.Rules.{rules}
 use native.Mathlib.Omega.{arith}
 use Rattle.store.proofs.download.put_more.Goals as goal
 

@@ -4,7 +4,6 @@ use Rattle.form.specs.Model.{is_unfinished}
 use Rattle.store.proofs.FontCalls.{answered_block, answered_by}
 use Rattle.store.proofs.Host.{Host, host}
 use Rattle.store.proofs.FirstBlocks.{first_past, complete_small, complete_held, complete_fits, first_complete, incomplete_small, incomplete_held, incomplete_fits, first_incomplete}
-use borrow.Author.Rules.{rules}
 use Rattle.store.proofs.download.receive_first.Goals as goal
 
 pub judge_block-requires : goal.judge_block-requires

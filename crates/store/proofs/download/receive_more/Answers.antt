@@ -8,7 +8,6 @@ use Rattle.form.specs.Walk.{data_at}
 use Rattle.store.proofs.FontCalls.{answered_block, answered_by}
 use Rattle.store.proofs.Host.{Host, host}
 use Rattle.store.proofs.Continuations.{Opened, opened_there, more_large, more_marked, more_grows, more_placed}
-use borrow.Author.Rules.{rules}
 use native.Mathlib.Omega.{arith}
 use Rattle.store.proofs.download.receive_more.Goals as goal
 

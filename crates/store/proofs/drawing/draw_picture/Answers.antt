@@ -1,11 +1,9 @@
 use mathlib.Core.Path.{sym, ◌∙◌}
-use Prim.Native.Nat.{◌-◌}
 use Rattle.store.proofs.FontCalls.{answered}
 use Rattle.store.specs.Drawing.{drawing_picture}
 use Rattle.form.proofs.Seeks.{KeptChar, char_sought, char_refused}
 use Rattle.store.proofs.Spots.{char_span, char_shape}
 use Rattle.store.proofs.Drawings.{char_width, kept_cut, data_cut, picture_call}
-use borrow.Author.Rules.{rules}
 use native.Mathlib.Omega.{arith}
 use Rattle.store.proofs.drawing.draw_picture.Goals as goal
 

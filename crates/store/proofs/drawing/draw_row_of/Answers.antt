@@ -2,7 +2,6 @@ use mathlib.Core.Path.{sym, ◌∙◌}
 use lib.Seq.{length-take-le}
 use Rattle.store.proofs.FontCalls.{answered}
 use Rattle.store.proofs.Drawings.{row_high, row_short, row_drawn}
-use borrow.Author.Rules.{rules}
 use native.Mathlib.Omega.{arith}
 use Rattle.store.proofs.drawing.draw_row_of.Goals as goal
 

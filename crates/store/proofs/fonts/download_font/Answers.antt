@@ -1,7 +1,6 @@
 use mathlib.Core.Path.{sym, ◌∙◌}
 use Rattle.form.proofs.Ready.{Ready, ready, stands, not_store_lem}
 use Rattle.store.proofs.FontCalls.{answered, download_not, download_range, download_refused, download_taken}
-use borrow.Author.Rules.{rules}
 use Rattle.store.proofs.fonts.download_font.Goals as goal
 
 pub returns-in_default : goal.returns-in_default

@@ -5,7 +5,6 @@ use Rattle.form.specs.Layout.{kind_at, mark_kind, mark_record}
 use Rattle.form.specs.Num.{low_first}
 use Rattle.change.specs.Put.{with_bytes}
 use Rattle.store.proofs.FontCalls.{answered, fresh_short, fresh_long, fresh_done, fresh_bytes}
-use borrow.Author.Rules.{rules}
 use Rattle.store.proofs.fonts.make_fresh.Goals as goal
 
 pub returns-then-n-lt-LEAST_STORE : goal.returns-then-n-lt-LEAST_STORE

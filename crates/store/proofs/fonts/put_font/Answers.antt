@@ -1,6 +1,6 @@
 use mathlib.Core.Path.{ap, ◌∙◌}
 use mathlib.Core.List.{List, ◌++◌}
-use Prim.Native.Nat.{ℕ, ◌-◌}
+use Prim.Native.Nat.{ℕ}
 use Rattle.blocks.specs.Header.{kept_header}
 use Rattle.blocks.proofs.KeptHeader.{header_long}
 use Rattle.form.specs.Model.{no_characters, font_head}
@@ -8,7 +8,6 @@ use Rattle.change.specs.Put.{with_bytes}
 use Rattle.change.specs.Change.{unmarked_for}
 use Rattle.form.proofs.Ready.{Ready, standing}
 use Rattle.store.proofs.FontCalls.{answered, put_full, put_done}
-use borrow.Author.Rules.{rules}
 use native.Mathlib.Omega.{arith}
 use Rattle.store.proofs.fonts.put_font.Goals as goal
 

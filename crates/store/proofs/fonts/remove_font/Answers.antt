@@ -3,7 +3,6 @@ use Rattle.store.specs.Calls.{removing_font, store_without_font}
 use Rattle.store.specs.Answer.{refuse, done}
 use Rattle.form.proofs.Seeks.{KeptFont, font_sought, font_refused, font_call}
 use Rattle.store.proofs.FontCalls.{answered, cut_done}
-use borrow.Author.Rules.{rules}
 use Rattle.store.proofs.fonts.remove_font.Goals as goal
 
 -- behind the seeking

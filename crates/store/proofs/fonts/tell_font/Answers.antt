@@ -8,11 +8,9 @@ use Rattle.blocks.specs.Header.{header_bytes}
 use Rattle.form.specs.Checks.{checked}
 use Rattle.store.specs.Answer.{Telling, untold}
 use Rattle.store.specs.Calls.{telling_font, characters_of, onto}
-use Rattle.form.specs.Model.{font}
 use Rattle.form.specs.declared.walk.Places.{Places}
 use Rattle.form.proofs.Seeks.{KeptFont, font_sought, font_refused, font_call}
 use Rattle.store.proofs.Spots.{font_span, font_kept, font_held}
-use borrow.Author.Rules.{rules}
 use native.Mathlib.Omega.{arith}
 use Rattle.store.proofs.fonts.tell_font.Goals as goal
 

@@ -4,7 +4,6 @@ use Rattle.form.proofs.Locates.{store_is}
 use Rattle.store.proofs.FontCalls.{answered_block}
 use mathlib.Core.Path.{ap, ◌∙◌}
 use Rattle.store.specs.declared.download.Downloaded.{Downloaded}
-use borrow.Author.Rules.{rules}
 use Rattle.store.proofs.known.add_character.Goals as goal
 
 pub past_character-behind-requires : goal.past_character-behind-requires

@@ -4,7 +4,6 @@ use Rattle.store.proofs.BadRuns.{font_run}
 use Rattle.form.proofs.Locates.{store_is}
 use Rattle.store.proofs.FontCalls.{answered, answered_by, plainly}
 use mathlib.Core.Path.{sym, ◌∙◌}
-use borrow.Author.Rules.{rules}
 use Rattle.store.proofs.known.add_font.Goals as goal
 
 pub put_font-answer-requires : goal.put_font-answer-requires

@@ -1,5 +1,4 @@
 use borrow.Author.Tests.{ne_eqb}
-use borrow.Author.Rules.{rules}
 use Rattle.store.proofs.known.font_end.Goals as goal
 
 pub returns-then-answer-eq0 : goal.returns-then-answer-eq0

@@ -2,7 +2,6 @@ use Rattle.store.proofs.Cursors.{opened_points}
 use Rattle.form.proofs.Ready.{not_store_lem}
 use Rattle.store.specs.Known.{Opening}
 use mathlib.Core.Path.{sym, ◌∙◌}
-use borrow.Author.Rules.{rules}
 use Rattle.store.proofs.known.open_store.Goals as goal
 
 pub returns-in-Found : goal.returns-in-Found

@@ -1,6 +1,4 @@
 use native.Mathlib.Omega.{arith}
-use Prim.Native.Nat.{◌-◌}
-use borrow.Author.Rules.{rules}
 use Rattle.store.proofs.known.past_character.Goals as goal
 
 pub returns-then-answer-eq10 : goal.returns-then-answer-eq10

@@ -3,7 +3,6 @@ use Prim.Native.Nat.{ℕ, ◌+◌, ◌-◌}
 use lib.ListN.{take, drop, length-take, length-drop}
 use Rattle.change.specs.Put.{with_bytes}
 use Rattle.store.proofs.Spots.{front}
-use borrow.Author.Rules.{rules}
 use native.Mathlib.Omega.{arith}
 use Rattle.store.proofs.telling.copy_kept.Goals as goal
 

@@ -1,5 +1,4 @@
 use Rattle.stream.specs.Command.{starts_with}
-use borrow.Author.Rules.{rules}
 use Rattle.stream.proofs.command.begins.Goals as goal
 
 pub returns : goal.returns

@@ -1,5 +1,4 @@
 use Rattle.stream.specs.Command.{is_block}
-use borrow.Author.Rules.{rules}
 use Rattle.stream.proofs.command.is_block.Goals as goal
 
 pub returns : goal.returns

@@ -1,6 +1,5 @@
 use Rattle.stream.specs.Command.{moved_by}
 use Rattle.stream.specs.CommandEnds.{CommandEnds}
-use borrow.Author.Rules.{rules}
 use native.Mathlib.Omega.{arith}
 use Rattle.stream.proofs.command.move_by.Goals as goal
 

@@ -1,6 +1,5 @@
 use Rattle.stream.specs.Command.{block_of}
 use Rattle.stream.proofs.Tests.{passed, failed}
-use borrow.Author.Rules.{rules}
 use Rattle.stream.proofs.command.read_block.Goals as goal
 
 pub returns-then-not-is_block : goal.returns-then-not-is_block

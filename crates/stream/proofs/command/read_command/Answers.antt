@@ -2,7 +2,6 @@ use Prim.Native.Nat.{◌^◌, ◌-◌}
 use mathlib.Core.Path.{sym, ◌∙◌}
 use lib.ListN.{length}
 use Rattle.stream.proofs.Commands.{command_past, command_rest, command_at_ends, ends_fits}
-use borrow.Author.Rules.{rules}
 use native.Mathlib.Omega.{arith}
 use Rattle.stream.proofs.command.read_command.Goals as goal
 

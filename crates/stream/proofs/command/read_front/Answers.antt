@@ -1,7 +1,6 @@
 use mathlib.Core.Path.{◌∙◌}
 use borrow.Author.Tests.{eq-eqb, ne_eqb}
 use Rattle.stream.specs.Command.{command}
-use borrow.Author.Rules.{rules}
 use Rattle.stream.proofs.command.read_front.Goals as goal
 
 pub returns-then-s-eq0 : goal.returns-then-s-eq0

@@ -1,8 +1,6 @@
-use Prim.Native.Nat.{◌-◌, ◌≤◌}
-use mathlib.Core.Path.{◌≡◌, sym, ◌∙◌}
-use Rattle.stream.specs.Command.{number_of}
+use mathlib.Core.Path.{sym, ◌∙◌}
 use Rattle.stream.proofs.Tests.{passed, failed}
-use Rattle.stream.proofs.Commands.{digit_within, number_from, number_start, number_bound, number_next, number_stop, number_full}
+use Rattle.stream.proofs.Commands.{digit_within, number_start, number_bound, number_next, number_stop, number_full}
 use borrow.Author.Rules.{rules}
 use native.Mathlib.Omega.{arith}
 use Rattle.stream.proofs.command.read_number.Goals as goal

@@ -1,6 +1,5 @@
 use borrow.Author.Tests.{le-leb, lt-leb, eq-eqb, ne_eqb}
 use Rattle.stream.specs.Command.{number_command}
-use borrow.Author.Rules.{rules}
 use Rattle.stream.proofs.command.read_numbered.Goals as goal
 
 pub returns-then-next-lt4 : goal.returns-then-next-lt4

@@ -1,8 +1,4 @@
-use Prim.Native.Nat.{◌+◌}
-use mathlib.Core.Path.{◌≡◌}
 use native.Mathlib.Omega.{arith}
-use lib.ListN.{length}
-use Rattle.stream.specs.Digits.{decimal_of}
 use Rattle.stream.proofs.Decimals.{length_four, decimal_short}
 use Rattle.stream.proofs.digits.long_count.Goals as goal
 

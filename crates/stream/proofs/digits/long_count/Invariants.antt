@@ -1,9 +1,7 @@
 use Prim.Native.Nat.{◌+◌}
 use mathlib.Core.Path.{◌≡◌}
-use native.Mathlib.Omega.{arith}
 use lib.ListN.{length}
 use Rattle.stream.specs.Digits.{decimal_of}
-use Rattle.stream.proofs.Decimals.{length_four, decimal_short}
 use Rattle.stream.proofs.digits.long_count.Given as goal
 
 abbrev pub invariant-loop-rest : goal.invariant-loop-rest

@@ -1,6 +1,5 @@
-use Rattle.stream.proofs.Decimals.{Written, written_none, written_more, written_all}
-use mathlib.Core.Path.{◌≡◌}
-use lib.ListN.{length, length-set}
+use Rattle.stream.proofs.Decimals.{written_none, written_more, written_all}
+use lib.ListN.{length-set}
 use borrow.Author.Rules.{rules}
 use native.Mathlib.Omega.{arith}
 use Rattle.stream.proofs.digits.write_digits.Goals as goal

@@ -1,8 +1,6 @@
-use Rattle.stream.proofs.Decimals.{Written, written_none, written_more, written_all}
+use Rattle.stream.proofs.Decimals.{Written}
 use mathlib.Core.Path.{◌≡◌}
-use lib.ListN.{length, length-set}
-use borrow.Author.Rules.{rules}
-use native.Mathlib.Omega.{arith}
+use lib.ListN.{length}
 use Rattle.stream.proofs.digits.write_digits.Given as goal
 
 abbrev pub invariant-loop-i : goal.invariant-loop-i

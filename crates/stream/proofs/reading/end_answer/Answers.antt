@@ -1,4 +1,3 @@
-use borrow.Author.Rules.{rules}
 use Rattle.stream.specs.Reading.{end_answer}
 use Rattle.stream.proofs.reading.end_answer.Goals as goal
 

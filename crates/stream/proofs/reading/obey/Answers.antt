@@ -1,6 +1,5 @@
 use mathlib.Core.Path.{sym, ◌∙◌}
 use native.Mathlib.Omega.{arith}
-use borrow.Author.Rules.{rules}
 use Rattle.stream.proofs.Readings.{ends_number, ends_code, ends_font, ends_character, obey_number, obey_code, obey_font, obey_character, obey_broken, obey_end}
 use Rattle.stream.proofs.reading.obey.Goals as goal
 

@@ -1,9 +1,5 @@
-use lib.ListN.{length}
-use Prim.Native.Nat.{◌-◌}
-use mathlib.Core.Path.{◌≡◌, refl, ◌∙◌}
+use mathlib.Core.Path.{refl, ◌∙◌}
 use native.Mathlib.Omega.{arith}
-use borrow.Author.Rules.{rules}
-use Rattle.stream.specs.Underway.{read_on, Underway}
 use Rattle.stream.proofs.Readings.{went_on, went_last}
 use Rattle.stream.proofs.reading.read_from.Goals as goal
 

@@ -1,10 +1,7 @@
 use lib.ListN.{length}
 use Prim.Native.Nat.{◌-◌}
-use mathlib.Core.Path.{◌≡◌, refl, ◌∙◌}
-use native.Mathlib.Omega.{arith}
-use borrow.Author.Rules.{rules}
+use mathlib.Core.Path.{◌≡◌}
 use Rattle.stream.specs.Underway.{read_on, Underway}
-use Rattle.stream.proofs.Readings.{went_on, went_last}
 use Rattle.stream.proofs.reading.read_from.Given as goal
 
 abbrev pub invariant-loop-behind : goal.invariant-loop-behind

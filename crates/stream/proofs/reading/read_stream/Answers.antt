@@ -1,6 +1,5 @@
 use mathlib.Core.Path.{sym, ap, ◌∙◌}
 use native.Mathlib.Omega.{arith}
-use borrow.Author.Rules.{rules}
 use Rattle.store.proofs.Cursors.{opened_at, opened_not}
 use Rattle.stream.specs.Reading.{Ended, reading_of}
 use Rattle.stream.proofs.Readings.{read_not, read_store, answered}

@@ -1,4 +1,3 @@
-use borrow.Author.Rules.{rules}
 use Rattle.stream.proofs.reading.set_target.Goals as goal
 
 pub returns : goal.returns

@@ -1,4 +1,3 @@
-use borrow.Author.Rules.{rules}
 use Rattle.stream.proofs.reading.take_font.Goals as goal
 
 pub returns : goal.returns

@@ -1,5 +1,4 @@
 use Rattle.stream.proofs.Writes.{one_length, two_length}
-use borrow.Author.Rules.{rules}
 use native.Mathlib.Omega.{arith}
 use Rattle.stream.proofs.write.blocks_length.Goals as goal
 

@@ -1,5 +1,4 @@
 use Rattle.stream.proofs.Writes.{character_length_lem}
-use borrow.Author.Rules.{rules}
 use native.Mathlib.Omega.{arith}
 use Rattle.stream.proofs.write.character_length.Goals as goal
 

@@ -1,5 +1,4 @@
 use Rattle.stream.proofs.Decimals.{decimal_short}
-use borrow.Author.Rules.{rules}
 use native.Mathlib.Omega.{arith}
 use Rattle.stream.proofs.write.command_length.Goals as goal
 

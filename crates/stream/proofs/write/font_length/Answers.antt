@@ -1,5 +1,4 @@
 use Rattle.stream.proofs.Writes.{font_length}
-use borrow.Author.Rules.{rules}
 use native.Mathlib.Omega.{arith}
 use Rattle.stream.proofs.write.font_length.Goals as goal
 

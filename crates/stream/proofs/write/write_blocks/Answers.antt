@@ -1,8 +1,6 @@
 use mathlib.Core.Path.{ap}
-use Prim.Native.Nat.{◌-◌}
 use lib.ListN.{length, length-take}
 use Rattle.stream.proofs.Writes.{blocks_one, blocks_two, blocks_room, joined_put}
-use borrow.Author.Rules.{rules}
 use native.Mathlib.Omega.{arith}
 use Rattle.stream.proofs.write.write_blocks.Goals as goal
 

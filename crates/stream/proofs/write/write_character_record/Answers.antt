@@ -1,5 +1,4 @@
 use Rattle.stream.proofs.Writes.{character_parts, character_parts_room, joined_put}
-use borrow.Author.Rules.{rules}
 use native.Mathlib.Omega.{arith}
 use Rattle.stream.proofs.write.write_character_record.Goals as goal
 

@@ -3,7 +3,6 @@ use Rattle.form.proofs.Seeks.{KeptFont, font_sought, font_refused}
 use Rattle.form.proofs.FontRecords.{font_records}
 use Rattle.stream.specs.Written.{writing_font}
 use Rattle.stream.proofs.Writes.{font_written}
-use borrow.Author.Rules.{rules}
 use Rattle.stream.proofs.write.write_font.Goals as goal
 
 -- behind the seeking

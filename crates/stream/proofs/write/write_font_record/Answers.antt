@@ -1,6 +1,5 @@
 use lib.ListN.{length-take}
 use Rattle.stream.proofs.Writes.{own_part, font_parts, font_parts_room, joined_put}
-use borrow.Author.Rules.{rules}
 use native.Mathlib.Omega.{arith}
 use Rattle.stream.proofs.write.write_font_record.Goals as goal
 

@@ -1,7 +1,6 @@
 use Rattle.form.specs.Records.{FontMet, CharacterMet}
 use Rattle.form.proofs.Meetings.{met_font, met_character_lem, met_end}
 use Rattle.stream.proofs.Writes.{lent_length, font_room, font_wrote, character_room, character_wrote}
-use borrow.Author.Rules.{rules}
 use native.Mathlib.Omega.{arith}
 use Rattle.stream.proofs.write.write_record.Goals as goal
 

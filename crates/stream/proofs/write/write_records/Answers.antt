@@ -1,8 +1,6 @@
-use mathlib.Core.Path.{◌≡◌, refl}
-use Prim.Native.Nat.{◌-◌}
-use lib.ListN.{length}
+use mathlib.Core.Path.{refl}
 use Rattle.form.proofs.FontRecords.{between_some}
-use Rattle.stream.proofs.Writes.{Filled, fill_room, fill_next, filled}
+use Rattle.stream.proofs.Writes.{fill_room, fill_next, filled}
 use native.Mathlib.Omega.{arith}
 use Rattle.stream.proofs.write.write_records.Goals as goal
 

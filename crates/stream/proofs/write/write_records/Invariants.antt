@@ -1,9 +1,7 @@
-use mathlib.Core.Path.{◌≡◌, refl}
+use mathlib.Core.Path.{◌≡◌}
 use Prim.Native.Nat.{◌-◌}
 use lib.ListN.{length}
-use Rattle.form.proofs.FontRecords.{between_some}
-use Rattle.stream.proofs.Writes.{Filled, fill_room, fill_next, filled}
-use native.Mathlib.Omega.{arith}
+use Rattle.stream.proofs.Writes.{Filled}
 use Rattle.stream.proofs.write.write_records.Given as goal
 
 abbrev pub invariant-loop-at : goal.invariant-loop-at

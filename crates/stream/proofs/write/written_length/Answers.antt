@@ -1,7 +1,6 @@
-use Prim.Native.Nat.{◌*◌, ◌-◌, ◌≤◌}
 use native.Mathlib.Nat.{zero-add}
 use Rattle.form.proofs.FontRecords.{between_some}
-use Rattle.stream.proofs.Writes.{Counted, count_next, counted}
+use Rattle.stream.proofs.Writes.{count_next, counted}
 use native.Mathlib.Omega.{arith}
 use Rattle.stream.proofs.write.written_length.Goals as goal
 

@@ -1,8 +1,5 @@
 use Prim.Native.Nat.{◌*◌, ◌-◌, ◌≤◌}
-use native.Mathlib.Nat.{zero-add}
-use Rattle.form.proofs.FontRecords.{between_some}
-use Rattle.stream.proofs.Writes.{Counted, count_next, counted}
-use native.Mathlib.Omega.{arith}
+use Rattle.stream.proofs.Writes.{Counted}
 use Rattle.stream.proofs.write.written_length.Given as goal
 
 abbrev pub invariant-loop-at : goal.invariant-loop-at

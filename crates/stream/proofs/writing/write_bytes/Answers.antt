@@ -1,7 +1,6 @@
-use Prim.Native.Nat.{◌-◌, ◌≤◌}
-use mathlib.Core.Path.{◌≡◌, ◌∙◌}
-use lib.ListN.{length, length-set}
-use lib.Seq.{paste, paste-zero}
+use mathlib.Core.Path.{◌∙◌}
+use lib.ListN.{length-set}
+use lib.Seq.{paste-zero}
 use Rattle.stream.proofs.Putting.{put_copied, paste_more}
 use borrow.Author.Rules.{rules}
 use native.Mathlib.Omega.{arith}

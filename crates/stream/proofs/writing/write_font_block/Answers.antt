@@ -1,7 +1,6 @@
 use lib.ListN.{length, length-append}
 use Rattle.stream.specs.Writing.{font_block_head, font_block_command}
 use Rattle.stream.proofs.Spellings.{block_put}
-use borrow.Author.Rules.{rules}
 use native.Mathlib.Omega.{arith}
 use Rattle.stream.proofs.writing.write_font_block.Goals as goal
 

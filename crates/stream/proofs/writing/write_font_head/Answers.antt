@@ -1,5 +1,4 @@
 use Rattle.stream.specs.Writing.{font_block_head}
-use borrow.Author.Rules.{rules}
 use Rattle.stream.proofs.writing.write_font_head.Goals as goal
 
 pub write_spelling-requires : goal.write_spelling-requires

@@ -1,5 +1,4 @@
 use Rattle.stream.specs.Writing.{set_font}
-use borrow.Author.Rules.{rules}
 use Rattle.stream.proofs.writing.write_set_font.Goals as goal
 
 pub write_spelling-requires : goal.write_spelling-requires

@@ -1,6 +1,5 @@
 use lib.ListN.{length-set}
 use Rattle.stream.proofs.Spellings.{length_spelling, spelling_put}
-use borrow.Author.Rules.{rules}
 use native.Mathlib.Omega.{arith}
 use Rattle.stream.proofs.writing.write_spelling.Goals as goal
 

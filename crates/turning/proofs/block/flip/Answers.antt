@@ -1,4 +1,3 @@
-use borrow.Author.Rules.{rules}
 use Rattle.turning.proofs.block.flip.Goals as goal
 
 pub returns-then-back : goal.returns-then-back

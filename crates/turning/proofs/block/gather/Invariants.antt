@@ -1,10 +1,6 @@
-use Prim.Native.Nat.{ℕ, zero-le, ◌+◌, ◌-◌, ◌^◌, ◌<◌, ◌≤◌}
-use mathlib.Core.Path.{◌≡◌, refl}
-use native.Mathlib.Omega.{arith}
-use borrow.Author.Rules.{rules}
+use Prim.Native.Nat.{ℕ, ◌+◌, ◌-◌, ◌^◌, ◌<◌, ◌≤◌}
+use mathlib.Core.Path.{◌≡◌}
 use Rattle.turning.specs.Block.{column_byte, join_bytes}
-use Rattle.turning.proofs.BlockLaws.{join_more, join_full, join_room, join_fits}
-use Rattle.turning.proofs.BlockLaws.{join_more, join_full, join_room}
 use Rattle.turning.proofs.block.gather.Given as goal
 
 abbrev pub invariant-loop-i : goal.invariant-loop-i

@@ -1,10 +1,7 @@
-use Prim.Native.Nat.{ℕ, zero-le, ◌-◌, ◌*◌, ◌≤◌}
-use mathlib.Core.Path.{◌≡◌, refl, ◌∙◌}
+use Prim.Native.Nat.{zero-le}
+use mathlib.Core.Path.{refl, ◌∙◌}
 use native.Mathlib.Omega.{arith}
-use lib.ListN.{length, get_or}
 use borrow.Author.Rules.{rules}
-use Rattle.turning.specs.Block.{TurnedUpTo}
-use Rattle.pictures.specs.Size.{row_size, picture_size}
 use Rattle.turning.proofs.BlockLaws.{turned_none, turned_all}
 use Rattle.turning.proofs.block.quarter_turn.Goals as goal
 

@@ -1,11 +1,8 @@
-use Prim.Native.Nat.{ℕ, zero-le, ◌-◌, ◌*◌, ◌≤◌}
-use mathlib.Core.Path.{◌≡◌, refl, ◌∙◌}
-use native.Mathlib.Omega.{arith}
+use Prim.Native.Nat.{ℕ, ◌-◌, ◌*◌, ◌≤◌}
+use mathlib.Core.Path.{◌≡◌}
 use lib.ListN.{length, get_or}
-use borrow.Author.Rules.{rules}
 use Rattle.turning.specs.Block.{TurnedUpTo}
 use Rattle.pictures.specs.Size.{row_size, picture_size}
-use Rattle.turning.proofs.BlockLaws.{turned_none, turned_all}
 use Rattle.turning.proofs.block.quarter_turn.Given as goal
 
 abbrev pub invariant-loop-column : goal.invariant-loop-column

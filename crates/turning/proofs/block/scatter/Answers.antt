@@ -1,10 +1,9 @@
-use Prim.Native.Nat.{zero-le, ◌+◌, ◌-◌, ◌≤◌}
+use Prim.Native.Nat.{zero-le, ◌+◌}
 use mathlib.Core.Bool.{not}
 use mathlib.Core.Path.{◌≡◌, refl}
 use native.Mathlib.Omega.{arith}
-use lib.ListN.{length, length-set}
+use lib.ListN.{length-set}
 use borrow.Author.Rules.{rules}
-use Rattle.turning.specs.Block.{Put}
 use Rattle.turning.proofs.BlockLaws.{place_in, put_none, put_next}
 use Rattle.turning.proofs.block.scatter.Goals as goal
 

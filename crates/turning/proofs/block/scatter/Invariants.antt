@@ -1,11 +1,7 @@
-use Prim.Native.Nat.{zero-le, ◌+◌, ◌-◌, ◌≤◌}
-use mathlib.Core.Bool.{not}
-use mathlib.Core.Path.{◌≡◌, refl}
-use native.Mathlib.Omega.{arith}
-use lib.ListN.{length, length-set}
-use borrow.Author.Rules.{rules}
+use Prim.Native.Nat.{◌-◌, ◌≤◌}
+use mathlib.Core.Path.{◌≡◌}
+use lib.ListN.{length}
 use Rattle.turning.specs.Block.{Put}
-use Rattle.turning.proofs.BlockLaws.{place_in, put_none, put_next}
 use Rattle.turning.proofs.block.scatter.Given as goal
 
 abbrev pub invariant-loop-i : goal.invariant-loop-i

@@ -1,6 +1,5 @@
 use Prim.Native.Nat.{◌-◌}
 use native.Mathlib.Omega.{arith}
-use borrow.Author.Rules.{rules}
 use Rattle.turning.proofs.BlockLaws.{put_all}
 use Rattle.turning.proofs.block.scatter_block.Goals as goal
 

@@ -1,5 +1,4 @@
 use Rattle.turning.proofs.SwapLaws.{transposed}
-use borrow.Author.Rules.{rules}
 use Rattle.turning.proofs.block.transpose.Goals as goal
 
 pub returns : goal.returns

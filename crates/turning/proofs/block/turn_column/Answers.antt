@@ -1,11 +1,8 @@
-use Prim.Native.Nat.{ℕ, zero-le, ◌-◌, ◌*◌, ◌≤◌}
-use mathlib.Core.Path.{◌≡◌, refl, ◌∙◌}
+use Prim.Native.Nat.{zero-le}
+use mathlib.Core.Path.{refl, ◌∙◌}
 use native.Mathlib.Omega.{arith}
-use lib.ListN.{length, get_or}
 use borrow.Author.Rules.{rules}
-use Rattle.turning.specs.Block.{TurnedUpTo}
-use Rattle.pictures.specs.Size.{row_size, picture_size}
-use Rattle.turning.proofs.BlockLaws.{Columns, columns_none, columns_next, columns_all}
+use Rattle.turning.proofs.BlockLaws.{columns_none, columns_next, columns_all}
 use Rattle.turning.proofs.block.turn_column.Goals as goal
 
 pub loop-q-init : goal.loop-q-init

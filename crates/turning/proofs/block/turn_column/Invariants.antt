@@ -1,11 +1,9 @@
-use Prim.Native.Nat.{ℕ, zero-le, ◌-◌, ◌*◌, ◌≤◌}
-use mathlib.Core.Path.{◌≡◌, refl, ◌∙◌}
-use native.Mathlib.Omega.{arith}
+use Prim.Native.Nat.{ℕ, ◌-◌, ◌*◌, ◌≤◌}
+use mathlib.Core.Path.{◌≡◌}
 use lib.ListN.{length, get_or}
-use borrow.Author.Rules.{rules}
 use Rattle.turning.specs.Block.{TurnedUpTo}
 use Rattle.pictures.specs.Size.{row_size, picture_size}
-use Rattle.turning.proofs.BlockLaws.{Columns, columns_none, columns_next, columns_all}
+use Rattle.turning.proofs.BlockLaws.{Columns}
 use Rattle.turning.proofs.block.turn_column.Given as goal
 
 abbrev pub invariant-loop-q : goal.invariant-loop-q

@@ -1,11 +1,6 @@
 use Prim.Native.Nat.{◌+◌}
-use mathlib.Core.List.{◌++◌}
-use mathlib.Core.Path.{◌≡◌, refl, ◌∙◌}
+use mathlib.Core.Path.{refl, ◌∙◌}
 use native.Mathlib.Omega.{arith}
-use lib.ListN.{length, take, drop}
-use borrow.Author.Rules.{rules}
-use Rattle.pictures.specs.Size.{picture_size}
-use Rattle.turning.specs.Turn.{turned}
 use Rattle.turning.proofs.Answers.{size_fits}
 use Rattle.turning.proofs.MirrorLaws.{run_next, bytes_all}
 use Rattle.turning.proofs.mirror.mirror_bytes.Goals as goal

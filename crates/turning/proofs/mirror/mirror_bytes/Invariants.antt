@@ -1,13 +1,9 @@
 use Prim.Native.Nat.{◌+◌}
 use mathlib.Core.List.{◌++◌}
-use mathlib.Core.Path.{◌≡◌, refl, ◌∙◌}
-use native.Mathlib.Omega.{arith}
+use mathlib.Core.Path.{◌≡◌}
 use lib.ListN.{length, take, drop}
-use borrow.Author.Rules.{rules}
 use Rattle.pictures.specs.Size.{picture_size}
 use Rattle.turning.specs.Turn.{turned}
-use Rattle.turning.proofs.Answers.{size_fits}
-use Rattle.turning.proofs.MirrorLaws.{run_next, bytes_all}
 use Rattle.turning.proofs.mirror.mirror_bytes.Given as goal
 
 abbrev pub invariant-loop-from : goal.invariant-loop-from

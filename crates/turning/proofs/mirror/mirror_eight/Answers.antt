@@ -1,5 +1,4 @@
 use native.Mathlib.Omega.{arith}
-use borrow.Author.Rules.{rules}
 use Rattle.turning.proofs.MirrorLaws.{runs_joined}
 use Rattle.turning.proofs.mirror.mirror_eight.Goals as goal
 

@@ -1,7 +1,6 @@
 use Prim.Native.Nat.{◌-◌}
 use lib.ListN.{length-set}
 use native.Mathlib.Omega.{arith}
-use borrow.Author.Rules.{rules}
 use Rattle.turning.proofs.MirrorLaws.{pair_in, pair_mirrored}
 use Rattle.turning.proofs.mirror.mirror_pair.Goals as goal
 

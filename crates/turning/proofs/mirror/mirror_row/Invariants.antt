@@ -1,11 +1,8 @@
 use Prim.Native.Nat.{ℕ, ◌+◌, ◌-◌, ◌<◌, ◌≤◌}
 use mathlib.Core.List.{List, ◌++◌}
-use mathlib.Core.Path.{◌≡◌, refl, sym, ◌∙◌}
-use native.Mathlib.Omega.{arith}
-use lib.ListN.{length, get_or, take, drop, length-set}
-use borrow.Author.Rules.{rules}
+use mathlib.Core.Path.{◌≡◌}
+use lib.ListN.{length, get_or, take, drop}
 use Rattle.turning.specs.MirrorBytes.{mirrored_at, half_byte}
-use Rattle.turning.proofs.MirrorLaws.{mirrored_lt, mirrored_in, mirrored_first, row_none, row_next, row_end, joined_as, last_as, last_at}
 use Rattle.turning.proofs.mirror.mirror_row.Given as goal
 
 abbrev pub invariant-loop-q : goal.invariant-loop-q

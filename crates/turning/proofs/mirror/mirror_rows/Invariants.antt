@@ -1,13 +1,9 @@
-use Prim.Native.Nat.{zero-le, ◌-◌, ◌*◌, ◌≤◌}
+use Prim.Native.Nat.{◌-◌, ◌*◌, ◌≤◌}
 use mathlib.Core.List.{◌++◌}
-use mathlib.Core.Path.{◌≡◌, refl, ◌∙◌}
-use native.Mathlib.Omega.{arith}
+use mathlib.Core.Path.{◌≡◌}
 use lib.ListN.{length, take, drop}
-use borrow.Author.Rules.{rules}
 use Rattle.pictures.specs.Size.{row_size}
 use Rattle.turning.specs.Turn.{turned}
-use Rattle.turning.proofs.MirrorLaws.{half_byte_lem, length_half, half_none, half_next, half_all, power_low}
-use Rattle.turning.proofs.PictureLaws.{row_fits}
 use Rattle.turning.proofs.mirror.mirror_rows.Given as goal
 
 abbrev pub invariant-loop-row : goal.invariant-loop-row

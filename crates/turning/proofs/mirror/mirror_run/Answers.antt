@@ -1,9 +1,7 @@
-use Prim.Native.Nat.{ℕ, zero-le, ◌+◌, ◌-◌, ◌<◌, ◌≤◌}
-use mathlib.Core.List.{List, ◌++◌}
-use mathlib.Core.Path.{◌≡◌, refl, sym, ◌∙◌}
+use Prim.Native.Nat.{zero-le}
+use mathlib.Core.Path.{refl, sym, ◌∙◌}
 use native.Mathlib.Omega.{arith}
-use lib.ListN.{length, get_or, take, drop, length-set}
-use Rattle.turning.specs.Mirror.{mirror}
+use lib.ListN.{length-set}
 use Rattle.turning.specs.MirrorBytes.{MirroredInto}
 use Rattle.turning.proofs.MirrorLaws.{row_none, row_next, run_end}
 use Rattle.turning.proofs.mirror.mirror_run.Goals as goal

@@ -1,11 +1,8 @@
-use Prim.Native.Nat.{ℕ, zero-le, ◌+◌, ◌-◌, ◌<◌, ◌≤◌}
+use Prim.Native.Nat.{ℕ, ◌+◌, ◌-◌, ◌<◌, ◌≤◌}
 use mathlib.Core.List.{List, ◌++◌}
-use mathlib.Core.Path.{◌≡◌, refl, sym, ◌∙◌}
-use native.Mathlib.Omega.{arith}
-use lib.ListN.{length, get_or, take, drop, length-set}
+use mathlib.Core.Path.{◌≡◌}
+use lib.ListN.{length, get_or, take, drop}
 use Rattle.turning.specs.Mirror.{mirror}
-use Rattle.turning.specs.MirrorBytes.{MirroredInto}
-use Rattle.turning.proofs.MirrorLaws.{row_none, row_next, run_end}
 use Rattle.turning.proofs.mirror.mirror_run.Given as goal
 
 abbrev pub invariant-loop-k : goal.invariant-loop-k

@@ -1,7 +1,6 @@
 use Prim.Native.Nat.{◌-◌}
 use mathlib.Core.Path.{sym}
 use native.Mathlib.Omega.{arith}
-use borrow.Author.Rules.{rules}
 use Rattle.turning.proofs.MirrorLaws.{pair_in}
 use Rattle.turning.proofs.mirror.pair_before.Goals as goal
 

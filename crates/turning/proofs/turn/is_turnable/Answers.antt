@@ -1,4 +1,3 @@
-use borrow.Author.Rules.{rules}
 use native.Mathlib.Omega.{arith}
 use Rattle.turning.specs.Turn.{turnable}
 use Rattle.turning.proofs.Answers.{size_fits}

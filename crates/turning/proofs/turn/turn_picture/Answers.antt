@@ -1,6 +1,5 @@
 use native.Mathlib.Omega.{arith}
 use lib.ListN.{length}
-use borrow.Author.Rules.{rules}
 use Rattle.pictures.proofs.Tests.{passed, failed}
 use Rattle.turning.proofs.Answers.{good, turn_refused, turn_short, turn_done, by_half, by_quarters, size_half, size_quarter}
 use Rattle.turning.proofs.turn.turn_picture.Goals as goal

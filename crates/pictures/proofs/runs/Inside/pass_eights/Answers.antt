@@ -1,5 +1,4 @@
-use Rattle.std.proofs.Common.{◌-◌, arith, rules}
-use Rattle.pictures.specs.Passing.{PassesRuns}
+use Rattle.std.proofs.Common.{arith}
 use Rattle.pictures.proofs.Passing.{inside, runs_none, runs_then, runs_eight}
 use Rattle.pictures.proofs.runs.Inside.pass_eights.Goals as goal
 

@@ -1,6 +1,6 @@
-use Rattle.std.proofs.Common.{◌-◌, arith, rules}
+use Rattle.std.proofs.Common.{◌-◌}
 use Rattle.pictures.specs.Passing.{PassesRuns}
-use Rattle.pictures.proofs.Passing.{inside, runs_none, runs_then, runs_eight}
+use Rattle.pictures.proofs.Passing.{inside}
 use Rattle.pictures.proofs.runs.Inside.pass_eights.Given as goal
 
 abbrev pub invariant-loop-at : goal.invariant-loop-at

@@ -1,4 +1,4 @@
-use Rattle.std.proofs.Common.{arith, rules}
+use Rattle.std.proofs.Common.{arith}
 use Rattle.pictures.proofs.Passing.{runs_none, runs_one}
 use Rattle.pictures.proofs.runs.Inside.pass_one.Goals as goal
 

@@ -1,5 +1,4 @@
 use Rattle.pictures.proofs.Passing.{runs_then, runs_within}
-use Rattle.std.proofs.Common.{rules}
 use Rattle.pictures.proofs.runs.Inside.pass_runs.Goals as goal
 
 pub returns-then-width-lt-WIDE : goal.returns-then-width-lt-WIDE

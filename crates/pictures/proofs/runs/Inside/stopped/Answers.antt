@@ -1,4 +1,3 @@
-use Rattle.std.proofs.Common.{rules}
 use Rattle.pictures.proofs.runs.Inside.stopped.Goals as goal
 
 pub returns : goal.returns

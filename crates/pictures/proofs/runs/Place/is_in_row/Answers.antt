@@ -1,4 +1,3 @@
-use Rattle.std.proofs.Common.{rules}
 use Rattle.pictures.proofs.runs.Place.is_in_row.Goals as goal
 
 pub returns : goal.returns

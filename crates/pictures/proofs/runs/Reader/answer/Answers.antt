@@ -1,5 +1,4 @@
 use Rattle.pictures.specs.Runs.{scan_from}
-use Rattle.std.proofs.Common.{rules}
 use Rattle.pictures.proofs.runs.Reader.answer.Goals as goal
 
 pub returns-then-is_finished : goal.returns-then-is_finished

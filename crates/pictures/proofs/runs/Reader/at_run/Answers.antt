@@ -1,4 +1,3 @@
-use Rattle.std.proofs.Common.{rules}
 use Rattle.pictures.proofs.runs.Reader.at_run.Goals as goal
 
 pub returns : goal.returns

@@ -1,5 +1,5 @@
 use Rattle.pictures.specs.Runs.{end_row}
-use Rattle.std.proofs.Common.{rules, le-leb}
+use Rattle.std.proofs.Common.{le-leb}
 use borrow.Author.Tests.{lt-leb}
 use Rattle.pictures.proofs.runs.Reader.end_row.Goals as goal
 

@@ -1,5 +1,4 @@
 use Rattle.pictures.proofs.Passing.{passes_then}
-use Rattle.std.proofs.Common.{rules}
 use Rattle.pictures.proofs.runs.Reader.pass.Goals as goal
 
 pub pass_rows-requires : goal.pass_rows-requires

@@ -1,5 +1,5 @@
 use Rattle.pictures.proofs.Passing.{passes_none, passes_count}
-use Rattle.std.proofs.Common.{arith, rules}
+use Rattle.std.proofs.Common.{arith}
 use Rattle.pictures.proofs.runs.Reader.pass_count.Goals as goal
 
 pub returns-then-is_at_run-is_finished : goal.returns-then-is_at_run-is_finished

@@ -1,8 +1,7 @@
 use Rattle.pictures.specs.declared.runs.Place.TheVariants.{Count}
 use Rattle.pictures.specs.declared.runs.Reader.{Reader}
-use Rattle.pictures.specs.Passing.{Passes, stopped_in}
 use Rattle.pictures.proofs.Passing.{passes_none, passes_then, passes_last, passes_row, at_run_unfinished, runs_within, runs_ahead}
-use Rattle.std.proofs.Common.{◌≡◌, ◌-◌, ◌≤◌, length, get_or, arith, rules}
+use Rattle.std.proofs.Common.{◌≡◌, ◌-◌, get_or, arith, rules}
 use Rattle.pictures.proofs.runs.Reader.pass_from.Goals as goal
 
 pub loop-stop-init : goal.loop-stop-init

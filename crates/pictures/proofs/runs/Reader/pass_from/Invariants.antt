@@ -1,8 +1,5 @@
-use Rattle.pictures.specs.declared.runs.Place.TheVariants.{Count}
-use Rattle.pictures.specs.declared.runs.Reader.{Reader}
 use Rattle.pictures.specs.Passing.{Passes, stopped_in}
-use Rattle.pictures.proofs.Passing.{passes_none, passes_then, passes_last, passes_row, at_run_unfinished, runs_within, runs_ahead}
-use Rattle.std.proofs.Common.{◌≡◌, ◌-◌, ◌≤◌, length, get_or, arith, rules}
+use Rattle.std.proofs.Common.{◌-◌, ◌≤◌, length}
 use Rattle.pictures.proofs.runs.Reader.pass_from.Given as goal
 
 abbrev pub invariant-loop-stop : goal.invariant-loop-stop

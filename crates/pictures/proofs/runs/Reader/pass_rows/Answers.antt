@@ -1,6 +1,6 @@
 use Rattle.pictures.proofs.Passing.{passes_none, passes_then, passes_begin, in_row}
 use Rattle.pictures.proofs.Tests.{passed}
-use Rattle.std.proofs.Common.{arith, rules}
+use Rattle.std.proofs.Common.{arith}
 use Rattle.pictures.proofs.runs.Reader.pass_rows.Goals as goal
 
 pub returns-then-not-is_in_row : goal.returns-then-not-is_in_row

@@ -1,5 +1,5 @@
 use Rattle.pictures.specs.declared.runs.Stepped.TheVariants.{Next}
-use Rattle.std.proofs.Common.{ap, ◌∙◌, rules}
+use Rattle.std.proofs.Common.{ap, ◌∙◌}
 use Rattle.pictures.proofs.runs.Reader.run_in.Goals as goal
 
 pub returns-in-Over : goal.returns-in-Over

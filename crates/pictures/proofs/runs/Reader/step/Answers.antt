@@ -1,6 +1,6 @@
 use Rattle.pictures.proofs.Passing.{step_run_lem, step_finished, step_count}
 use Rattle.pictures.specs.declared.runs.Stepped.TheVariants.{Next}
-use Rattle.std.proofs.Common.{sym, ap, ◌∙◌, rules}
+use Rattle.std.proofs.Common.{sym, ap, ◌∙◌}
 use Rattle.pictures.proofs.runs.Reader.step.Goals as goal
 
 pub returns-then-is_at_run : goal.returns-then-is_at_run
