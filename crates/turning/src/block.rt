@@ -141,6 +141,7 @@ fn scatter_block(
 }
 
 // Turns a column of bytes, which gives eight rows, or fewer where the column is the last.
+#[inline(never)]
 fn turn_column(picture: &[u8], out: &mut [u8], width: usize, height: usize, up: bool, column: usize)
     requires { (column < row_size width) × (width ≤ side_limit) × (height ≤ side_limit)
         × (picture_size width height ≤ length picture.now) × (picture_size height width ≤ length out.old) }
