@@ -83,8 +83,9 @@
  *   (those that take it as const; mf_choose_from_two looks at two), each with an output of its
  *   own. A call that changes a store needs it alone.
  *   Always pass the length that the store was made fresh with. A shorter one is mostly refused
- *   (MF_NOT_A_STORE), but may be accepted where only free room or whole fonts are cut off. A call
- *   that then writes to the store can corrupt the longer one.
+ *   (MF_NOT_A_STORE), but where only free room or whole fonts are cut off it may be accepted, as a
+ *   store that lacks that room or those fonts. A call that then writes to it can corrupt the
+ *   longer one.
  *
  * What comes back
  *   A refusal number, MF_DONE (0) if there is none. After a refusal every other number of the

@@ -70,7 +70,7 @@ module _ (w h : ℕ) where
   agrees (b ∷ xs) n row (in_row r ds true) l = run xs (agrees xs) n row r b ds true l (fill_row w (length ds) b) refl
   agrees (b ∷ xs) n row (in_row r ds false) l = run xs (agrees xs) n row r b ds false l (fill_row w (length ds) b) refl
 
-  complete_rows : (d : List ℕ) → 0 < h → is_complete (scan_from w h 0 start d) ≡ leb h (rows_drawn w d)
+  pub complete_rows : (d : List ℕ) → 0 < h → is_complete (scan_from w h 0 start d) ≡ leb h (rows_drawn w d)
   complete_rows d l = agrees d 0 0 at_count l ∙ rw zero-add
 
   -- the rows of complete data
