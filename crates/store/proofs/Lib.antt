@@ -9,6 +9,7 @@ pub mod Downloads
 pub mod Host
 pub mod FirstBlocks
 pub mod Continuations
+pub mod Numbers
 pub mod Receives
 pub mod Drawings
 pub mod Again

@@ -1,5 +1,5 @@
 -- Document 01, "The character block": what a download answers and leaves.
-use Rattle.std.specs.Prelude.{ℕ, zero, suc, List, [], ◌∷◌, ◌++◌, Bool, cond, eqb, leb, length, drop}
+use Rattle.std.specs.Prelude.{◌≡◌, ℕ, zero, suc, List, [], ◌∷◌, ◌++◌, Bool, cond, eqb, leb, length, drop}
 use Rattle.blocks.specs.Header.{orientation}
 use Rattle.blocks.specs.Character.{descriptor_bytes, continuation_bytes, class, width, height, character_length, kind_of, read_first, kept_first}
 use Rattle.pictures.specs.Size.{data_limit}
@@ -43,15 +43,10 @@ judged_number (Complete n) = 0
 judged_number Incomplete = 0
 judged_number (PastWidth row f b) = 8
 
--- what a case with the number k comes to: a where that is 0, else the refusal
-abbrev pub numbered_by : {A : Type 0} → (ℕ → A) → ℕ → A → A
-numbered_by refuse zero a = a
-numbered_by refuse (suc k) a = refuse (suc k)
-
 -- "byte 0 is 4, else 4": by its kind it comes to `first` or to `more`, and these, with a descriptor and data, to what holds for both
 abbrev pub by_kind : {A : Type 0} → (ℕ → A) → Kind → ((List ℕ → List ℕ → A) → A) → ((List ℕ → List ℕ → A) → A) → (List ℕ → List ℕ → A) → A
-by_kind refuse First first more both = numbered_by refuse (kind_number First) (first both)
-by_kind refuse Continuation first more both = numbered_by refuse (kind_number Continuation) (more both)
+by_kind refuse First first more both = first both
+by_kind refuse Continuation first more both = more both
 by_kind refuse Unknown first more both = refuse (kind_number Unknown)
 
 -- the open mark names this character
@@ -65,8 +60,8 @@ refuse_run s row filled run = record { answer = judged_number (PastWidth row fil
 
 -- data with no such run comes to a
 abbrev pub within_width : List ℕ → Judged → After → After
-within_width s (Complete k) a = numbered_by (refuse s) (judged_number (Complete k)) a
-within_width s Incomplete a = numbered_by (refuse s) (judged_number Incomplete) a
+within_width s (Complete k) a = a
+within_width s Incomplete a = a
 within_width s (PastWidth row filled run) a = refuse_run s row filled run
 
 -- what is judged, and what is kept, of the data d of a character with the descriptor h
@@ -102,3 +97,18 @@ downloading_character n c b s =
     -- 10 if the records would not fit, the replaced character's room counted as free."
     (checked (without_font n st) (leb (used (put_character n c h (kept_of_data h d) st)) st.size) 10
     (done (put_character n c h (kept_of_data h d) st)))))))))
+
+-- ── laws of them: in every case the number decides
+
+-- what a case with the number k comes to: a where that is 0, else the refusal
+abbrev pub numbered_by : {A : Type 0} → (ℕ → A) → ℕ → A → A
+numbered_by refuse zero a = a
+numbered_by refuse (suc k) a = refuse (suc k)
+
+abbrev pub KindsNumbered : Type 0
+KindsNumbered =
+    (refused : ℕ → After) (k : Kind) (first more : (List ℕ → List ℕ → After) → After) (both : List ℕ → List ℕ → After)
+    → by_kind refused k first more both ≡ numbered_by refused (kind_number k) (by_kind refused k first more both)
+
+abbrev pub JudgedNumbered : Type 0
+JudgedNumbered = (s : List ℕ) (j : Judged) (a : After) → (within_width s j a).answer ≡ numbered_by (λ k. k) (judged_number j) a.answer
