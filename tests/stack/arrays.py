@@ -61,9 +61,9 @@ def parts(text, separator):
 
 
 def without_constants(text):
-    """The source without its constant items, and these as {name: (type, value)}."""
+    """The source without its constant and static items, and these as {name: (type, value)}."""
     constants, kept, start = {}, "", 0
-    for match in re.finditer(r"\bconst (\w+): ", text):
+    for match in re.finditer(r"\b(?:const|static) (\w+): ", text):
         if match.start() < start:
             continue
         item = parts(text[match.end():], ";")[0]
@@ -166,8 +166,9 @@ class Sources:
             return SIZES[number[1]] if number[1] else WIDEST
         if text in ("true", "false"):
             return 1
-        if text in self.constants:
-            return self.size(self.constants[text][0])
+        last = text.split("::")[-1]
+        if last in self.constants and (last == text or last not in self.double):
+            return self.size(self.constants[last][0])
         raise Unread(f"the size of {text}")
 
     def table(self, value):
@@ -190,6 +191,9 @@ class Sources:
                 continue  # a slice, or an array that is lent
             if not is_type and re.search(r"\blet (mut )?\w+\s*:\s*\[[^=]*\]\s*=$", before):
                 continue  # the value of an array whose type was counted
+            if re.search(r"\bfrom_[bln]e_bytes\($", before) and ";" not in array:
+                yield array, len([part for part in parts(array[1:-1], ",") if part])
+                continue  # the library's function takes bytes
             value = re.match(r"\s*=\s*([\w:]+)\s*;", text[end + 1:])
             if is_type and value and self.table(value[1]) and not re.search(r"\bmut \w+\s*:$", before):
                 continue  # a constant table by another name

@@ -2,15 +2,17 @@
 use Prim.Native.Nat.{ℕ, zero, suc, ◌+◌, ◌*◌, ◌-◌, ◌%◌, ◌^◌, ◌<◌, ◌≤◌}
 use mathlib.Core.Path.{◌≡◌, refl, sym, ap, ◌∙◌}
 use mathlib.Core.List.{List, [], ◌∷◌, ◌++◌}
-use native.Mathlib.Nat.{zero-add, add-zero, zero-mul, add_comm, mul_comm, add-mul, zero-mod, mod-one, lt_of_le_of_lt}
+use native.Mathlib.Nat.{zero-add, add-zero, zero-mul, add_comm, mul_comm, add-mul, zero-mod, mod-one, lt_of_le_of_lt, mul-le-mul_left, mul-le-mul_right}
 use mathlib.Core.Bool.{Bool, true, false}
 use lib.Dec.{leb}
 use borrow.Author.Tests.{leb-true, leb-false}
-use lib.Bits.{bit_and, and_mask, and_le_l, and_lt, and_block}
+use lib.Bits.{bit_and, and_mask, and_le_r, and_lt, and_block}
 use native.Mathlib.Numerals.{add-one}
 use native.Mathlib.Omega.{arith}
-use lib.ListN.{length, take, drop, get_or, replicate, drop_of_length-le}
-use lib.Seq.{drop-cons, drop-drop, take-nil}
+use lib.ListN.{length, take, drop, get_or, replicate, drop_of_length-le, length-drop}
+use lib.Seq.{drop-cons, drop-drop, take-nil, take_all, get_or-drop, get_or-take}
+use Rattle.std.proofs.Common.{w64}
+use Rattle.std.specs.Int.{from_le_bytes}
 use lib.Count.{ones, ones_cat, ones-le}
 use Rattle.blackdots.specs.Black.{ones_of}
 use Rattle.blackdots.specs.Counting.{overhang, ones_apart, ones_of_two, ones_said}
@@ -67,35 +69,46 @@ pub ones_joined : (m k x y at : ℕ) (b : List ℕ) → ones x ≡ ones_of (take
     → ones (x + 2 ^ m * y) ≡ ones_of (take (k + k) (drop at b))
 ones_joined m k x y at b ex ey l = omega (arith, ones_sum m x y l, ex, ey, ones_split k k at b)
 
--- the same of all bytes that are left
-pub ones_rest : (m k x y at : ℕ) (b : List ℕ) → ones x ≡ ones_of (take k (drop at b)) → ones y ≡ ones_of (drop (at + k) b) → x < 2 ^ m
-    → ones (x + 2 ^ m * y) ≡ ones_of (drop at b)
-ones_rest m k x y at b ex ey l = omega (arith, ones_sum m x y l, ex, ey, ones_back at k (at + k) b refl)
-
 -- a byte's own
 pub ones_byte : (i : ℕ) (b : List ℕ) → i < length b → ones_of (take 1 (drop i b)) ≡ ones (get_or b i 0)
 unfolding ones_of
 ones_byte i b l = ap (λ (z : List ℕ). ones_of (take 1 z)) (drop-cons b i 0 l) ∙ omega arith
-
--- k more bytes counted, by a number x that has their ones; m are the ones of all
-pub ones_next : (k n m i x : ℕ) (b : List ℕ) → n + ones_of (drop i b) ≡ m → ones x ≡ ones_of (take k (drop i b)) → n + ones x + ones_of (drop (i + k) b) ≡ m
-ones_next k n m i x b e p =
-    let r : ones_of (drop k (drop i b)) ≡ ones_of (drop (i + k) b) = ap ones_of (drop-drop k i b) in
-    omega (arith, e, p, r, ones_parts k (drop i b))
 
 -- none left, and the last one
 pub ones_past : (i : ℕ) (b : List ℕ) → length b ≤ i → ones_of (drop i b) ≡ 0
 unfolding ones_of
 ones_past i b l = ap ones_of (drop_of_length-le b {i = i} l)
 
-pub ones_last : (i : ℕ) (b : List ℕ) → i < length b → length b ≤ i + 1 → ones_of (drop i b) ≡ ones (get_or b i 0)
-ones_last i b h l = omega (arith, ones_back i 1 (i + 1) b refl, ones_byte i b h, ones_past (i + 1) b l)
+-- ── eight bytes as one number, the first the lowest
+module _ (b : List ℕ) (bytes : (i : ℕ) → get_or b i 0 < 256) where
+  abbrev two_from : ℕ → ℕ
+  two_from at = get_or b at 0 + 2 ^ 8 * get_or b (at + 1) 0
+
+  abbrev four_from : ℕ → ℕ
+  four_from at = two_from at + 2 ^ 16 * two_from (at + 2)
+
+  two_lt : (at : ℕ) → two_from at < 2 ^ 16
+  two_lt at = omega (arith, bytes at, bytes (at + 1))
+
+  two_ones : (at : ℕ) → at + 2 ≤ length b → ones (two_from at) ≡ ones_of (take 2 (drop at b))
+  two_ones at l = ones_joined 8 1 (get_or b at 0) (get_or b (at + 1) 0) at b (sym (ones_byte at b (omega arith))) (sym (ones_byte (at + 1) b (omega arith))) (bytes at)
+
+  four_ones : (at : ℕ) → at + 4 ≤ length b → ones (four_from at) ≡ ones_of (take 4 (drop at b))
+  four_ones at l = ones_joined 16 2 (two_from at) (two_from (at + 2)) at b (two_ones at (omega arith)) (two_ones (at + 2) (omega arith)) (two_lt at)
+
+  eight_ones : 8 ≤ length b → ones (four_from 0 + 2 ^ 32 * four_from 4) ≡ ones_of (take 8 (drop 0 b))
+  eight_ones l = ones_joined 32 4 (four_from 0) (four_from 4) 0 b (four_ones 0 (omega arith)) (four_ones 4 (omega arith)) (omega (arith, two_lt 0, two_lt 2))
+
+  pub word_ones : (x : ℕ) → length b ≡ 8 → x ≡ from_le_bytes w64 b → ones x ≡ ones_of b
+  word_ones x l e =
+      let v : x ≡ four_from 0 + 2 ^ 32 * four_from 4 = omega (arith, e) in
+      ap ones v ∙ eight_ones (omega arith) ∙ ap ones_of (take_all 8 b (omega arith))
 
 -- before the first block
 pub said_none : (b : List ℕ)
-    → ones_said (record { eights = record { first = 0; second = 0 }; ones = record { first = 0; second = 0 }; twos = record { first = 0; second = 0 }; fours = record { first = 0; second = 0 } }) ≡ ones_of (drop (length b) b)
+    → ones_said (record { eights = record { first = 0; second = 0 }; ones = record { first = 0; second = 0 }; twos = record { first = 0; second = 0 }; fours = record { first = 0; second = 0 } }) + ones_of b ≡ ones_of b
 unfolding ones_said ones_of_two ones
-said_none b = sym (ones_past (length b) b (omega arith))
+said_none b = omega arith
 
 -- ── the last bytes of rows
 past : (b : List ℕ) (i : ℕ) → length b ≤ i → get_or b i 0 ≡ 0
@@ -139,16 +152,17 @@ unfolding overhang
 overhang_next n pad mask k at t b e p q =
     rw (add-one, e, and_mask (get_or b at 0) pad, p, q)
 
--- the row after j more
-pub overhang_more : (n pad mask k from at t j : ℕ) (b : List ℕ) → mask ≡ 2 ^ pad - 1 → from ≡ t * n + (n - 1) → at ≡ from + j * n → overhang n pad b t + k ≡ overhang n pad b (t + j)
-    → overhang n pad b t + (k + ones (bit_and (get_or b at 0) mask)) ≡ overhang n pad b (t + (j + 1))
-overhang_more n pad mask k from at t j b e p q r =
-    let z : t + (j + 1) ≡ t + j + 1 = omega arith in
-    let s = overhang_next n pad mask (overhang n pad b (t + j)) at (t + j) b e (omega (arith, p, q, add-mul t j n)) refl in
-    rw z (omega (arith, r, s))
+-- rows after the first t are rows of what is left
+pub overhang_after : (n pad : ℕ) (b : List ℕ) (t h : ℕ) → overhang n pad b (t + h) ≡ overhang n pad b t + overhang n pad (drop (t * n) b) h
+unfolding overhang
+overhang_after n pad b t zero = rw add-zero (omega arith)
+overhang_after n pad b t (suc h) =
+    let e : t + suc h ≡ suc (t + h) = omega arith in
+    let p : (t + h) * n + (n - 1) ≡ t * n + (h * n + (n - 1)) = omega (arith, add-mul t h n) in
+    rw (e, p) (omega (arith, overhang_after n pad b t h, ap (λ (x : ℕ). ones (x % 2 ^ pad)) (get_or-drop (t * n) b (h * n + (n - 1)) 0)))
 
-pub ones_masked : (x mask : ℕ) → x < 256 → ones (bit_and x mask) ≤ 8
-ones_masked x mask l = ones-le 8 (bit_and x mask) (lt_of_le_of_lt (and_le_l x mask) l)
+pub ones_masked : (x mask : ℕ) → mask < 256 → ones (bit_and x mask) ≤ 8
+ones_masked x mask l = ones-le 8 (bit_and x mask) (lt_of_le_of_lt (and_le_r x mask) l)
 
 -- where no bits lie beyond the width
 pub overhang_zero : (n : ℕ) (b : List ℕ) (t : ℕ) → overhang n 0 b t ≡ 0
@@ -187,3 +201,108 @@ apart_overhang n pad mask at t (suc k) b e p =
     let q : at + k * n ≡ (t + k) * n + (n - 1) = omega (arith, p, add-mul t k n) in
     let i = apart_overhang n pad mask at t k b e p in
     rw z (omega (arith, i, overhang_next n pad mask (overhang n pad b (t + k)) (at + k * n) (t + k) b e q refl))
+
+-- eight bytes n apart as one number, and the mask for each of them
+module _ (n mask : ℕ) (b : List ℕ) (bytes : (i : ℕ) → get_or b i 0 < 256) (small : mask < 256) where
+  abbrev two_apart : ℕ → ℕ
+  two_apart at = get_or b at 0 + 2 ^ 8 * get_or b (at + 1 * n) 0
+
+  abbrev four_apart : ℕ → ℕ
+  four_apart at = two_apart at + 2 ^ 16 * two_apart (at + 2 * n)
+
+  apart_lt : (at : ℕ) → two_apart at < 2 ^ 16
+  apart_lt at = omega (arith, bytes at, bytes (at + 1 * n))
+
+  two_masked : (at : ℕ) → ones (bit_and (two_apart at) (257 * mask)) ≡ ones_apart n mask b at 2
+  two_masked at =
+      let e : 257 * mask ≡ mask * 256 + mask = omega arith in
+      rw e (masked_joined 8 1 n mask mask (get_or b at 0) (get_or b (at + 1 * n) 0) at b (bytes at) small (apart_one n mask at b) (apart_one n mask (at + 1 * n) b))
+
+  four_masked : (at : ℕ) → ones (bit_and (four_apart at) (16843009 * mask)) ≡ ones_apart n mask b at 4
+  four_masked at =
+      let e : 16843009 * mask ≡ 257 * mask * 65536 + 257 * mask = omega arith in
+      rw e (masked_joined 16 2 n mask (257 * mask) (two_apart at) (two_apart (at + 2 * n)) at b (apart_lt at) (omega arith) (two_masked at) (two_masked (at + 2 * n)))
+
+  eight_masked_from : (at x : ℕ) → x ≡ four_apart at + 2 ^ 32 * four_apart (at + 4 * n) → ones (bit_and x (72340172838076673 * mask)) ≡ ones_apart n mask b at 8
+  eight_masked_from at x v =
+      let e : 72340172838076673 * mask ≡ 16843009 * mask * 4294967296 + 16843009 * mask = omega arith in
+      rw (v, e) (masked_joined 32 4 n mask (16843009 * mask) (four_apart at) (four_apart (at + 4 * n)) at b (omega (arith, apart_lt at, apart_lt (at + 2 * n))) (omega arith) (four_masked at) (four_masked (at + 4 * n)))
+
+  pub eight_masked_lem : (x : ℕ) → 0 < n
+      → x ≡ from_le_bytes w64 (get_or b (n - 1) 0 ∷ get_or b (2 * n - 1) 0 ∷ get_or b (3 * n - 1) 0 ∷ get_or b (4 * n - 1) 0 ∷ get_or b (5 * n - 1) 0 ∷ get_or b (6 * n - 1) 0 ∷ get_or b (7 * n - 1) 0 ∷ get_or b (8 * n - 1) 0 ∷ [])
+      → ones (bit_and x (72340172838076673 * mask)) ≡ ones_apart n mask b (n - 1) 8
+  eight_masked_lem x l e =
+      let at : ℕ = n - 1 in
+      eight_masked_from at x
+      (omega (
+        arith,
+        e,
+        same (2 * n - 1) (at + 1 * n) (omega arith),
+        same (3 * n - 1) (at + 2 * n) (omega arith),
+        same (4 * n - 1) (at + 2 * n + 1 * n) (omega arith),
+        same (5 * n - 1) (at + 4 * n) (omega arith),
+        same (6 * n - 1) (at + 4 * n + 1 * n) (omega arith),
+        same (7 * n - 1) (at + 4 * n + 2 * n) (omega arith),
+        same (8 * n - 1) (at + 4 * n + 2 * n + 1 * n) (omega arith),
+      ))
+    where
+      same : (i j : ℕ) → i ≡ j → get_or b i 0 ≡ get_or b j 0
+      same i j e = ap (λ (k : ℕ). get_or b k 0) e
+
+-- ── the loops over rows
+-- what a loop over rows keeps: the first t of them are counted, and `rest` is left
+pub record RowsCounted (n mask : ℕ) (rows rest : List ℕ) (k : ℕ) : Type 0 where
+  pub t : ℕ
+  pub left : rest ≡ drop (t * n) rows
+  pub most : k ≤ 8 * t
+  pub few : t + length rest ≤ length rows
+  pub counted : (pad : ℕ) → mask ≡ 2 ^ pad - 1 → k ≡ overhang n pad rows t
+
+module _ (n mask : ℕ) (rows : List ℕ) (pos : 0 < n) where
+  pub rows_start : RowsCounted n mask rows rows 0
+  rows_start = record { t = 0; left = ap (λ (i : ℕ). drop i rows) (sym (zero-mul n)); most = omega arith; few = omega arith; counted = λ pad e. overhang_start n pad rows }
+
+  -- j rows more, whose last bytes have so many ones
+  pub rows_more : (rest after : List ℕ) (k more j : ℕ) → (c : RowsCounted n mask rows rest k) → 0 < j → j * n ≤ length rest → after ≡ drop (j * n) rest → more ≤ 8 * j
+      → more ≡ ones_apart n mask rows (c.t * n + (n - 1)) j → RowsCounted n mask rows after (k + more)
+  rows_more rest after k more j c p l e m a = record {
+    t = c.t + j;
+    left = e ∙ ap (drop (j * n)) c.left ∙ drop-drop (j * n) (c.t * n) rows ∙ ap (λ (i : ℕ). drop i rows) (sym (add-mul c.t j n));
+    most = omega (arith, c.most);
+    few = omega (arith, c.few, ap length e, length-drop (j * n) rest, le-mul j);
+    counted = λ pad f. omega (arith, c.counted pad f, a, apart_overhang n pad mask (c.t * n + (n - 1)) c.t j rows f refl);
+  }
+    where
+      le-mul : (j : ℕ) → j ≤ j * n
+      le-mul j = omega (arith, mul-le-mul_left j pos)
+
+  pub rows_end : (rest : List ℕ) (k : ℕ) → RowsCounted n mask rows rest k → length rest < n → (h pad : ℕ) → mask ≡ 2 ^ pad - 1 → length rows ≤ h * n → k ≡ overhang n pad rows h
+  rows_end rest k c l h pad e m = c.counted pad e ∙ overhang_rest n pad rows c.t h (omega (arith, ap length c.left, length-drop (c.t * n) rows)) m
+
+  pub rows_joined : (rest : List ℕ) (k more : ℕ) → RowsCounted n mask rows rest k
+      → ((h pad : ℕ) → mask ≡ 2 ^ pad - 1 → length rest ≤ h * n → more ≡ overhang n pad rest h)
+      → (h pad : ℕ) → mask ≡ 2 ^ pad - 1 → length rows ≤ h * n → k + more ≡ overhang n pad rows h
+  rows_joined rest k more c a h pad e m =
+      let left : length rest ≤ h * n = omega (arith, c.few) in
+      let both : overhang n pad rows (c.t + h) ≡ overhang n pad rows c.t + overhang n pad rest h = overhang_after n pad rows c.t h ∙ ap (λ (b : List ℕ). overhang n pad rows c.t + overhang n pad b h) (sym c.left) in
+      omega (arith, c.counted pad e, a h pad e left, both, overhang_rest n pad rows (c.t + h) h (omega (arith, add-mul c.t h n)) m)
+
+  -- the last byte of the next row, and those of the next rows in a part of the data
+  pub rows_last : (rest : List ℕ) (k x : ℕ) (c : RowsCounted n mask rows rest k) → n ≤ length rest → x ≡ ones (bit_and (get_or (take n rest) (n - 1) 0) mask)
+      → x ≡ ones_apart n mask rows (c.t * n + (n - 1)) 1
+  rows_last rest k x c l e =
+      e ∙ ap (λ (b : ℕ). ones (bit_and b mask)) (get_or-take n rest (n - 1) 0 (omega arith) ∙ ap (λ (b : List ℕ). get_or b (n - 1) 0) c.left ∙ get_or-drop (c.t * n) rows (n - 1) 0)
+      ∙ apart_one n mask (c.t * n + (n - 1)) rows
+
+  pub rows_part : (rest : List ℕ) (k x m j : ℕ) (c : RowsCounted n mask rows rest k) → m ≡ j * n → x ≡ ones_apart n mask (take m rest) (n - 1) j → x ≡ ones_apart n mask rows (c.t * n + (n - 1)) j
+  unfolding ones_apart
+  rows_part rest k x m j c e f = f ∙ part j (omega arith)
+    where
+      part : (i : ℕ) → i ≤ j → ones_apart n mask (take m rest) (n - 1) i ≡ ones_apart n mask rows (c.t * n + (n - 1)) i
+      part zero l = refl
+      part (suc i) l =
+          let more : i * n + n ≤ m = omega (arith, mul-le-mul_right n l) in
+          let p : c.t * n + (n - 1 + i * n) ≡ c.t * n + (n - 1) + i * n = omega arith in
+          let byte : get_or (take m rest) (n - 1 + i * n) 0 ≡ get_or rows (c.t * n + (n - 1) + i * n) 0 =
+          get_or-take m rest (n - 1 + i * n) 0 (omega arith) ∙ ap (λ (b : List ℕ). get_or b (n - 1 + i * n) 0) c.left ∙ get_or-drop (c.t * n) rows (n - 1 + i * n) 0 ∙ ap (λ (z : ℕ). get_or rows z 0) p in
+          omega (arith, part i (omega arith), ap (λ (b : ℕ). ones (bit_and b mask)) byte)

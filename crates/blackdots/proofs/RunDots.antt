@@ -1,27 +1,28 @@
 -- Black dots by the runs of rows. Assumes nothing.
 use Prim.Native.Nat.{ℕ, zero, suc, ◌+◌, ◌*◌, ◌-◌, ◌<◌, ◌≤◌, min}
-use mathlib.Core.Path.{◌≡◌, refl, sym, ap, ap₂, ◌∙◌, subst}
+use mathlib.Core.Path.{◌≡◌, refl, sym, ap, ◌∙◌}
 use mathlib.Core.List.{List, [], ◌∷◌, ◌++◌}
 use mathlib.Core.Bool.{Bool, true, false, not, cond}
 use native.Mathlib.Nat.{add-zero, zero-add, zero-mul, suc-mul, add-mul, mul-le-mul_left, mul-le-mul_right, le_trans}
 use native.Mathlib.Omega.{arith}
 use borrow.Author.Tests.{eqb-true, eqb-false}
 use lib.Dec.{eqb, ltb}
-use lib.ListN.{length, drop, get_or, replicate, length-append, length-replicate}
+use lib.ListN.{length, drop, take, get_or, replicate, length-append, length-replicate, length-drop}
+use lib.Seq.{drop-drop, get_or-drop}
 use Rattle.pictures.specs.Size.{row_size}
 use Rattle.pictures.specs.Dots.{pack, unpack}
-use Rattle.pictures.specs.Passing.{pair_at, four_at}
 use Rattle.pictures.specs.Runs.{fill_row, on_fill}
 use Rattle.pictures.specs.Rows.{row_dots, row_bytes, runs_row, picture}
 use Rattle.pictures.specs.Drawing.{Read, no_row, whole, read_line, line_from, line_of, dots_of}
-use Rattle.pictures.specs.declared.compressed.Line.TheVariants.{Ends as LineEnds}
+use Rattle.std.specs.Prelude.{MatchOption}
+use Rattle.std.specs.Bool.{then_some}
 use Rattle.pictures.specs.declared.runs.Filled.{Filled}
 use Rattle.pictures.specs.declared.runs.Filled.TheVariants.{Over, Whole, Part}
-use Rattle.pictures.proofs.Lines.{line_end, line_over, line_whole, line_part, line_within, rows_past, rows_here, rows_below, rows_none}
+use Rattle.pictures.proofs.Lines.{line_end, line_over, line_whole, line_part, rows_past, first_here, first_below, first_none}
 use Rattle.pictures.proofs.Pictures.{picture_runs}
 use Rattle.blackdots.specs.Black.{black_in, black_dots}
-use Rattle.blackdots.specs.Counting.{ends_at, black_line_of, dark_four, Counting}
-use Rattle.blackdots.specs.declared.compressed.BlackLine.TheVariants.{Ends, Unfinished}
+use Rattle.blackdots.specs.Counting.{white_eight, black_eight, CountedTo, WholeLine}
+use Rattle.blackdots.specs.declared.compressed.BlackLine.{BlackLine}
 use Rattle.blackdots.proofs.BitmapDots.{black_append, unpack_append, black_most, black_packed}
 
 -- ── runs
@@ -59,99 +60,125 @@ line_long w (b ∷ xs) ds es c n k e =
     (λ q. line_long w xs (ds ++ replicate b c) es (not c) (n + 1) k q)
 
 -- ── the loop over the runs of a row
-pub counting_starts : (w : ℕ) (src : List ℕ) (from : ℕ) → Counting w src from from w 0
+pub counting_starts : (w : ℕ) (src : List ℕ) → CountedTo w src src w 0
 unfolding line_from black_in
-counting_starts w src from = record { dots = []; long = omega arith; dark = refl; less = omega arith; line = refl }
+counting_starts w src = record { at = 0; dots = []; long = omega arith; dark = refl; less = omega arith; line = refl; is = refl }
 
-module _ (w : ℕ) (src : List ℕ) (from at left black : ℕ) (k : Counting w src from at left black) where
-  pub counting_ends : length src ≤ at → Unfinished ≡ black_line_of (line_from w src from)
-  counting_ends l = ap black_line_of (sym (line_end w k.dots false at src l) ∙ k.line)
+-- a run that is left, and the runs after it
+front : (src rest xs : List ℕ) (at a : ℕ) → rest ≡ drop at src → rest ≡ a ∷ xs → (at < length src) × (a ≡ get_or src at 0) × (xs ≡ drop (at + 1) src)
+front src rest xs at a e f =
+    let g : drop at src ≡ a ∷ xs = sym e ∙ f in (
+      omega (arith, ap length g, length-drop at src),
+      ap (λ (d : List ℕ). get_or d 0 0) (sym g) ∙ get_or-drop at src 0 0 ∙ rw add-zero,
+      ap (drop 1) (sym g) ∙ drop-drop 1 at src,
+    )
 
-  module _ (h : at < length src) (a : ℕ) (e : a ≡ get_or src at 0) where
+-- the run after it is a byte
+pub next_fits : (src rest xs ys : List ℕ) (at a b : ℕ) → ((i : ℕ) → get_or src i 0 < 256) → rest ≡ drop at src → rest ≡ a ∷ xs → xs ≡ b ∷ ys → b < 256
+next_fits src rest xs ys at a b fit e f g = let h = front src xs ys (at + 1) b (front src rest xs at a e f).2 g in rw h.1 (fit (at + 1))
+
+-- what a run that ends its row, or passes it, comes to
+ended : (P : BlackLine → Type 0) (Q : Type 0) (t : Bool) (l : BlackLine) → (t ≡ true → P l) → (t ≡ false → Q) → MatchOption (then_some t l) Q P
+ended P Q true l f g = f refl
+ended P Q false l f g = g refl
+
+module _ (w : ℕ) (src rest : List ℕ) (left black : ℕ) (k : CountedTo w src rest left black) where
+  here : read_line w k.dots false k.at (drop k.at src) ≡ line_from w src 0
+  here = ap (read_line w k.dots false k.at) (sym k.is) ∙ k.line
+
+  pub counting_ends : length rest ≡ 0 → line_from w src 0 ≡ no_row
+  counting_ends l = sym here ∙ line_end w k.dots false k.at src (omega (arith, ap length k.is, length-drop k.at src))
+
+  module _ (a : ℕ) (xs : List ℕ) (q : rest ≡ a ∷ xs) where
+    inside : (k.at < length src) × (a ≡ get_or src k.at 0) × (xs ≡ drop (k.at + 1) src)
+    inside = front src rest xs k.at a k.is q
+
     abbrev after_white : List Bool
-    after_white = k.dots ++ replicate (get_or src at 0) false
+    after_white = k.dots ++ replicate (get_or src k.at 0) false
 
     white_long : length after_white ≡ length k.dots + a
-    white_long = simp (length-append, length-replicate) (omega (arith, e))
+    white_long = simp (length-append, length-replicate) (omega (arith, inside.1))
 
     white_dark : black_in after_white ≡ black
-    white_dark = omega (arith, black_append k.dots (replicate (get_or src at 0) false), black_white (get_or src at 0), k.dark)
+    white_dark = omega (arith, black_append k.dots (replicate (get_or src k.at 0) false), black_white (get_or src k.at 0), k.dark)
 
     -- the white run ends the row, or passes it
-    pub white_last : left ≤ a → ends_at (eqb left a) (at + 1) black ≡ black_line_of (line_from w src from)
-    white_last g = go (eqb left a) refl
-      where
-        go : (t : Bool) → eqb left a ≡ t → ends_at t (at + 1) black ≡ black_line_of (line_from w src from)
-        go true p =
-            let q : read_line w k.dots false at (drop at src) ≡ whole after_white (at + 1) = line_whole w k.dots false at src h (length k.dots) refl (omega (arith, e, k.long, eqb-true left a p)) in
-            ap (λ (x : ℕ). Ends (at + 1) x) (sym white_dark) ∙ ap black_line_of (sym q ∙ k.line)
-        go false p = ap black_line_of (sym (line_over w k.dots false at src h (length k.dots) refl (omega (arith, e, g, k.long, eqb-false left a p))) ∙ k.line)
+    pub white_last : left ≤ a → (l : BlackLine) → l.rest.now ≡ xs → l.black ≡ black
+        → MatchOption (then_some (eqb left a) l) (line_from w src 0 ≡ no_row) (λ l. WholeLine w src l.rest.now l.black)
+    white_last g l r b = ended (λ l. WholeLine w src l.rest.now l.black) (line_from w src 0 ≡ no_row) (eqb left a) l
+        (λ p. record {
+          dots = after_white;
+          next = k.at + 1;
+          is = sym here ∙ line_whole w k.dots false k.at src inside.0 (length k.dots) refl (omega (arith, inside.1, k.long, eqb-true left a p));
+          dark = white_dark ∙ sym b;
+          left = r ∙ inside.2;
+        })
+        (λ p. sym here ∙ line_over w k.dots false k.at src inside.0 (length k.dots) refl (omega (arith, inside.1, g, k.long, eqb-false left a p)))
 
     module _ (g : a < left) where
-      white_line : read_line w after_white true (at + 1) (drop (at + 1) src) ≡ line_from w src from
-      white_line = sym (line_part w k.dots false at src h (length k.dots) refl (omega (arith, e, g, k.long))) ∙ k.line
+      white_line : read_line w after_white true (k.at + 1) (drop (k.at + 1) src) ≡ line_from w src 0
+      white_line = sym (line_part w k.dots false k.at src inside.0 (length k.dots) refl (omega (arith, inside.1, g, k.long))) ∙ here
 
-      pub white_unfinished : length src - at < 2 → Unfinished ≡ black_line_of (line_from w src from)
-      white_unfinished l = ap black_line_of (sym (line_end w after_white true (at + 1) src (omega arith)) ∙ white_line)
+      pub white_unfinished : length xs ≡ 0 → line_from w src 0 ≡ no_row
+      white_unfinished l = sym white_line ∙ line_end w after_white true (k.at + 1) src (omega (arith, ap length inside.2, length-drop (k.at + 1) src))
 
-      module _ (m : at + 1 < length src) (b : ℕ) (f : b ≡ get_or src (at + 1) 0) where
+      module _ (b : ℕ) (ys : List ℕ) (f : xs ≡ b ∷ ys) where
+        below : (k.at + 1 < length src) × (b ≡ get_or src (k.at + 1) 0) × (ys ≡ drop (k.at + 1 + 1) src)
+        below = front src xs ys (k.at + 1) b inside.2 f
+
         abbrev after_black : List Bool
-        after_black = after_white ++ replicate (get_or src (at + 1) 0) true
+        after_black = after_white ++ replicate (get_or src (k.at + 1) 0) true
 
         black_long : length after_black ≡ length k.dots + a + b
-        black_long = simp (length-append, length-replicate) (omega (arith, e, f))
+        black_long = simp (length-append, length-replicate) (omega (arith, inside.1, below.1))
 
         black_dark : black_in after_black ≡ black + b
-        black_dark = omega (arith, black_append after_white (replicate (get_or src (at + 1) 0) true), black_black (get_or src (at + 1) 0), white_dark, f)
+        black_dark = omega (arith, black_append after_white (replicate (get_or src (k.at + 1) 0) true), black_black (get_or src (k.at + 1) 0), white_dark, below.1)
 
-        pub black_last : left - a ≤ b → ends_at (eqb (left - a) b) (at + 2) (black + b) ≡ black_line_of (line_from w src from)
-        black_last g2 = go (eqb (left - a) b) refl
-          where
-            go : (t : Bool) → eqb (left - a) b ≡ t → ends_at t (at + 2) (black + b) ≡ black_line_of (line_from w src from)
-            go true p =
-                let q : read_line w after_white true (at + 1) (drop (at + 1) src) ≡ whole after_black (at + 1 + 1) = line_whole w after_white true (at + 1) src m (length k.dots + a) white_long (omega (arith, f, g, k.long, eqb-true (left - a) b p)) in
-                let z : at + 2 ≡ at + 1 + 1 = omega arith in
-                ap₂ (λ (y x : ℕ). Ends y x) z (sym black_dark) ∙ ap black_line_of (sym q ∙ white_line)
-            go false p =
-                ap black_line_of
-                (sym (line_over w after_white true (at + 1) src m (length k.dots + a) white_long (omega (arith, f, g, g2, k.long, eqb-false (left - a) b p))) ∙ white_line)
+        pub black_last : left - a ≤ b → (l : BlackLine) → l.rest.now ≡ ys → l.black ≡ black + b
+            → MatchOption (then_some (eqb (left - a) b) l) (line_from w src 0 ≡ no_row) (λ l. WholeLine w src l.rest.now l.black)
+        black_last h l r d = ended (λ l. WholeLine w src l.rest.now l.black) (line_from w src 0 ≡ no_row) (eqb (left - a) b) l
+            (λ p. record {
+              dots = after_black;
+              next = k.at + 1 + 1;
+              is = sym white_line ∙ line_whole w after_white true (k.at + 1) src below.0 (length k.dots + a) white_long (omega (arith, below.1, g, k.long, eqb-true (left - a) b p));
+              dark = black_dark ∙ sym d;
+              left = r ∙ below.2;
+            })
+            (λ p. sym white_line ∙ line_over w after_white true (k.at + 1) src below.0 (length k.dots + a) white_long (omega (arith, below.1, g, h, k.long, eqb-false (left - a) b p)))
 
-        pub black_next : b < left - a → Counting w src from (at + 2) (left - a - b) (black + b)
-        black_next g2 =
-            let z : at + 1 + 1 ≡ at + 2 = omega arith in
-            let q : read_line w after_black false (at + 1 + 1) (drop (at + 1 + 1) src) ≡ line_from w src from = sym (line_part w after_white true (at + 1) src m (length k.dots + a) white_long (omega (arith, f, g2, k.long))) ∙ white_line in
-            record { dots = after_black; long = omega (arith, black_long, g2, k.long); dark = black_dark; less = omega (arith, g2, k.less); line = rw z at q }
+        pub black_next : b < left - a → CountedTo w src ys (left - a - b) (black + b)
+        black_next h = record {
+          at = k.at + 1 + 1;
+          dots = after_black;
+          long = omega (arith, black_long, h, k.long);
+          dark = black_dark;
+          less = omega (arith, h, k.less);
+          line = ap (read_line w after_black false (k.at + 1 + 1)) below.2 ∙ sym (line_part w after_white true (k.at + 1) src below.0 (length k.dots + a) white_long (omega (arith, below.1, h, k.long))) ∙ white_line;
+          is = below.2;
+        }
 
--- two, four and eight runs that leave the row unfinished
-pair_next : (w : ℕ) (src : List ℕ) (from at left black : ℕ) → Counting w src from at left black → at + 2 ≤ length src → pair_at src at < left
-    → Counting w src from (at + 2) (left - pair_at src at) (black + get_or src (at + 1) 0)
-pair_next w src from at left black k h g =
-    let e : left - get_or src at 0 - get_or src (at + 1) 0 ≡ left - pair_at src at = omega arith in
-    subst (λ (f : ℕ). Counting w src from (at + 2) f (black + get_or src (at + 1) 0)) e
-    (black_next w src from at left black k (omega arith) (get_or src at 0) refl (omega arith) (omega arith) (get_or src (at + 1) 0) refl (omega arith))
-
-four_next : (w : ℕ) (src : List ℕ) (from at left black : ℕ) → Counting w src from at left black → at + 4 ≤ length src → four_at src at < left
-    → Counting w src from (at + 4) (left - four_at src at) (black + dark_four src at)
-four_next w src from at left black k h g =
-    let p : at + 2 + 2 ≡ at + 4 = omega arith in
-    let q : at + 2 + 1 ≡ at + 3 = omega arith in
-    let e : left - pair_at src at - pair_at src (at + 2) ≡ left - four_at src at = omega arith in
-    let d : black + get_or src (at + 1) 0 + get_or src (at + 2 + 1) 0 ≡ black + dark_four src at = omega (arith, ap (λ (i : ℕ). get_or src i 0) q) in
-    let i = pair_next w src from at left black k (omega arith) (omega arith) in
-    let j = pair_next w src from (at + 2) (left - pair_at src at) (black + get_or src (at + 1) 0) i (omega arith) (omega arith) in
-    subst (λ (n : ℕ). Counting w src from n (left - four_at src at) (black + dark_four src at)) p
-    (subst (λ (f : ℕ). Counting w src from (at + 2 + 2) f (black + dark_four src at)) e (subst (λ (b : ℕ). Counting w src from (at + 2 + 2) (left - pair_at src at - pair_at src (at + 2)) b) d j))
-
-pub eight_next : (w : ℕ) (src : List ℕ) (from at left black m n : ℕ) → Counting w src from at left black → at + 8 ≤ length src → m ≡ four_at src at + four_at src (at + 4)
-    → n ≡ dark_four src at + dark_four src (at + 4) → m < left → Counting w src from (at + 8) (left - m) (black + n)
-eight_next w src from at left black m n k h e d g =
-    let p : at + 4 + 4 ≡ at + 8 = omega arith in
-    let f : left - four_at src at - four_at src (at + 4) ≡ left - m = omega (arith, e) in
-    let b : black + dark_four src at + dark_four src (at + 4) ≡ black + n = omega (arith, d) in
-    let i = four_next w src from at left black k (omega arith) (omega (arith, e)) in
-    let j = four_next w src from (at + 4) (left - four_at src at) (black + dark_four src at) i (omega arith) (omega (arith, e)) in
-    subst (λ (x : ℕ). Counting w src from x (left - m) (black + n)) p
-    (subst (λ (x : ℕ). Counting w src from (at + 4 + 4) x (black + n)) f (subst (λ (x : ℕ). Counting w src from (at + 4 + 4) (left - four_at src at - four_at src (at + 4)) x) b j))
+-- eight runs that leave the row unfinished
+pub eight_next : (w : ℕ) (src rest eight after : List ℕ) (left black m n : ℕ) → CountedTo w src rest left black → eight ≡ take 8 rest → after ≡ drop 8 rest → length after + 8 ≡ length rest
+    → m ≡ white_eight eight + black_eight eight → n ≡ black_eight eight → m < left → CountedTo w src after (left - m) (black + n)
+eight_next w src [] eight after left black m n k p q l u v z = absurd (omega arith)
+eight_next w src (a ∷ []) eight after left black m n k p q l u v z = absurd (omega arith)
+eight_next w src (a ∷ b ∷ []) eight after left black m n k p q l u v z = absurd (omega arith)
+eight_next w src (a ∷ b ∷ c ∷ []) eight after left black m n k p q l u v z = absurd (omega arith)
+eight_next w src (a ∷ b ∷ c ∷ d ∷ []) eight after left black m n k p q l u v z = absurd (omega arith)
+eight_next w src (a ∷ b ∷ c ∷ d ∷ e ∷ []) eight after left black m n k p q l u v z = absurd (omega arith)
+eight_next w src (a ∷ b ∷ c ∷ d ∷ e ∷ f ∷ []) eight after left black m n k p q l u v z = absurd (omega arith)
+eight_next w src (a ∷ b ∷ c ∷ d ∷ e ∷ f ∷ g ∷ []) eight after left black m n k p q l u v z = absurd (omega arith)
+eight_next w src (a ∷ b ∷ c ∷ d ∷ e ∷ f ∷ g ∷ h ∷ xs) eight after left black m n k p q l u v z =
+    let sum : m ≡ a + c + e + g + (b + d + f + h) = u ∙ ap (λ (r : List ℕ). white_eight r + black_eight r) p in
+    let dark : n ≡ b + d + f + h = v ∙ ap black_eight p in
+    let k1 = black_next w src (a ∷ b ∷ c ∷ d ∷ e ∷ f ∷ g ∷ h ∷ xs) left black k a (b ∷ c ∷ d ∷ e ∷ f ∷ g ∷ h ∷ xs) refl (omega arith) b (c ∷ d ∷ e ∷ f ∷ g ∷ h ∷ xs) refl (omega arith) in
+    let k2 = black_next w src (c ∷ d ∷ e ∷ f ∷ g ∷ h ∷ xs) (left - a - b) (black + b) k1 c (d ∷ e ∷ f ∷ g ∷ h ∷ xs) refl (omega arith) d (e ∷ f ∷ g ∷ h ∷ xs) refl (omega arith) in
+    let k3 = black_next w src (e ∷ f ∷ g ∷ h ∷ xs) (left - a - b - c - d) (black + b + d) k2 e (f ∷ g ∷ h ∷ xs) refl (omega arith) f (g ∷ h ∷ xs) refl (omega arith) in
+    let k4 = black_next w src (g ∷ h ∷ xs) (left - a - b - c - d - e - f) (black + b + d + f) k3 g (h ∷ xs) refl (omega arith) h xs refl (omega arith) in
+    let x : left - a - b - c - d - e - f - g - h ≡ left - m = omega arith in
+    let y : black + b + d + f + h ≡ black + n = omega arith in
+    rw (q, ← x, ← y) k4
 
 -- ── the loop over rows
 -- m rows that have the same dots
@@ -164,38 +191,13 @@ black_rows k w d (suc m) t ds l e =
     rw (z, suc-mul)
     (omega (arith, unpack_append (picture k w d (t + m)) (pack (row_size w) (row_dots k w d (t + m))), black_rows k w d m t ds l (λ j g. e j (omega arith)), black_packed (row_size w) ds l, ap (λ (x : List Bool). black_in (unpack (pack (row_size w) x))) (e m (omega arith))))
 
--- a row by the answer of `count_line`
-pub record LineCounted (w : ℕ) (src : List ℕ) (n next black : ℕ) : Type 0 where
-  pub dots : List Bool
-  pub is : line_from w src n ≡ whole dots next
-  pub dark : black_in dots ≡ black
-  pub long : length dots ≡ w
-  pub most : black ≤ w
-  pub ahead : n < next
-  pub within : next ≤ length src
+-- a row that is whole
+whole_long : (w : ℕ) (src rest : List ℕ) (black : ℕ) (c : WholeLine w src rest black) → length c.dots ≡ w
+unfolding line_from
+whole_long w src rest black c = line_long w (drop 0 src) [] c.dots false 0 c.next c.is
 
-pub line_counted : (w : ℕ) (src : List ℕ) (n next black : ℕ) → n ≤ length src → Ends next black ≡ black_line_of (line_from w src n) → LineCounted w src n next black
-line_counted w src n next black l e = go (line_from w src n) refl e
-  where
-    long : (q : List Bool) (j : ℕ) → line_from w src n ≡ whole q j → length q ≡ w
-    long q j p = unfold line_from in line_long w (drop n src) [] q false n j p
-
-    go : (q : Read) → line_from w src n ≡ q → Ends next black ≡ black_line_of q → LineCounted w src n next black
-    go no_row p e = let z : ◌≡◌ {A = ℕ} 0 1 = cc in absurd (omega arith)
-    go (whole ds j) p e =
-        let a : next ≡ j = cc in
-        let b : black ≡ black_in ds = cc in
-        let i : line_from w src n ≡ whole ds next = p ∙ ap (whole ds) (sym a) in
-        let u : LineEnds next ≡ line_of (line_from w src n) = sym (ap line_of i) in
-        let v = line_within w src n next l u in
-        record { dots = ds; is = i; dark = sym b; long = long ds j p; most = omega (arith, b, black_most ds, long ds j p); ahead = v.0; within = v.1 }
-
-pub line_uncounted : (w : ℕ) (src : List ℕ) (n : ℕ) → Unfinished ≡ black_line_of (line_from w src n) → line_from w src n ≡ no_row
-line_uncounted w src n e = go (line_from w src n) refl e
-  where
-    go : (q : Read) → line_from w src n ≡ q → Unfinished ≡ black_line_of q → line_from w src n ≡ no_row
-    go no_row p e = p
-    go (whole ds j) p e = let z : ◌≡◌ {A = ℕ} 0 1 = cc in absurd (omega arith)
+whole_most : (w : ℕ) (src rest : List ℕ) (black : ℕ) (c : WholeLine w src rest black) → black ≤ w
+whole_most w src rest black c = omega (arith, black_most c.dots, c.dark, whole_long w src rest black c)
 
 -- no more rows are drawn
 black_rest : (w : ℕ) (d : List ℕ) (top h : ℕ) → top ≤ h → ((j : ℕ) → j < h - top → runs_row w d (top + j) ≡ []) → black_dots 2 w top d ≡ black_dots 2 w h d
@@ -216,43 +218,50 @@ pub black_runs : (k w h : ℕ) (d : List ℕ) → (k ≡ 1 → ⊥) → black_do
 unfolding black_dots
 black_runs k w h d n = rw (picture_runs k w d n h)
 
--- ── the loop over rows: those above `top` are counted, and the data from `at` on draws those below
-pub record Rows (w h : ℕ) (src : List ℕ) (at top n : ℕ) : Type 0 where
+-- ── the loop over rows: those above `top` are counted, and the data that is left draws those below
+pub record Rows (w h : ℕ) (src rest : List ℕ) (top n : ℕ) : Type 0 where
   pub low : top ≤ h
   pub is : n ≡ black_dots 2 w top src
   pub most : n ≤ top * w
-  pub below : top < h → (j : ℕ) → runs_row w (drop at src) j ≡ runs_row w src (top + j)
+  pub fit : (i : ℕ) → get_or rest i 0 < 256
+  pub below : top < h → (j : ℕ) → runs_row w rest j ≡ runs_row w src (top + j)
 
-pub rows_start : (w h : ℕ) (src : List ℕ) → Rows w h src 0 0 0
+pub rows_start : (w h : ℕ) (src : List ℕ) → ((i : ℕ) → get_or src i 0 < 256) → Rows w h src src 0 0
 unfolding black_dots picture unpack black_in
-rows_start w h src = record { low = omega arith; is = refl; most = omega arith; below = λ _ j. rw zero-add }
+rows_start w h src fit = record { low = omega arith; is = refl; most = omega arith; fit = fit; below = λ _ j. rw zero-add }
 
 most_by : (n t m b w : ℕ) → n ≤ t * w → b ≤ w → n + m * b ≤ (t + m) * w
 most_by n t m b w p q = omega (arith, add-mul t m w, mul-le-mul_left m q)
 
-pub rows_room : (n t m b w h : ℕ) → n ≤ t * w → b ≤ w → t + m ≤ h → h ≤ 65535 → w ≤ 65535 → n + m * b ≤ 4294836225
+rows_room : (n t m b w h : ℕ) → n ≤ t * w → b ≤ w → t + m ≤ h → h ≤ 65535 → w ≤ 65535 → n + m * b ≤ 4294836225
 rows_room n t m b w h p q r u v = omega (arith, most_by n t m b w p q, mul-le-mul_right w (le_trans r u), mul-le-mul_left 65535 v)
 
-module _ (w h : ℕ) (src : List ℕ) (at top n : ℕ) (k : Rows w h src at top n) where
-  pub rows_done : h ≤ top → n ≡ black_dots 2 w h src
-  rows_done l = let e : top ≡ h = omega (arith, k.low) in k.is ∙ ap (λ (x : ℕ). black_dots 2 w x src) e
-
-  by_below : ((j : ℕ) → runs_row w (drop at src) j ≡ []) → n ≡ black_dots 2 w h src
+module _ (w h : ℕ) (src rest : List ℕ) (top n : ℕ) (k : Rows w h src rest top n) where
+  by_below : ((j : ℕ) → runs_row w rest j ≡ []) → n ≡ black_dots 2 w h src
   by_below e = k.is ∙ black_rest w src top h k.low (λ j l. sym (k.below (omega (arith, l)) j) ∙ e j)
 
-  pub rows_ended : length src ≤ at → n ≡ black_dots 2 w h src
-  rows_ended l = by_below (λ j. rows_past w src at j l)
+  pub rows_ended : length rest ≡ 0 → n ≡ black_dots 2 w h src
+  rows_ended l = by_below (λ j. rows_past w rest 0 j (omega arith))
 
-  pub rows_unfinished : at < length src → line_from w src (at + 1) ≡ no_row → n ≡ black_dots 2 w h src
-  rows_unfinished l e = by_below (λ j. rows_none w src at l j e)
+  module _ (b : ℕ) (xs : List ℕ) (q : rest ≡ b ∷ xs) where
+    pub rows_unfinished : line_from w xs 0 ≡ no_row → n ≡ black_dots 2 w h src
+    rows_unfinished e = by_below (λ j. first_none w b rest xs q j (sym (ap line_of e)))
 
-  pub rows_next : at < length src → top < h → (m next black : ℕ) → m ≡ min (get_or src at 0 + 1) (h - top) → LineCounted w src (at + 1) next black → Rows w h src next (top + m) (n + m * black)
-  rows_next l g m next black e c =
-      record {
+    pub row_byte : b < 256
+    row_byte = rw (ap (λ (d : List ℕ). get_or d 0 0) q) at (k.fit 0)
+
+    module _ (m : ℕ) (after : List ℕ) (black : ℕ) (l : top < h) (e : m ≡ min (b + 1) (h - top)) (c : WholeLine w xs after black) where
+      -- its sum has room
+      pub row_room : h ≤ 65535 → w ≤ 65535 → n + m * black ≤ 4294836225
+      row_room u v = rows_room n top m black w h k.most (whole_most w xs after black c) (omega (arith, e)) u v
+
+      pub rows_next : Rows w h src after (top + m) (n + m * black)
+      rows_next = record {
         low = omega (arith, e);
-        is = black_more w src top m c.dots n black c.long c.dark k.is
-            (λ j u. sym (k.below g j) ∙ rows_here w src at l j (omega (arith, e)) ∙ ap dots_of c.is);
-        most = most_by n top m black w k.most c.most;
-        below = λ v j. let z : top + (get_or src at 0 + 1 + j) ≡ top + m + j = omega (arith, e) in
-            sym (rows_below w src at l c.dots next j c.is) ∙ k.below g (get_or src at 0 + 1 + j) ∙ rw z;
+        is = black_more w src top m c.dots n black (whole_long w xs after black c) c.dark k.is (λ j u. sym (k.below l j) ∙ first_here w b rest xs q j (omega (arith, e)) ∙ ap dots_of c.is);
+        most = most_by n top m black w k.most (whole_most w xs after black c);
+        fit = λ i. let d : get_or after i 0 ≡ get_or rest (suc (c.next + i)) 0 = ap (λ (d : List ℕ). get_or d i 0) c.left ∙ get_or-drop c.next xs i 0 ∙ ap (λ (d : List ℕ). get_or d (suc (c.next + i)) 0) (sym q) in rw d (k.fit (suc (c.next + i)));
+        below = λ v j.
+            let z : top + (b + 1 + j) ≡ top + m + j = omega (arith, e) in
+            ap (λ (d : List ℕ). runs_row w d j) c.left ∙ sym (first_below w b rest xs q c.next j (sym (ap line_of c.is))) ∙ k.below l (b + 1 + j) ∙ rw z;
       }

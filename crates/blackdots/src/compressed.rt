@@ -1,168 +1,127 @@
 // The black dots of class 2 data: the black runs of its rows, each as often as the row is drawn.
-ghost use Rattle.std.specs.Prelude.{◌≡◌, ◌+◌, ◌-◌, ◌≤◌, min, length};
+ghost use Rattle.std.specs.Prelude.{◌≡◌, ◌+◌, ◌≤◌, MatchOption};
 ghost use Rattle.pictures.specs.Size.{runs_class};
-ghost use Rattle.pictures.specs.Passing.{pair_at, four_at};
-ghost use Rattle.pictures.specs.Drawing.{line_from};
+ghost use Rattle.pictures.specs.Drawing.{line_from, no_row};
 ghost use Rattle.blackdots.specs.Black.{black_dots};
-ghost use Rattle.blackdots.specs.Counting.{ends_at, black_line_of, dark_four, Counting};
+ghost use Rattle.blackdots.specs.Counting.{white_eight, black_eight, CountedTo, WholeLine};
 
 // From this width on, eight runs at a time are tried: in a narrower row they seldom leave it unfinished.
 const WIDE: u16 = 64;
 
-// Where a row of the data ends and how many of its dots are black, if it is whole.
+// A row that is whole: how many of its dots are black, and the data after it.
 #[derive(Clone, Copy)]
-pub enum BlackLine {
-    Ends { next: usize, black: u32 },
-    Unfinished,
+pub struct BlackLine<'a> {
+    pub black: u32,
+    pub rest: &'a [u8],
 }
 
-fn wide(x: u8) -> u32
-    ensures { (result ≡ x) × (result ≤ 255) }
-{
-    x as u32
-}
-
-// A row that ends before a place, if its runs sum to the width.
-fn ended(whole: bool, next: usize, black: u32) -> BlackLine
-    ensures { result ≡ ends_at whole next black }
-{
-    if whole {
-        BlackLine::Ends { next, black }
-    } else {
-        BlackLine::Unfinished
-    }
-}
-
-// The sums of two and of four runs, and of the black ones among four, the second and the fourth.
-fn two_runs(bytes: &[u8], at: usize) -> u32
-    requires { at + 2 ≤ length bytes.now }
-    ensures { (result ≡ pair_at bytes.now at) × (result ≤ 510) }
-{
-    wide(bytes[at]) + wide(bytes[at + 1])
-}
-
-fn four_runs(bytes: &[u8], at: usize) -> u32
-    requires { at + 4 ≤ length bytes.now }
-    ensures { (result ≡ four_at bytes.now at) × (result ≤ 1020) }
-{
-    two_runs(bytes, at) + two_runs(bytes, at + 2)
-}
-
-fn black_of_four(bytes: &[u8], at: usize) -> u32
-    requires { at + 4 ≤ length bytes.now }
-    ensures { (result ≡ dark_four bytes.now at) × (result ≤ 510) }
-{
-    wide(bytes[at + 1]) + wide(bytes[at + 3])
-}
-
-// A white run of a row: its place in the data, the dots that the row lacks there, and its black dots so far.
+// The runs of a row from a white one on, the dots that the row lacks there, and its black dots so far.
 #[derive(Clone, Copy)]
-pub struct Upto {
-    pub at: usize,
+pub struct Upto<'a> {
+    pub runs: &'a [u8],
     pub left: u32,
     pub black: u32,
 }
 
-// A length less n, or 0.
-fn less(len: usize, n: usize) -> usize
-    ensures { result ≡ len - n }
+// The white ones among eight runs of which the first is white, and the black ones.
+fn white_of_eight(runs: &[u8; 8]) -> u32
+    ensures { (result ≡ white_eight runs.now) × (result ≤ 1020) }
 {
-    if len < n {
-        return 0;
-    }
-    len - n
+    u32::from(runs[0]) + u32::from(runs[2]) + u32::from(runs[4]) + u32::from(runs[6])
+}
+
+fn black_of_eight(runs: &[u8; 8]) -> u32
+    ensures { (result ≡ black_eight runs.now) × (result ≤ 1020) }
+{
+    u32::from(runs[1]) + u32::from(runs[3]) + u32::from(runs[5]) + u32::from(runs[7])
 }
 
 // Over eight runs at a time that leave the row unfinished: their sum alone tells.
-fn pass_eights(bytes: &[u8], from: usize, width: u16) -> Upto
-    ensures { Counting width bytes.now from result.at result.left result.black }
+fn pass_eights(runs: &[u8], width: u16) -> Upto<'_>
+    ensures { CountedTo width runs.now result.runs.now result.left result.black }
 {
-    let last = less(bytes.len(), 7);
-    let mut at = from;
-    let mut left = width as u32;
-    let mut black: u32 = 0;
-    while at < last {
-        let sum = four_runs(bytes, at) + four_runs(bytes, at + 4);
+    let mut rest = runs;
+    let mut left = u32::from(width);
+    let mut black = 0;
+    while let Some((eight, after)) = rest.split_first_chunk::<8>() {
+        let dark = black_of_eight(eight);
+        let sum = white_of_eight(eight) + dark;
         if left <= sum {
-            return Upto { at, left, black };
+            return Upto {
+                runs: rest,
+                left,
+                black,
+            };
         }
-        black += black_of_four(bytes, at) + black_of_four(bytes, at + 4);
         left -= sum;
-        at += 8;
+        black += dark;
+        rest = after;
     }
-    Upto { at, left, black }
+    Upto {
+        runs: rest,
+        left,
+        black,
+    }
 }
 
-// Where the row whose runs start at a place of the data is read run by run: a narrow one from its start.
-fn begin_line(bytes: &[u8], from: usize, width: u16) -> Upto
-    ensures { Counting width bytes.now from result.at result.left result.black }
+// Where a row is read run by run: a narrow one from its start.
+fn begin_line(runs: &[u8], width: u16) -> Upto<'_>
+    ensures { CountedTo width runs.now result.runs.now result.left result.black }
 {
     if width < WIDE {
         return Upto {
-            at: from,
-            left: width as u32,
+            runs,
+            left: u32::from(width),
             black: 0,
         };
     }
-    pass_eights(bytes, from, width)
+    pass_eights(runs, width)
 }
 
-// The row whose runs start at a place of the data: a white run and a black one in each turn.
-fn count_line(bytes: &[u8], from: usize, width: u16) -> BlackLine
-    ensures { result ≡ black_line_of (line_from width bytes.now from) }
+// The row whose runs stand first, if it is whole: a white run and a black one in each turn.
+fn count_line(runs: &[u8], width: u16) -> Option<BlackLine<'_>>
+    ensures { MatchOption result (line_from width runs.now 0 ≡ no_row) (λ l. WholeLine width runs.now l.rest.now l.black) }
 {
-    let begin = begin_line(bytes, from, width);
-    let mut at = begin.at;
+    let begin = begin_line(runs, width);
+    let mut rest = begin.runs;
     let mut left = begin.left;
     let mut black = begin.black;
-    while at < bytes.len() {
-        let white = wide(bytes[at]);
+    while let Some((&white, after)) = rest.split_first() {
+        let white = u32::from(white);
         if left <= white {
-            return ended(left == white, at + 1, black);
+            return (left == white).then_some(BlackLine { black, rest: after });
         }
-        if bytes.len() - at < 2 {
-            return BlackLine::Unfinished;
-        }
+        let (&run, after) = after.split_first()?;
+        let run = u32::from(run);
         left -= white;
-        let run = wide(bytes[at + 1]);
         black += run;
         if left <= run {
-            return ended(left == run, at + 2, black);
+            return (left == run).then_some(BlackLine { black, rest: after });
         }
         left -= run;
-        at += 2;
+        rest = after;
     }
-    BlackLine::Unfinished
-}
-
-fn lesser(a: u32, b: u32) -> u32
-    ensures { result ≡ min a b }
-{
-    if a < b { a } else { b }
+    None
 }
 
 // The black dots of a class 2 picture. "Repeats below the last row are dropped."
 pub(crate) fn black_in_runs(width: u16, height: u16, bytes: &[u8]) -> u32
     ensures { result ≡ black_dots runs_class width height bytes.now }
 {
-    let mut n: u32 = 0;
-    let mut at = 0;
-    let mut top: u32 = 0;
-    while at < bytes.len() {
-        if (height as u32) <= top {
+    let mut n = 0;
+    let mut top = 0;
+    let mut rest = bytes;
+    while let Some((&repeats, runs)) = rest.split_first() {
+        if u32::from(height) <= top {
             return n;
         }
-        let times = lesser(wide(bytes[at]) + 1, (height as u32) - top);
-        match count_line(bytes, at + 1, width) {
-            BlackLine::Ends { next, black } => {
-                at = next;
-                n += times * black;
-            }
-            BlackLine::Unfinished => {
-                return n;
-            }
-        }
+        let times = (u32::from(repeats) + 1).min(u32::from(height) - top);
+        let Some(line) = count_line(runs, width) else {
+            return n;
+        };
+        n += times * line.black;
         top += times;
+        rest = line.rest;
     }
     n
 }

@@ -10,18 +10,18 @@ use lib.ListN.{length, set, take, drop, length-set, length-take, length-append}
 use lib.Seq.{get_or-set_same, get_or-take, length-take-le, take_all, take-append_seam, drop-append_seam}
 use Rattle.blocks.specs.Field.{byte, negative}
 use Rattle.blocks.specs.Character.{descriptor_bytes, format_at, continued_at, descriptor_size_at, class_at, orientation_at, reserved_at, left_offset_at, top_offset_at, width_at, height_at, delta_x_at, format, continued, descriptor_size, class, delta_x, character_format, size_taken, kind_of, taken_class, held_class, first_length, first_form, first_fields, first_size, first_checks, read_first, fix_first, kept_first, fixed_first, is_kept_first, KeptDescriptors}
-use Rattle.blocks.specs.declared.Verdict.TheVariants.{Taken, Refused}
+use Rattle.std.specs.Prelude.{Ok, Err}
 use Rattle.blocks.specs.declared.character.Kind.TheVariants.{First, Continuation, Unknown}
 use Rattle.blocks.proofs.Checks.{taken}
 use Rattle.pictures.proofs.Tests.{both}
 use Rattle.blocks.proofs.Fields.{other, floor_other, floor_length, floor_zero, stay}
 
-pub first_long : (b : List ℕ) (o : ℕ) → read_first b o ≡ Taken → descriptor_bytes ≤ length b
+pub first_long : (b : List ℕ) (o : ℕ) → read_first b o ≡ Ok tt → descriptor_bytes ≤ length b
 unfolding read_first
 first_long b o e = leb-true descriptor_bytes (length b) (taken (first_checks b o) e).0
 
 -- the form is judged before the fields
-pub form_refused : (b : List ℕ) (o : ℕ) → first_length b ≡ true → first_form b ≡ false → read_first b o ≡ Refused 4
+pub form_refused : (b : List ℕ) (o : ℕ) → first_length b ≡ true → first_form b ≡ false → read_first b o ≡ Err 4
 unfolding read_first
 form_refused b o l e = rw (l, e)
 
@@ -82,7 +82,7 @@ held_taken : (k : ℕ) → held_class k ≡ true → taken_class k ≡ true
 held_taken k e = e
 
 -- what an accepted first block leaves passes the test
-pub kept_first_lem : (b : List ℕ) (o : ℕ) → kind_of b ≡ First → read_first b o ≡ Taken → is_kept_first (kept_first b) o ≡ true
+pub kept_first_lem : (b : List ℕ) (o : ℕ) → kind_of b ≡ First → read_first b o ≡ Ok tt → is_kept_first (kept_first b) o ≡ true
 unfolding read_first is_kept_first
 kept_first_lem b o f e =
     let p = taken (first_checks b o) e in
@@ -143,7 +143,7 @@ module _ (k : List ℕ) (o : ℕ) (e : is_kept_first k o ≡ true) where
   unfolding kind_of
   is_kept_kind = simp (is_kept_fixed.0, is_kept_fixed.1)
 
-  is_kept_read : read_first k o ≡ Taken
+  is_kept_read : read_first k o ≡ Ok tt
   unfolding read_first
   is_kept_read = let p = is_kept_parts in simp (is_kept_length, is_kept_form, p.2, p.3)
 
@@ -154,7 +154,7 @@ module _ (k : List ℕ) (o : ℕ) (e : is_kept_first k o ≡ true) where
       let l = is_kept_length in
       simp (take_all descriptor_bytes k (omega arith), stay reserved_at 0 k p.3, p.4)
 
-  pub is_kept_first_lem : (kind_of k ≡ First) × (read_first k o ≡ Taken) × (kept_first k ≡ k)
+  pub is_kept_first_lem : (kind_of k ≡ First) × (read_first k o ≡ Ok tt) × (kept_first k ≡ k)
   is_kept_first_lem = (is_kept_kind, is_kept_read, is_kept_again)
 
   -- the same with data behind it
@@ -173,7 +173,7 @@ module _ (k : List ℕ) (o : ℕ) (e : is_kept_first k o ≡ true) where
         let b : continued (k ++ d) ≡ continued k = sym (kept_other (k ++ d) continued_at tt tt tt tt) ∙ ap continued behind_again in
         simp (a, b, is_kept_fixed.0, is_kept_fixed.1)
 
-    behind_read : read_first (k ++ d) o ≡ Taken
+    behind_read : read_first (k ++ d) o ≡ Ok tt
     unfolding read_first
     behind_read =
         let t = kept_tests (k ++ d) o in
@@ -184,7 +184,7 @@ module _ (k : List ℕ) (o : ℕ) (e : is_kept_first k o ≡ true) where
         let long : first_length (k ++ d) ≡ true = le-leb descriptor_bytes (length (k ++ d)) (omega (arith, length-append k d, is_kept_length)) in
         simp (long, form, fields, size)
 
-    pub is_kept_block : (kind_of (k ++ d) ≡ First) × (read_first (k ++ d) o ≡ Taken) × (kept_first (k ++ d) ≡ k) × (drop descriptor_bytes (k ++ d) ≡ d)
+    pub is_kept_block : (kind_of (k ++ d) ≡ First) × (read_first (k ++ d) o ≡ Ok tt) × (kept_first (k ++ d) ≡ k) × (drop descriptor_bytes (k ++ d) ≡ d)
     is_kept_block = (behind_kind, behind_read, behind_again, subst (λ (n : ℕ). drop n (k ++ d) ≡ d) is_kept_length (drop-append_seam k d))
 
 -- ── a block by what is kept of its descriptor
@@ -198,7 +198,7 @@ unfolding kept_first
 bare_kept b = ap fix_first (take_all descriptor_bytes (take descriptor_bytes b) (simp length-take (omega arith)))
 
 -- a first block whose kept descriptor passes the test is accepted
-pub kept_read : (b : List ℕ) (o : ℕ) → is_kept_first (kept_first b) o ≡ true → read_first b o ≡ Taken
+pub kept_read : (b : List ℕ) (o : ℕ) → is_kept_first (kept_first b) o ≡ true → read_first b o ≡ Ok tt
 unfolding read_first kept_first fix_first
 kept_read b o e =
     let t = kept_tests b o in

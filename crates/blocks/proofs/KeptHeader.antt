@@ -10,13 +10,13 @@ use lib.ListN.{length, take, drop, length-drop, take-append-drop}
 use lib.Seq.{get_or-take, get_or-drop, length-take-le, take_all, take-take}
 use Rattle.blocks.specs.Field.{byte, word, is_word}
 use Rattle.blocks.specs.Header.{block_limit, plain_bytes, header_bytes, descriptor_size_at, format_at, reserved_at, x_resolution_at, y_resolution_at, descriptor_size, format, pitch, height, plain_format, coarse_resolution, pitch_limit, height_limit, says_resolution, own_bytes, header_fields, both_are, header_resolution, header_checks, read_header, coarse_bytes, first_bytes, fix_header, kept_header, fixed_header, is_kept_header, own_header, KeptHeaders}
-use Rattle.blocks.specs.declared.Verdict.TheVariants.{Taken}
+use Rattle.std.specs.Prelude.{Ok}
 use Rattle.blocks.proofs.Checks.{taken, within_low}
 use Rattle.pictures.proofs.Tests.{both}
 use Rattle.blocks.proofs.Fields.{stay}
 use Rattle.blocks.proofs.HeaderBytes.{own_fine, own_plain, own_within, first_length_lem, first_byte, first_fine, first_plain, apart, holds, changed_places, fix_other, fix_length, fix_own, fix_size, fix_reserved, fix_caps, same_fields}
 
-pub header_long : (b : List ℕ) → read_header b ≡ Taken → own_bytes b ≤ length b
+pub header_long : (b : List ℕ) → read_header b ≡ Ok tt → own_bytes b ≤ length b
 unfolding read_header
 header_long b e = within_low (own_bytes b) block_limit (length b) (taken (header_checks b) e).0
 
@@ -90,7 +90,7 @@ module _ (b : List ℕ) (h : own_bytes b ≤ length b) where
       go false e = kept_plain e t
 
 -- what an accepted block leaves passes the test
-pub kept_header_lem : (b : List ℕ) → read_header b ≡ Taken → is_kept_header (kept_header b) ≡ true
+pub kept_header_lem : (b : List ℕ) → read_header b ≡ Ok tt → is_kept_header (kept_header b) ≡ true
 unfolding read_header is_kept_header
 kept_header_lem b e =
     let p = taken (header_checks b) e in
@@ -155,7 +155,7 @@ module _ (k : List ℕ) (e : is_kept_header k ≡ true) where
     unfolding own_header
     own_all = take_all (own_bytes k) k (omega (arith, is_kept_length, own_fine k says))
 
-    fine_read : read_header k ≡ Taken
+    fine_read : read_header k ≡ Ok tt
     unfolding read_header
     fine_read =
         let f : format k ≡ 20 = eqb-true _ _ says in
@@ -202,7 +202,7 @@ module _ (k : List ℕ) (e : is_kept_header k ≡ true) where
     plain_byte : (j : ℕ) → T (ltb j plain_bytes) → byte (take plain_bytes k) j ≡ byte k j
     plain_byte j t = get_or-take plain_bytes k j 0 (ltb→lt j plain_bytes t)
 
-    plain_read : read_header (take plain_bytes k) ≡ Taken
+    plain_read : read_header (take plain_bytes k) ≡ Ok tt
     unfolding read_header own_bytes
     plain_read =
         let l : length (take plain_bytes k) ≡ plain_bytes = length-take-le plain_bytes k (omega (arith, is_kept_length)) in
@@ -216,10 +216,10 @@ module _ (k : List ℕ) (e : is_kept_header k ≡ true) where
         let f : says_resolution (take plain_bytes k) ≡ false = rw (plain_byte format_at tt) says in
         rw (f, take-take plain_bytes plain_bytes k (omega arith), ← coarse_behind, take-append-drop plain_bytes k) is_kept_again
 
-  pub is_kept_header_lem : (read_header (own_header k) ≡ Taken) × (kept_header (own_header k) ≡ k)
+  pub is_kept_header_lem : (read_header (own_header k) ≡ Ok tt) × (kept_header (own_header k) ≡ k)
   is_kept_header_lem = go (says_resolution k) refl
     where
-      go : (t : Bool) → says_resolution k ≡ t → (read_header (own_header k) ≡ Taken) × (kept_header (own_header k) ≡ k)
+      go : (t : Bool) → says_resolution k ≡ t → (read_header (own_header k) ≡ Ok tt) × (kept_header (own_header k) ≡ k)
       go true q = rw (own_all q) (fine_read q, fine_again q)
       go false q = rw (own_first q) (plain_read q, plain_again q)
 

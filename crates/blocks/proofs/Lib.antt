@@ -4,5 +4,4 @@ pub mod Fields
 pub mod HeaderBytes
 pub mod KeptHeader
 pub mod KeptFirst
-pub mod Copies
 pub mod Openings

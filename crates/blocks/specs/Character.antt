@@ -1,11 +1,9 @@
 -- Document 01, "The character block": a block's kind, a first block's checks in their order, and what is kept of its descriptor.
-use Rattle.std.specs.Prelude.{ℕ, ◌≡◌, List, [], ◌∷◌, Bool, true, ◌&&◌, not, cond, length, take, set, leb, eqb}
+use Rattle.std.specs.Prelude.{ℕ, ◌≡◌, List, [], ◌∷◌, Bool, true, Result, Ok, ◌&&◌, not, cond, length, take, set, leb, eqb}
 use Rattle.blocks.specs.Field.{byte, word, signed_within, negative, floor_word}
 use Rattle.pictures.specs.Size.{bitmap_class, runs_class, within, side_limit, picture_size, data_limit}
 use Rattle.blocks.specs.Check.{Check, ◌else◌, verdict}
 use Rattle.blocks.specs.Header.{block_limit}
-use Rattle.blocks.specs.declared.Verdict.{Verdict}
-use Rattle.blocks.specs.declared.Verdict.TheVariants.{Taken}
 use Rattle.blocks.specs.declared.character.Kind.{Kind}
 use Rattle.blocks.specs.declared.character.Kind.TheVariants.{First, Continuation, Unknown}
 
@@ -140,7 +138,7 @@ first_checks b o =
     ∷ (first_size b else 9)
     ∷ []
 
-unfoldable pub read_first : List ℕ → ℕ → Verdict
+unfoldable pub read_first : List ℕ → ℕ → Result Unit ℕ
 read_first b o = verdict (first_checks b o)
 
 -- "byte 5 zero, a negative delta X (14) made 0"
@@ -169,5 +167,5 @@ is_kept_first k o =
 -- a law of them: what an accepted first block leaves passes the test, and bytes that pass it are accepted and left the same
 abbrev pub KeptDescriptors : Type 0
 KeptDescriptors =
-    ((b : List ℕ) (o : ℕ) → kind_of b ≡ First → read_first b o ≡ Taken → is_kept_first (kept_first b) o ≡ true)
-    × ((k : List ℕ) (o : ℕ) → is_kept_first k o ≡ true → (kind_of k ≡ First) × (read_first k o ≡ Taken) × (kept_first k ≡ k))
+    ((b : List ℕ) (o : ℕ) → kind_of b ≡ First → read_first b o ≡ Ok tt → is_kept_first (kept_first b) o ≡ true)
+    × ((k : List ℕ) (o : ℕ) → is_kept_first k o ≡ true → (kind_of k ≡ First) × (read_first k o ≡ Ok tt) × (kept_first k ≡ k))

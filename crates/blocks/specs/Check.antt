@@ -1,7 +1,5 @@
 -- A list of checks, each a test and the number that refuses where it fails; the first that fails decides.
-use Rattle.std.specs.Prelude.{ℕ, List, [], ◌∷◌, Bool, cond}
-use Rattle.blocks.specs.declared.Verdict.{Verdict}
-use Rattle.blocks.specs.declared.Verdict.TheVariants.{Taken, Refused}
+use Rattle.std.specs.Prelude.{ℕ, List, [], ◌∷◌, Bool, cond, Result, Ok, Err}
 
 pub record Check : Type 0 where
   pub holds : Bool
@@ -11,7 +9,7 @@ infix 20 ◌else◌
 abbrev pub ◌else◌ : Bool → ℕ → Check
 t else n = record { holds = t; number = n }
 
--- refused with the number of the first check that fails, or taken
-abbrev pub verdict : List Check → Verdict
-verdict [] = Taken
-verdict (c ∷ cs) = cond c.holds (verdict cs) (Refused c.number)
+-- taken, or refused with the number of the first check that fails
+abbrev pub verdict : List Check → Result Unit ℕ
+verdict [] = Ok tt
+verdict (c ∷ cs) = cond c.holds (verdict cs) (Err c.number)

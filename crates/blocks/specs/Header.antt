@@ -1,10 +1,8 @@
 -- Document 01, "The font block": its checks in their order, and what is kept.
-use Rattle.std.specs.Prelude.{ℕ, ◌/◌, ◌%◌, ◌≡◌, List, [], ◌∷◌, ◌++◌, Bool, true, not, ◌&&◌, ◌||◌, cond, length, take, set, leb, ltb, eqb}
+use Rattle.std.specs.Prelude.{ℕ, ◌/◌, ◌%◌, ◌≡◌, List, [], ◌∷◌, ◌++◌, Bool, true, Result, Ok, not, ◌&&◌, ◌||◌, cond, length, take, set, leb, ltb, eqb}
 use Rattle.blocks.specs.Field.{byte, high_low, word, is_word, signed_within, put_word, cap_extended}
 use Rattle.pictures.specs.Size.{within}
 use Rattle.blocks.specs.Check.{Check, ◌else◌, verdict}
-use Rattle.blocks.specs.declared.Verdict.{Verdict}
-use Rattle.blocks.specs.declared.Verdict.TheVariants.{Taken}
 
 -- a block has at most so many bytes
 abbrev pub block_limit : ℕ
@@ -216,7 +214,7 @@ header_resolution b = not (says_resolution b) || (both_are coarse_resolution b |
 abbrev pub header_checks : List ℕ → List Check
 header_checks b = (header_length b else 3) ∷ (header_form b else 4) ∷ (header_fields b && header_resolution b else 5) ∷ []
 
-unfoldable pub read_header : List ℕ → Verdict
+unfoldable pub read_header : List ℕ → Result Unit ℕ
 read_header b = verdict (header_checks b)
 
 -- "Kept: the first 64 bytes". W-206: the first 68 of a format 20 block; "a format 0 font gets 300 and 300"
@@ -259,5 +257,5 @@ own_header k = take (own_bytes k) k
 -- a law of them: what an accepted block leaves passes the test, and bytes that pass it are accepted, as the write-out gives them, and left the same
 abbrev pub KeptHeaders : Type 0
 KeptHeaders =
-    ((b : List ℕ) → read_header b ≡ Taken → is_kept_header (kept_header b) ≡ true)
-    × ((k : List ℕ) → is_kept_header k ≡ true → (read_header (own_header k) ≡ Taken) × (kept_header (own_header k) ≡ k))
+    ((b : List ℕ) → read_header b ≡ Ok tt → is_kept_header (kept_header b) ≡ true)
+    × ((k : List ℕ) → is_kept_header k ≡ true → (read_header (own_header k) ≡ Ok tt) × (kept_header (own_header k) ≡ k))

@@ -1,11 +1,13 @@
 // The character block: its kind, a first block's checks, and the bytes that are kept of its descriptor.
 ghost use Rattle.std.specs.Prelude.{◌≡◌, ◌+◌, ◌*◌, ◌<◌, ◌≤◌, length};
 ghost use Rattle.pictures.specs.Size.{within, side_limit};
+ghost use Rattle.refusals.specs.Refusals.{numbered_result};
 ghost use Rattle.blocks.specs.Character.{descriptor_bytes, continuation_bytes, class, left_offset, width, height, delta_x, character_length, kind_of, taken_class, first_form, first_extent, first_fields, first_size, read_first, fix_first, kept_first, is_kept_first};
 ghost use Rattle.blocks.specs.Openings.{opens_kept, faces_as};
 
-use crate::{Verdict, copying, field, header};
+use crate::{field, header};
 use pictures::size;
+use refusals::Refused;
 
 // So many bytes of a first block are its descriptor, and so many stand before a continuation's data.
 pub const KEPT: usize = 16;
@@ -39,13 +41,6 @@ const DELTA_X_AT: usize = 14;
 pub const FORMAT: u8 = 4;
 
 const SIZE_TAKEN: u8 = 14;
-
-// The first four bytes of a kept descriptor as one number, low byte first, by its class.
-const OPENING: u32 = FORMAT as u32 + 65536 * (SIZE_TAKEN as u32);
-
-const BITMAP_OPENING: u32 = OPENING + 16777216 * (size::BITMAP as u32);
-
-const RUNS_OPENING: u32 = OPENING + 16777216 * (size::RUNS as u32);
 
 #[derive(Clone, Copy)]
 pub enum Kind {
@@ -163,22 +158,22 @@ fn first_size(block: &[u8]) -> bool
 }
 
 // The checks of a first block, in document 01's order, for a font of this orientation.
-pub fn read_first(block: &[u8], orientation: u8) -> Verdict
-    ensures { result ≡ read_first block.now orientation }
+pub fn read_first(block: &[u8], orientation: u8) -> Result<(), Refused>
+    ensures { numbered_result result ≡ read_first block.now orientation }
 {
     if block.len() < KEPT {
-        return Verdict::Refused(3);
+        return Err(Refused::BlockLength);
     }
     if !first_form(block) {
-        return Verdict::Refused(4);
+        return Err(Refused::NotTaken);
     }
     if !first_fields(block, orientation) {
-        return Verdict::Refused(5);
+        return Err(Refused::FieldValue);
     }
     if !first_size(block) {
-        return Verdict::Refused(9);
+        return Err(Refused::TooLarge);
     }
-    Verdict::Taken
+    Ok(())
 }
 
 fn fix_first(s: &mut [u8])
@@ -194,15 +189,8 @@ pub fn keep_first(block: &[u8], out: &mut [u8])
     requires { (descriptor_bytes ≤ length block.now) × (length out.old ≡ descriptor_bytes) }
     ensures { out.new ≡ kept_first block.now }
 {
-    copying::copy_front(block, out);
+    out.copy_from_slice(&block[..KEPT]);
     fix_first(out);
-}
-
-// Two bytes as one number, low byte first.
-fn pair(low: u8, high: u8) -> u32
-    ensures { (result ≡ low + 256 * high) × (result < 65536) }
-{
-    low as u32 + 256 * (high as u32)
 }
 
 // The first four bytes are those of a kept descriptor: one number, so that one test does for all four.
@@ -210,10 +198,15 @@ fn opens_kept(k: &[u8]) -> bool
     requires { length k.now ≡ descriptor_bytes }
     ensures { result ≡ opens_kept k.now }
 {
-    let low = pair(k[FORMAT_AT], k[CONTINUED_AT]);
-    let high = pair(k[DESCRIPTOR_SIZE_AT], k[CLASS_AT]);
-    let n = low + 65536 * high;
-    (n == BITMAP_OPENING) | (n == RUNS_OPENING)
+    let bitmap = u32::from_le_bytes([FORMAT, 0, SIZE_TAKEN, size::BITMAP]);
+    let runs = u32::from_le_bytes([FORMAT, 0, SIZE_TAKEN, size::RUNS]);
+    let is = u32::from_le_bytes([
+        k[FORMAT_AT],
+        k[CONTINUED_AT],
+        k[DESCRIPTOR_SIZE_AT],
+        k[CLASS_AT],
+    ]);
+    (is == bitmap) | (is == runs)
 }
 
 // The next two bytes, the orientation and a byte that is 0, likewise.
@@ -221,7 +214,7 @@ fn faces_as(k: &[u8], orientation: u8) -> bool
     requires { length k.now ≡ descriptor_bytes }
     ensures { result ≡ faces_as k.now orientation }
 {
-    pair(k[ORIENTATION_AT], k[RESERVED_AT]) == orientation as u32
+    u16::from_le_bytes([k[ORIENTATION_AT], k[RESERVED_AT]]) == u16::from(orientation)
 }
 
 // Whether bytes are what an accepted first block leaves of its descriptor, for a font of this orientation.

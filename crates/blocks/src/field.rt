@@ -4,19 +4,15 @@ ghost use Rattle.blocks.specs.Field.{high_low, word, is_word, negative, signed_w
 ghost use Rattle.blocks.specs.Header.{weight_limit};
 ghost use Rattle.blocks.specs.Character.{offset_limit};
 
-// A signed field goes from minus its limit up to it: as an unsigned number at most the limit, or at least what stands for minus the limit.
+// A signed field goes from minus its limit up to it.
 pub const WEIGHT_LIMIT: u8 = 7;
 
-const LEAST_WEIGHT: u8 = 255 - WEIGHT_LIMIT + 1;
-
 const OFFSET_LIMIT: u16 = 16384;
-
-const LEAST_OFFSET: u16 = 65535 - OFFSET_LIMIT + 1;
 
 pub(crate) fn join(high: u8, low: u8) -> u16
     ensures { result ≡ high_low high low }
 {
-    high as u16 * 256 + low as u16
+    u16::from_be_bytes([high, low])
 }
 
 // The 16-bit field at a place.
@@ -32,28 +28,28 @@ pub(crate) fn is_word(s: &[u8], at: usize, value: u16) -> bool
     requires { at + 1 < length s.now }
     ensures { result ≡ is_word at value s.now }
 {
-    (s[at] == (value / 256) as u8) & (s[at + 1] == (value % 256) as u8)
+    word(s, at) == value
 }
 
 // A stroke weight within its limit.
 pub(crate) fn weight_allowed(x: u8) -> bool
     ensures { result ≡ signed_within 8 weight_limit x }
 {
-    (x <= WEIGHT_LIMIT) | (LEAST_WEIGHT <= x)
+    x.cast_signed().unsigned_abs() <= WEIGHT_LIMIT
 }
 
 // A left or top offset within its limit.
 pub(crate) fn offset_allowed(n: u16) -> bool
     ensures { result ≡ signed_within 16 offset_limit n }
 {
-    (n <= OFFSET_LIMIT) | (LEAST_OFFSET <= n)
+    n.cast_signed().unsigned_abs() <= OFFSET_LIMIT
 }
 
 // A 16-bit field that is, as a signed number, below 0.
 pub fn is_negative(n: u16) -> bool
     ensures { result ≡ negative 16 n }
 {
-    32768 <= n
+    n.cast_signed() < 0
 }
 
 // Puts a 16-bit number at a place.
@@ -61,8 +57,9 @@ pub(crate) fn put_word(s: &mut [u8], at: usize, value: u16)
     requires { at + 1 < length s.old }
     ensures { s.new ≡ put_word at value s.old }
 {
-    s[at] = (value / 256) as u8;
-    s[at + 1] = (value % 256) as u8;
+    let [high, low] = value.to_be_bytes();
+    s[at] = high;
+    s[at + 1] = low;
 }
 
 // Makes the 16-bit field at a place at most a limit; where that cuts it, its extended byte is 0.

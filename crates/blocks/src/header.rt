@@ -1,8 +1,10 @@
 // The font block: its checks, and the bytes that are kept.
 ghost use Rattle.std.specs.Prelude.{◌≡◌, ◌≤◌, length};
+ghost use Rattle.refusals.specs.Refusals.{numbered_result};
 ghost use Rattle.blocks.specs.Header.{plain_bytes, header_bytes, font_type, cell_width, cell_height, orientation, spacing, pitch, says_resolution, own_bytes, header_form, header_fields, both_are, header_resolution, read_header, first_bytes, fix_header, kept_header, is_kept_header, fixed_header};
 
-use crate::{Verdict, copying, field};
+use crate::field;
+use refusals::Refused;
 
 // A block has at most so many bytes; so many are kept of every header; one of format 0 has so many itself.
 pub const BLOCK_LIMIT: usize = 32767;
@@ -186,25 +188,25 @@ fn header_resolution(h: &[u8]) -> bool
 }
 
 // The checks of a font block, in document 01's order.
-pub fn read_header(block: &[u8]) -> Verdict
-    ensures { result ≡ read_header block.now }
+pub fn read_header(block: &[u8]) -> Result<(), Refused>
+    ensures { numbered_result result ≡ read_header block.now }
 {
     if block.len() < PLAIN {
-        return Verdict::Refused(3);
+        return Err(Refused::BlockLength);
     }
     if block.len() < own_bytes(block) {
-        return Verdict::Refused(3);
+        return Err(Refused::BlockLength);
     }
     if BLOCK_LIMIT < block.len() {
-        return Verdict::Refused(3);
+        return Err(Refused::BlockLength);
     }
     if !header_form(block) {
-        return Verdict::Refused(4);
+        return Err(Refused::NotTaken);
     }
     if !(header_fields(block) & header_resolution(block)) {
-        return Verdict::Refused(5);
+        return Err(Refused::FieldValue);
     }
-    Verdict::Taken
+    Ok(())
 }
 
 // Copies the bytes of an accepted block that the rules then change. A format 0 font gets its resolution.
@@ -213,9 +215,9 @@ fn copy_first(block: &[u8], out: &mut [u8])
     ensures { out.new ≡ first_bytes block.now }
 {
     if says_resolution(block) {
-        copying::copy_front(block, out);
+        out.copy_from_slice(&block[..KEPT]);
     } else {
-        copying::copy_front(block, &mut out[..PLAIN]);
+        out[..PLAIN].copy_from_slice(&block[..PLAIN]);
         field::put_word(out, X_RESOLUTION_AT, COARSE_RESOLUTION);
         field::put_word(out, Y_RESOLUTION_AT, COARSE_RESOLUTION);
     }

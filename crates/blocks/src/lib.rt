@@ -2,13 +2,5 @@
 #![tactic(auto)]
 
 pub mod character;
-mod copying;
 pub mod field;
 pub mod header;
-
-// What the checks of a block say: taken, or refused with document 01's number.
-#[derive(Clone, Copy)]
-pub enum Verdict {
-    Taken,
-    Refused(u8),
-}

@@ -27,11 +27,12 @@ use Rattle.form.proofs.Counts.{counts_true}
 use Rattle.choice.specs.Lists.{In}
 use Rattle.choice.specs.Candidates.{Candidate, of_both}
 use Rattle.choice.specs.Request.{in_range}
-use Rattle.choice.specs.Steps.{choice}
+use Rattle.choice.specs.Steps.{Choice, chosen, choice}
 use Rattle.choice.specs.Choosing.{choosing_among, choosing_from_two, which_of}
 use Rattle.choice.specs.declared.Request.{Request}
-use Rattle.choice.specs.declared.Chosen.{Chosen}
-use Rattle.choice.specs.declared.Chosen.TheVariants.{Number, NotStore, OutOfRange, NoFont}
+use Rattle.std.specs.Prelude.{Ok, Err}
+use Rattle.refusals.specs.declared.Refused.TheVariants.{NotStore, OutOfRange}
+use Rattle.refusals.proofs.Numbers.{number_some}
 use Rattle.choice.proofs.Members.{font_in_lem, soft_in, cartridge_in}
 use Rattle.choice.proofs.Choice.{choice_in}
 use Rattle.cartridge.specs.Cartridge.{chosen_place, record_answer, answering_from_two, MemoryPart, fits, record_part, Gives, of_soft, of_cartridge, nothing, GivesRecord}
@@ -115,29 +116,29 @@ font_stands s f m = go (decode s) refl
         rw i (front s at f.number f.kept (below k rs) (from (k + 1) rs) w refl c (split_rest (drop at s) (font f.number f.kept) (from (k + 1) rs) t).0)
 
 -- ── what is chosen is one of the fonts of both stores, and stands at its place
-chosen_in : (s t : List ℕ) (r : Request) (p : Bool) (n : ℕ) → choosing_from_two s t r ≡ Number p n → (c : Candidate) × In c (of_both (fonts_of s) (fonts_of t)) × (c.soft ≡ p) × (c.number ≡ n)
+chosen_in : (s t : List ℕ) (r : Request) (p : Bool) (n : ℕ) → choosing_from_two s t r ≡ chosen p n → (c : Candidate) × In c (of_both (fonts_of s) (fonts_of t)) × (c.soft ≡ p) × (c.number ≡ n)
 unfolding choosing_from_two choosing_among
 chosen_in s t r p n e = go (is_store s && is_store t) (in_range r) e
   where
-    go : (a b : Bool) → cond a (cond b (choice r (of_both (fonts_of s) (fonts_of t))) OutOfRange) NotStore ≡ Number p n
+    go : (a b : Bool) → cond a (cond b (choice r (of_both (fonts_of s) (fonts_of t))) (Err OutOfRange)) (Err NotStore) ≡ chosen p n
         → (c : Candidate) × In c (of_both (fonts_of s) (fonts_of t)) × (c.soft ≡ p) × (c.number ≡ n)
     go true true q = choice_in r (of_both (fonts_of s) (fonts_of t)) p n q
     go true false q = let z : ◌≡◌ {A = ℕ} 0 1 = cc in absurd (omega arith)
     go false b q = let z : ◌≡◌ {A = ℕ} 0 1 = cc in absurd (omega arith)
 
 -- a font of both stores stands at its place in its own
-pub stands_in : (s t : List ℕ) (c : Candidate) → In c (of_both (fonts_of s) (fonts_of t)) → FontStands (cond c.soft s t) (chosen_place s t (Number c.soft c.number)) c.number c.kept
+pub stands_in : (s t : List ℕ) (c : Candidate) → In c (of_both (fonts_of s) (fonts_of t)) → FontStands (cond c.soft s t) (chosen_place s t (chosen c.soft c.number)) c.number c.kept
 stands_in s t c m = go c.soft refl
   where
-    go : (p : Bool) → c.soft ≡ p → FontStands (cond p s t) (chosen_place s t (Number p c.number)) c.number c.kept
+    go : (p : Bool) → c.soft ≡ p → FontStands (cond p s t) (chosen_place s t (chosen p c.number)) c.number c.kept
     go true q = font_stands s _ (font_in_lem true (fonts_of s) c (soft_in (fonts_of s) (fonts_of t) c m q))
     go false q = font_stands t _ (font_in_lem false (fonts_of t) c (cartridge_in (fonts_of s) (fonts_of t) c m q))
 
-chosen_stands : (s t : List ℕ) (r : Request) (p : Bool) (n : ℕ) → choosing_from_two s t r ≡ Number p n → (h : List ℕ) × FontStands (cond p s t) (chosen_place s t (Number p n)) n h
+chosen_stands : (s t : List ℕ) (r : Request) (p : Bool) (n : ℕ) → choosing_from_two s t r ≡ chosen p n → (h : List ℕ) × FontStands (cond p s t) (chosen_place s t (chosen p n)) n h
 chosen_stands s t r p n e =
     let c = chosen_in s t r p n e in
     let h = c.0.kept in
-    (h, subst (λ (x : ℕ). FontStands (cond p s t) (chosen_place s t (Number p x)) x h) c.3 (subst (λ (q : Bool). FontStands (cond q s t) (chosen_place s t (Number q c.0.number)) c.0.number h) c.2 (stands_in s t c.0 c.1)))
+    (h, subst (λ (x : ℕ). FontStands (cond p s t) (chosen_place s t (chosen p x)) x h) c.3 (subst (λ (q : Bool). FontStands (cond q s t) (chosen_place s t (chosen q c.0.number)) c.0.number h) c.2 (stands_in s t c.0 c.1)))
 
 -- ── the part
 fitting : (n at : ℕ) → at + font_record ≤ n → fits n at ≡ true
@@ -145,19 +146,19 @@ unfolding fits
 fitting n at l = rw (le-leb font_record n (omega arith), le-leb at (n - font_record) (omega arith))
 
 module _ (soft cartridge : MemoryPart) where
-  abbrev Given : Chosen → Type 0
+  abbrev Given : Choice → Type 0
   Given v = Gives soft cartridge (record_answer soft.bytes cartridge.bytes v) (record_part soft cartridge (record_answer soft.bytes cartridge.bytes v))
 
   module _ (r : Request) (n : ℕ) where
-    by_soft : choosing_from_two soft.bytes cartridge.bytes r ≡ Number true n → Given (Number true n)
+    by_soft : choosing_from_two soft.bytes cartridge.bytes r ≡ chosen true n → Given (chosen true n)
     unfolding record_answer record_part
     by_soft e = let f = chosen_stands soft.bytes cartridge.bytes r true n e in of_soft refl refl (record { part = rw (fitting _ _ f.1.whole); kept = f.0; stands = f.1 })
 
-    by_cartridge : choosing_from_two soft.bytes cartridge.bytes r ≡ Number false n → Given (Number false n)
+    by_cartridge : choosing_from_two soft.bytes cartridge.bytes r ≡ chosen false n → Given (chosen false n)
     unfolding record_answer record_part
     by_cartridge e = let f = chosen_stands soft.bytes cartridge.bytes r false n e in of_cartridge refl refl (record { part = rw (fitting _ _ f.1.whole); kept = f.0; stands = f.1 })
 
-  by_refusal : (v : Chosen) → ((record_answer soft.bytes cartridge.bytes v).refusal ≡ 0 → ⊥) → which_of v ≡ 0 → Given v
+  by_refusal : (v : Choice) → ((record_answer soft.bytes cartridge.bytes v).refusal ≡ 0 → ⊥) → which_of v ≡ 0 → Given v
   unfolding record_answer record_part
   by_refusal v o e = nothing o (rw e)
 
@@ -165,9 +166,10 @@ pub gives_record : GivesRecord
 unfolding answering_from_two
 gives_record soft cartridge r = go (choosing_from_two soft.bytes cartridge.bytes r) refl
   where
-    go : (v : Chosen) → choosing_from_two soft.bytes cartridge.bytes r ≡ v → Given soft cartridge v
-    go (Number true n) e = by_soft soft cartridge r n e
-    go (Number false n) e = by_cartridge soft cartridge r n e
-    go NotStore e = by_refusal soft cartridge NotStore (unfold record_answer in λ z. omega (arith, z)) refl
-    go OutOfRange e = by_refusal soft cartridge OutOfRange (unfold record_answer in λ z. omega (arith, z)) refl
-    go NoFont e = by_refusal soft cartridge NoFont (unfold record_answer in λ z. omega (arith, z)) refl
+    go : (v : Choice) → choosing_from_two soft.bytes cartridge.bytes r ≡ v → Given soft cartridge v
+    go (Ok c) e = by_store c.soft c.number e
+      where
+        by_store : (p : Bool) (n : ℕ) → choosing_from_two soft.bytes cartridge.bytes r ≡ chosen p n → Given soft cartridge (chosen p n)
+        by_store true n e = by_soft soft cartridge r n e
+        by_store false n e = by_cartridge soft cartridge r n e
+    go (Err k) e = by_refusal soft cartridge (Err k) (unfold record_answer in λ z. omega (arith, z, number_some k)) refl

@@ -1,24 +1,20 @@
 -- Document 02, W-208, "The old cartridge as a second place": the choice from two stores, and the chosen font's record.
-use Rattle.std.specs.Prelude.{ℕ, ◌+◌, ◌-◌, ◌≡◌, List, Bool, true, false, cond, ◌&&◌, length, take, drop, eqb, leb}
+use Rattle.std.specs.Prelude.{ℕ, ◌+◌, ◌-◌, ◌≡◌, List, Bool, cond, ◌&&◌, length, take, drop, eqb, leb, Ok, Err}
 use Rattle.std.specs.Borrow.{Bor}
 use Rattle.form.specs.Layout.{font_record}
 use Rattle.form.specs.Records.{records_in, font_place, FontStands}
+use Rattle.choice.specs.Steps.{Choice}
 use Rattle.choice.specs.Choosing.{choosing_from_two, refusal_of, font_of, which_of}
 use Rattle.choice.specs.declared.Request.{Request}
-use Rattle.choice.specs.declared.Chosen.{Chosen}
-use Rattle.choice.specs.declared.Chosen.TheVariants.{Number, NotStore, OutOfRange, NoFont}
 use Rattle.cartridge.specs.declared.RecordAnswer.{RecordAnswer}
 
 -- "the record's place in it", 0 for a refusal
-abbrev pub chosen_place : List ℕ → List ℕ → Chosen → ℕ
-chosen_place soft cartridge (Number true n) = font_place n (records_in soft)
-chosen_place soft cartridge (Number false n) = font_place n (records_in cartridge)
-chosen_place soft cartridge NotStore = 0
-chosen_place soft cartridge OutOfRange = 0
-chosen_place soft cartridge NoFont = 0
+abbrev pub chosen_place : List ℕ → List ℕ → Choice → ℕ
+chosen_place soft cartridge (Ok c) = font_place c.number (records_in (cond c.soft soft cartridge))
+chosen_place soft cartridge (Err r) = 0
 
 -- the numbers of an answer: "says which store that is (1 soft, 2 cartridge) and, for the C spooler, the record's place in it"
-unfoldable pub record_answer : List ℕ → List ℕ → Chosen → RecordAnswer
+unfoldable pub record_answer : List ℕ → List ℕ → Choice → RecordAnswer
 record_answer soft cartridge a = record { refusal = refusal_of a; font = font_of a; which = which_of a; place = chosen_place soft cartridge a }
 
 unfoldable pub answering_from_two : List ℕ → List ℕ → Request → RecordAnswer

@@ -1,23 +1,23 @@
 // W-208, the old cartridge as a second place: the choice from two stores, with the chosen font's record as a part of whichever holds it.
 #![tactic(auto)]
 
-ghost use Rattle.std.specs.Prelude.{◌≡◌, Bool, cond, List, ℕ, ◌-◌};
-ghost use Rattle.form.specs.Layout.{font_kept_at};
-ghost use Rattle.choice.specs.declared.Chosen.TheVariants.{Number};
-ghost use Rattle.cartridge.specs.Cartridge.{chosen_place, record_answer, answering_from_two, part_of, fits, record_part};
+ghost use Rattle.std.specs.Prelude.{◌≡◌, IfOk};
+ghost use Rattle.choice.specs.Choosing.{choosing_from_two};
+ghost use Rattle.choice.specs.Scores.{picked_choice, PickedAt};
+ghost use Rattle.cartridge.specs.Cartridge.{answering_from_two, part_of, fits, record_part};
 
-use choice::{Chosen, Request};
+use choice::{Picked, Request};
 use form::layout::{FONT_KEPT_AT, FONT_RECORD};
 use form::records;
-use form::records::Begin;
+use refusals::Refused;
 
 const SOFT: u32 = 1;
 
 const CARTRIDGE: u32 = 2;
 
-// The numbers of an answer: the chosen font, the store that holds it, 1 soft or 2 cartridge, and its record's place there; or the refusal.
+// The numbers of an answer, as C lays them out: the chosen font, the store that holds it, 1 soft or 2 cartridge, and its record's place there; or the refusal.
 #[repr(C)]
-#[derive(Clone, Copy)]
+#[derive(Clone, Copy, Debug, PartialEq, Eq)]
 pub struct RecordAnswer {
     pub refusal: u32,
     pub font: u32,
@@ -32,63 +32,34 @@ pub struct ChosenRecord<'a> {
     pub answer: RecordAnswer,
 }
 
-// Where a record begins whose kept bytes stand at a place, 0 if there is no room for what comes before them.
-fn record_place(kept: usize) -> u64
-    ensures { result ≡ kept - font_kept_at }
+// The font that is chosen from two buffers. Each is checked once and its fonts are passed over once.
+fn pick_from_two(soft: &[u8], cartridge: &[u8], r: Request) -> Result<Picked, Refused>
+    ensures chosen { picked_choice result ≡ choosing_from_two soft.now cartridge.now r }
+    ensures stands { IfOk result (PickedAt soft.now cartridge.now) }
 {
-    if kept < FONT_KEPT_AT {
-        return 0;
-    }
-    (kept - FONT_KEPT_AT) as u64
+    let a = records::begin_records(soft).ok_or(Refused::NotStore)?;
+    let b = records::begin_records(cartridge).ok_or(Refused::NotStore)?;
+    choice::choose_among_two(soft, a, cartridge, b, r)
 }
 
-fn refused(k: u32) -> RecordAnswer
-    ensures { result ≡ record { refusal = k; font = 0; which = 0; place = 0 } }
-{
-    RecordAnswer {
-        refusal: k,
-        font: 0,
-        which: 0,
-        place: 0,
-    }
-}
-
-fn which_of(soft: bool) -> u32
-    ensures { result ≡ cond soft 1 2 }
-{
-    if soft { SOFT } else { CARTRIDGE }
-}
-
-// The numbers that a choice from any two stores answers, if the record of the font that it names begins at this place.
-fn answer_by(c: Chosen, place: u64) -> RecordAnswer
-    ensures { (s t : List ℕ) → ((p : Bool) (n : ℕ) → c ≡ Number p n → place ≡ chosen_place s t c) → result ≡ record_answer s t c }
-{
-    match c {
-        Chosen::Number { soft, number } => RecordAnswer {
-            refusal: 0,
-            font: number,
-            which: which_of(soft),
-            place,
-        },
-        Chosen::NotStore => refused(1),
-        Chosen::OutOfRange => refused(2),
-        Chosen::NoFont => refused(11),
-    }
-}
-
-// The numbers of the choice from two stores: all that C is told. Each store is checked once and its fonts are passed over once.
+// The numbers of the choice from two stores: all that C is told.
 pub fn answer_from_two<'a>(soft: &'a [u8], cartridge: &'a [u8], r: Request) -> RecordAnswer
     ensures { result ≡ answering_from_two soft.now cartridge.now r }
 {
-    let Begin::At(a) = records::begin_records(soft) else {
-        return refused(1);
-    };
-    let Begin::At(b) = records::begin_records(cartridge) else {
-        return refused(1);
-    };
-    let p = choice::choose_among_two(soft, a, cartridge, b, r);
-    let c = p.chosen;
-    answer_by(c, record_place(p.kept))
+    match pick_from_two(soft, cartridge, r) {
+        Ok(p) => RecordAnswer {
+            refusal: 0,
+            font: p.chosen.number,
+            which: if p.chosen.soft { SOFT } else { CARTRIDGE },
+            place: (p.kept - FONT_KEPT_AT) as u64,
+        },
+        Err(refusal) => RecordAnswer {
+            refusal: u32::from(refusal),
+            font: 0,
+            which: 0,
+            place: 0,
+        },
+    }
 }
 
 // Whether a record that begins at a place ends within n bytes.
@@ -105,15 +76,17 @@ fn ends_within(n: usize, place: u64) -> bool
 pub fn record_of<'a>(soft: &'a [u8], cartridge: &'a [u8], a: RecordAnswer) -> &'a [u8]
     ensures { part_of result ≡ record_part (part_of soft.entry) (part_of cartridge.entry) a }
 {
-    if (a.which == SOFT) & ends_within(soft.len(), a.place) {
-        let at = a.place as usize;
-        return &soft[at..at + FONT_RECORD];
+    let none = &soft[..0];
+    let store = match a.which {
+        SOFT => soft,
+        CARTRIDGE => cartridge,
+        _ => return none,
+    };
+    if !ends_within(store.len(), a.place) {
+        return none;
     }
-    if (a.which == CARTRIDGE) & ends_within(cartridge.len(), a.place) {
-        let at = a.place as usize;
-        return &cartridge[at..at + FONT_RECORD];
-    }
-    &soft[..0]
+    let at = a.place as usize;
+    &store[at..at + FONT_RECORD]
 }
 
 // "The answer gives the chosen font's record itself, as the part of whichever store holds it, without copying".
@@ -121,9 +94,8 @@ pub fn choose_from_two<'a>(soft: &'a [u8], cartridge: &'a [u8], r: Request) -> C
     ensures { (result.answer ≡ answering_from_two soft.now cartridge.now r) × (part_of result.part ≡ record_part (part_of soft.entry) (part_of cartridge.entry) result.answer) }
 {
     let answer = answer_from_two(soft, cartridge, r);
-    let part = record_of(soft, cartridge, answer);
     ChosenRecord {
-        part: part,
-        answer: answer,
+        part: record_of(soft, cartridge, answer),
+        answer,
     }
 }

@@ -1,11 +1,13 @@
 -- Laws of writing bytes. Assumes nothing.
 use mathlib.Core.Path.{◌≡◌, refl, sym, ap, ◌∙◌}
 use mathlib.Core.List.{List, [], ◌∷◌, ◌++◌, append_assoc, append-nil}
-use Prim.Native.Nat.{ℕ, ◌+◌, ◌/◌, ◌%◌, ◌<◌, ◌≤◌}
+use Prim.Native.Nat.{ℕ, zero, suc, ◌^◌, ◌+◌, ◌/◌, ◌%◌, ◌<◌, ◌≤◌}
 use native.Mathlib.Omega.{arith}
 use native.Mathlib.Numerals.{add-one}
 use lib.ListN.{length, get_or, take, drop, set, length-append, length-take, length-drop, take-append-drop}
 use lib.Seq.{paste, paste-suc, sets-eq, take_at, drop_at, drop-drop, drop-append-add, length-take-le}
+use Rattle.std.specs.Int.{w64, to_le_bytes, bytes_low_first}
+use Rattle.std.proofs.Math.Nat.{div-div-eq-div-mul, pow-suc}
 use Rattle.form.specs.Num.{low_first, word_end}
 use Rattle.change.specs.Put.{with_bytes}
 
@@ -33,18 +35,6 @@ put_put s at a b i e h =
     let m : at + length (a ++ b) ≡ at + length a + length b = omega (arith, length-append a b) in
     rw (q, t, d, m) (simp append_assoc)
 
-pub put_two : (s : List ℕ) (at v : ℕ) → at + 2 ≤ length s → v < word_end → set (set s at (v % 256)) (at + 1) (v / 256) ≡ with_bytes s at (low_first 2 v)
-unfolding with_bytes low_first
-put_two s at v h l =
-    let q : v / 256 % 256 ≡ v / 256 = omega arith in
-    rw (q, add-one) (sets-eq (v % 256 ∷ v / 256 ∷ []) s at h ∙ append_assoc (take at s) (v % 256 ∷ v / 256 ∷ []) (drop (at + 2) s))
-
-pub copy_turn : (d s b : List ℕ) (at i : ℕ) → s ≡ paste d at b i → i < length b → at + length b ≤ length d → set s (at + i) (get_or b i 0) ≡ paste d at b (i + 1)
-copy_turn d s b at i e lt h = rw (e, add-one) (paste-suc d at b i 0 (omega arith) lt)
-
-pub copy_end : (d s b : List ℕ) (at i : ℕ) → s ≡ paste d at b i → i ≤ length b → length b ≤ i → s ≡ with_bytes d at b
-copy_end d s b at i e x y = let q : i ≡ length b = omega arith in (rw q at e) ∙ put_paste d at b
-
 pub put_nil : (s : List ℕ) (at : ℕ) → with_bytes s at [] ≡ s
 unfolding with_bytes
 put_nil s at = let e : at + 0 ≡ at = omega arith in rw e (take-append-drop at s)
@@ -55,3 +45,19 @@ unfolding with_bytes
 put_mid A B C D at a e =
     let l : length (A ++ B) ≡ at + length D = omega (arith, length-append A B) in
     rw (take_at A (B ++ C) at a, ← (append_assoc A B C), drop_at (A ++ B) C (at + length D) l)
+
+-- the k lowest bytes of w, as the library has them: bytes of v from the i-th on
+bytes_from : (k n i v w : ℕ) → k ≤ n → w ≡ v / 256 ^ i → take k (bytes_low_first i n v) ≡ low_first k w
+unfolding low_first
+bytes_from zero n i v w h e = refl
+bytes_from (suc k) zero i v w h e = absurd (omega arith)
+bytes_from (suc k) (suc n) zero v w h e =
+    let s : w ≡ v = omega arith in
+    let q : w / 256 ≡ v / 256 ^ 1 = ap (λ (x : ℕ). x / 256) s in
+    rw (bytes_from k n 1 v (w / 256) (omega arith) q, s)
+bytes_from (suc k) (suc n) (suc i) v w h e =
+    let q : w / 256 ≡ v / 256 ^ suc (suc i) = ap (λ (x : ℕ). x / 256) e ∙ div-div-eq-div-mul v (256 ^ suc i) 256 ∙ ap (λ (x : ℕ). v / x) (sym (pow-suc 256 (suc i))) in
+    rw (bytes_from k n (suc (suc i)) v (w / 256) (omega arith) q, e)
+
+pub bytes_of_number : (k v : ℕ) → k ≤ 8 → take k (to_le_bytes w64 v) ≡ low_first k v
+bytes_of_number k v h = bytes_from k 8 0 v v h (omega arith)

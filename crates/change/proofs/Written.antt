@@ -26,43 +26,6 @@ pub mid_put : (s : List ℕ) (a e : ℕ) (b : List ℕ) → a ≤ e → length b
 unfolding with_bytes
 mid_put s a e b l q = let i : a + length b ≡ e = omega arith in rw (Post-is a e s l, i)
 
--- four bytes by two and two
-pub four_put : (s : List ℕ) (at v : ℕ) → at + 4 ≤ length s → v < double_end → with_bytes (with_bytes s at (low_first 2 (v % word_end))) (at + 2) (low_first 2 (v / word_end)) ≡ with_bytes s at (low_first 4 v)
-unfolding low_first
-four_put s at v h l =
-    let q : v / word_end ≡ v / 256 / 256 = omega arith in
-    let m : v % word_end ≡ v % 256 + 256 * (v / 256 % 256) = omega arith in
-    let a : (v % 256 + 256 * (v / 256 % 256)) % 256 ≡ v % 256 = low (v % 256) (v / 256 % 256) (omega arith) in
-    let b : (v % 256 + 256 * (v / 256 % 256)) / 256 ≡ v / 256 % 256 = high (v % 256) (v / 256 % 256) (omega arith) in
-    let c : v / 256 % 256 % 256 ≡ v / 256 % 256 = omega arith in
-    put_put s at (low_first 2 (v % word_end)) (low_first 2 (v / word_end)) (at + 2) (omega arith) (omega arith) ∙ rw (q, m) (rw (a, b, c))
-
-digit : (v m k : ℕ) → v % m ≡ v % 256 + 256 * k → (v % m % 256 ≡ v % 256) × (v % m / 256 ≡ k)
-digit v m k e = (ap (λ (x : ℕ). x % 256) e ∙ low (v % 256) k (omega arith), ap (λ (x : ℕ). x / 256) e ∙ high (v % 256) k (omega arith))
-
-le_parts : (v : ℕ) → low_first 4 (v % double_end) ++ low_first 4 (v / double_end) ≡ low_first 8 v
-unfolding low_first
-le_parts v =
-    let w : ℕ = v / 256 in
-    let x : ℕ = w / 256 in
-    let y : ℕ = x / 256 in
-    let a = digit v 4294967296 (w % 16777216) (omega arith) in
-    let b = digit w 16777216 (x % 65536) (omega arith) in
-    let c = digit x 65536 (y % 256) (omega arith) in
-    let d : y % 256 % 256 ≡ y % 256 = omega arith in
-    let q : v / 4294967296 ≡ v / 256 / 256 / 256 / 256 = omega arith in
-    rw (a.0, a.1, b.0, b.1, c.0, c.1, d, q)
-
-length_four : (v : ℕ) → length (low_first 4 v) ≡ 4
-unfolding low_first
-length_four v = refl
-
--- eight bytes by four and four
-pub eight_put : (s : List ℕ) (at v : ℕ) → at + 8 ≤ length s → with_bytes (with_bytes s at (low_first 4 (v % double_end))) (at + 4) (low_first 4 (v / double_end)) ≡ with_bytes s at (low_first 8 v)
-eight_put s at v h =
-    put_put s at (low_first 4 (v % double_end)) (low_first 4 (v / double_end)) (at + 4) (omega (arith, length_four (v % double_end))) (omega (arith, length_four (v % double_end), length_four (v / double_end)))
-    ∙ ap (with_bytes s at) (le_parts v)
-
 pub tally_put : (s : List ℕ) (at : ℕ) (t : Tally) → at + font_kept_at ≤ length s
     → with_bytes (with_bytes s (at + font_characters_at) (low_first 2 t.characters)) (at + font_bytes_at) (low_first 4 t.bytes) ≡ with_bytes s (at + font_characters_at) (tally_bytes t)
 unfolding tally_bytes low_first
@@ -80,17 +43,14 @@ font_put s at n t h l e =
     )
 
 -- ── a character's record
-pub head_put : (s : List ℕ) (at len n c : ℕ) → at + character_kept_at ≤ length s → len < word_end
-    → with_bytes (with_bytes (with_bytes (with_bytes (with_bytes s at (low_first 2 len)) (at + 2) (low_first 2 0)) (at + kind_at) (low_first 2 character_kind)) (at + number_at) (low_first 2 n)) (at + code_at) (low_first 2 c) ≡ with_bytes s at (character_head len n c)
+pub head_put : (s : List ℕ) (at len n c : ℕ) → at + character_kept_at ≤ length s
+    → with_bytes (with_bytes (with_bytes (with_bytes s at (low_first 4 len)) (at + kind_at) (low_first 2 character_kind)) (at + number_at) (low_first 2 n)) (at + code_at) (low_first 2 c) ≡ with_bytes s at (character_head len n c)
 unfolding character_head low_first
-head_put s at len n c h l =
-    let q : len / 256 / 256 ≡ 0 = omega arith in
+head_put s at len n c h =
     rw (
-      put_put s at (low_first 2 len) (low_first 2 0) (at + 2) (omega arith) (omega arith),
-      put_put s at (low_first 2 len ++ low_first 2 0) (low_first 2 character_kind) (at + kind_at) (omega arith) (omega arith),
-      put_put s at ((low_first 2 len ++ low_first 2 0) ++ low_first 2 character_kind) (low_first 2 n) (at + number_at) (omega arith) (omega arith),
-      put_put s at (((low_first 2 len ++ low_first 2 0) ++ low_first 2 character_kind) ++ low_first 2 n) (low_first 2 c) (at + code_at) (omega arith) (omega arith),
-      q,
+      put_put s at (low_first 4 len) (low_first 2 character_kind) (at + kind_at) (omega arith) (omega arith),
+      put_put s at (low_first 4 len ++ low_first 2 character_kind) (low_first 2 n) (at + number_at) (omega arith) (omega arith),
+      put_put s at ((low_first 4 len ++ low_first 2 character_kind) ++ low_first 2 n) (low_first 2 c) (at + code_at) (omega arith) (omega arith),
     )
 
 pub char_put : (s : List ℕ) (at n c : ℕ) (h d : List ℕ) → length h ≡ descriptor_bytes → at + character_record + length d ≤ length s

@@ -1,9 +1,10 @@
 -- For the code alone: how a buffer is changed.
-use Rattle.std.specs.Prelude.{ℕ, ◌+◌, ◌-◌, ◌≤◌, ◌<◌, ◌≡◌, List, ◌++◌, cond, eqb, length, take, drop, replicate}
+use Rattle.std.specs.Prelude.{ℕ, ◌+◌, ◌-◌, ◌≤◌, ◌<◌, ◌≡◌, List, ◌++◌, cond, eqb, length, take, drop, replicate, Option, Some, None}
 use Rattle.form.specs.Layout.{most_store, font_characters_at, font_kept_at, character_record, mark_code_at, mark_font_at, mark_on_at}
 use Rattle.form.specs.Num.{◌and◌, word_end, double_end, low_first, field}
 use Rattle.form.specs.Model.{Mark, tally_bytes, tally_in, shut}
 use Rattle.form.specs.declared.tally.Tally.{Tally}
+use Rattle.change.specs.declared.CharacterId.{CharacterId}
 use Rattle.change.specs.Put.{with_bytes}
 
 -- the old bytes at `at` given the length new: what is behind them, up to used, moves, and what that frees is 0
@@ -34,6 +35,14 @@ pub record Recounting (s : List ℕ) (at old new : ℕ) : Type 0 where
   pub bytes : (tally_by old).bytes ≤ (tally_in (drop at s)).bytes
   pub few : (tally_in (drop at s)).characters + (tally_by new).characters < word_end
   pub short : (tally_in (drop at s)).bytes + (tally_by new).bytes < double_end
+
+-- the open mark that names a character, or none, and the character that an open mark names
+abbrev pub mark_of : Option CharacterId → Mark
+mark_of None = shut
+mark_of (Some id) = record { on = 1; font_of = id.font; code_of = id.code }
+
+abbrev pub named_by : Mark → Option CharacterId
+named_by m = cond (eqb m.on 1) (Some (record { font = m.font_of; code = m.code_of })) None
 
 -- the open mark of a buffer's first record made m
 unfoldable pub remarked : Mark → List ℕ → List ℕ

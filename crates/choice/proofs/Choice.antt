@@ -1,17 +1,24 @@
 -- The choice depends on nothing but which fonts there are, and it stands if fonts that were not chosen go. Assumes nothing.
-use Rattle.std.proofs.Common.{◌≡◌, ℕ, suc, ◌<◌, ◌≤◌, Bool, true, false, ◌⊎◌, List, [], ◌∷◌, sym, refl, ap, ◌∙◌, inl, inr, ⊎_elim, le_antisymm, arith}
+use Rattle.std.proofs.Common.{◌≡◌, ℕ, suc, ◌<◌, ◌≤◌, Bool, true, false, ◌⊎◌, Err, List, [], ◌∷◌, sym, refl, ap, ◌∙◌, inl, inr, ⊎_elim, le_antisymm, arith}
 use Rattle.form.specs.Fonts.{Font, RisingFrom}
 use Rattle.choice.specs.Candidates.{Candidate, candidates, of_both}
 use Rattle.choice.specs.Lists.{In}
 use Rattle.choice.specs.Fields.{is_fixed, is_fine, compared_pitch, compared_height, weight_of}
-use Rattle.choice.specs.Steps.{has_set, in_mode, has_spacing, qualifies, height_off, has_style, exact, is_thicker, is_thinner, has_typeface, has_orientation, fonts_left, first_number, choice, takes_part}
+use Rattle.choice.specs.Steps.{has_set, in_mode, has_spacing, qualifies, height_off, has_style, exact, is_thicker, is_thinner, has_typeface, has_orientation, fonts_left, first_number, choice, takes_part, chosen}
 use Rattle.choice.specs.Scores.{miss, pitch_score, weight_score, major_of, minor_of, score_of}
 use Rattle.choice.specs.Right.{Keyed}
 use Rattle.choice.specs.declared.Request.{Request}
-use Rattle.choice.specs.declared.Chosen.TheVariants.{Number, NoFont}
+use Rattle.refusals.specs.declared.Refused.TheVariants.{NoneToChoose}
+use Rattle.choice.specs.declared.Chosen.{Chosen}
 use Rattle.choice.proofs.Least.{whether, not_both, miss_bound}
 use Rattle.choice.proofs.Steps.{Before, is_left}
 use Rattle.choice.proofs.Members.{in_left, font_in_lem, candidate_in, soft_in, cartridge_in}
+
+-- two answers that name a font name the same one
+pub same_chosen : (p q : Bool) (n m : ℕ) → chosen p n ≡ chosen q m → (p ≡ q) × (n ≡ m)
+same_chosen p q n m e =
+    let x : ◌≡◌ {A = Chosen} (record { soft = p; number = n }) (record { soft = q; number = m }) = cc in
+    (ap (λ (c : Chosen). c.soft) x, ap (λ (c : Chosen). c.number) x)
 
 module _ (r : Request) where
   -- two that are level are of one store and have one number
@@ -45,24 +52,24 @@ module _ (r : Request) where
       level l kd x y ((is_left r l).base x mx).0 ((is_left r l).base y my).0
       ((is_left r l).low x y mx ((is_left r l).base y my)) ((is_left r l).low y x my ((is_left r l).base x mx))
 
-  pub choice_is : (l : List Candidate) → Keyed l → (c : Candidate) → In c (fonts_left r l) → choice r l ≡ Number c.soft c.number
+  pub choice_is : (l : List Candidate) → Keyed l → (c : Candidate) → In c (fonts_left r l) → choice r l ≡ chosen c.soft c.number
   unfolding choice first_number
   choice_is l kd c m = go (fonts_left r l) (λ x mx. only_one l kd x c mx m) m
     where
-      go : (k : List Candidate) → ((x : Candidate) → In x k → x ≡ c) → In c k → first_number k ≡ Number c.soft c.number
+      go : (k : List Candidate) → ((x : Candidate) → In x k → x ≡ c) → In c k → first_number k ≡ chosen c.soft c.number
       go [] h mc = absurd mc
-      go (f ∷ k) h mc = ap (λ (x : Candidate). Number x.soft x.number) (h f (inl refl))
+      go (f ∷ k) h mc = ap (λ (x : Candidate). chosen x.soft x.number) (h f (inl refl))
 
   -- what is named is left, and so is one of the fonts
-  choice_left : (l : List Candidate) (p : Bool) (n : ℕ) → choice r l ≡ Number p n → (c : Candidate) × In c (fonts_left r l) × (c.soft ≡ p) × (c.number ≡ n)
+  choice_left : (l : List Candidate) (p : Bool) (n : ℕ) → choice r l ≡ chosen p n → (c : Candidate) × In c (fonts_left r l) × (c.soft ≡ p) × (c.number ≡ n)
   unfolding choice first_number
   choice_left l p n e = go (fonts_left r l) e
     where
-      go : (k : List Candidate) → first_number k ≡ Number p n → (c : Candidate) × In c k × (c.soft ≡ p) × (c.number ≡ n)
+      go : (k : List Candidate) → first_number k ≡ chosen p n → (c : Candidate) × In c k × (c.soft ≡ p) × (c.number ≡ n)
       go [] q = let z : ◌≡◌ {A = ℕ} 0 1 = cc in absurd (omega arith)
-      go (f ∷ k) q = (f, inl refl, cc, cc)
+      go (f ∷ k) q = let e = same_chosen f.soft p f.number n q in (f, inl refl, e.0, e.1)
 
-  pub choice_in : (l : List Candidate) (p : Bool) (n : ℕ) → choice r l ≡ Number p n → (c : Candidate) × In c l × (c.soft ≡ p) × (c.number ≡ n)
+  pub choice_in : (l : List Candidate) (p : Bool) (n : ℕ) → choice r l ≡ chosen p n → (c : Candidate) × In c l × (c.soft ≡ p) × (c.number ≡ n)
   choice_in l p n e = let c = choice_left l p n e in (c.0, ((is_left r l).base c.0 c.1).0, c.2, c.3)
 
   -- a font of the cartridge that the soft store has too is not left
@@ -88,16 +95,16 @@ module _ (r : Request) where
       omega (arith, soft_minor c e, (h.1 (omega (arith, soft_major c))).0)
 
   -- either none takes part, and the answer is a refusal, or a font is left
-  pub either : (l : List Candidate) → ((choice r l ≡ NoFont) × ((x : Candidate) → In x l → takes_part r x ≡ false)) ⊎ ((c : Candidate) × In c (fonts_left r l))
+  pub either : (l : List Candidate) → ((choice r l ≡ Err NoneToChoose) × ((x : Candidate) → In x l → takes_part r x ≡ false)) ⊎ ((c : Candidate) × In c (fonts_left r l))
   unfolding choice first_number
   either l = go (fonts_left r l) (is_left r l).some
     where
       go : (k : List Candidate) → ((x : Candidate) → In x l × (takes_part r x ≡ true) → (y : Candidate) × In y k)
-          → ((first_number k ≡ NoFont) × ((x : Candidate) → In x l → takes_part r x ≡ false)) ⊎ ((c : Candidate) × In c k)
+          → ((first_number k ≡ Err NoneToChoose) × ((x : Candidate) → In x l → takes_part r x ≡ false)) ⊎ ((c : Candidate) × In c k)
       go [] s = inl (refl, λ x m. ⊎_elim (λ t. absurd (s x (m, t)).1) (λ e. e) (whether (takes_part r x)))
       go (f ∷ k) s = inr (f, inl refl)
 
-  pub choice_none : (l : List Candidate) → ((x : Candidate) → In x l → takes_part r x ≡ false) → choice r l ≡ NoFont
+  pub choice_none : (l : List Candidate) → ((x : Candidate) → In x l → takes_part r x ≡ false) → choice r l ≡ Err NoneToChoose
   choice_none l h =
       ⊎_elim (λ a. a.0)
       (λ c. absurd (not_both (takes_part r c.0) ((is_left r l).base c.0 c.1).1 (h c.0 ((is_left r l).base c.0 c.1).0))) (either l)
@@ -138,7 +145,7 @@ two_keyed a b ka kb x y mx my s h = go y.soft refl
     go false q = kb x y (cartridge_in a b x mx (s ∙ q)) (cartridge_in a b y my q) s h
 
 -- where both stores have the same fonts, a soft one is chosen
-pub soft_of_same : (r : Request) (l : List Font) (p : Bool) (n : ℕ) → choice r (of_both l l) ≡ Number p n → p ≡ true
+pub soft_of_same : (r : Request) (l : List Font) (p : Bool) (n : ℕ) → choice r (of_both l l) ≡ chosen p n → p ≡ true
 unfolding of_both
 soft_of_same r l true n e = refl
 soft_of_same r l false n e =

@@ -10,3 +10,4 @@ pub mod Asked
 pub mod Pass
 pub mod Walk
 pub mod Examples
+pub mod Refusing

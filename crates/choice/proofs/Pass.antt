@@ -1,15 +1,17 @@
 -- One pass that keeps the best so far finds the choice. Assumes nothing.
 use Rattle.std.proofs.Common.{◌≡◌, ℕ, ◌<◌, ◌≤◌, Bool, true, false, cond, ◌&&◌, ◌||◌, eqb, ltb, ◌⊎◌, List, [], ◌∷◌, ◌++◌, sym, refl, ap, ◌∙◌, inl, inr, ⊎_elim, arith, ltb-false, ltb-true, le-ltb, lt-ltb, eq-eqb, ne_eqb, eqb-true}
+use Rattle.std.specs.Prelude.{Some}
+use Rattle.std.specs.Ordering.{partial_ordering_then, nat_cmp, is_lt, is_some_and}
+use Rattle.std.specs.declared.cmp.Ordering.TheVariants.{Less, Equal, Greater}
 use borrow.Author.Tests.{eqb-false}
 use Rattle.choice.specs.Candidates.{Candidate}
 use Rattle.choice.specs.Lists.{In}
-use Rattle.choice.specs.Steps.{has_set, has_spacing, fonts_left, choice, takes_part}
+use Rattle.choice.specs.Steps.{chosen, has_set, has_spacing, fonts_left, choice, takes_part}
 use Rattle.choice.specs.Scores.{major_of, minor_of, score_of, comes_before, better, better_at, no_major, no_score, weighed, weighed_at, pass, score_answer}
 use Rattle.choice.specs.Right.{Keyed}
 use Rattle.choice.specs.declared.Request.{Request}
 use Rattle.choice.specs.declared.BestSoFar.{BestSoFar}
 use Rattle.choice.specs.declared.Score.{Score}
-use Rattle.choice.specs.declared.Chosen.TheVariants.{Number}
 use Rattle.choice.proofs.Least.{whether, carry, not_both, miss_bound}
 use Rattle.choice.proofs.Steps.{pitch_score_bound, Ahead, Before, is_left}
 use Rattle.choice.proofs.Choice.{level as level-one, choice_is, choice_none, either, stands}
@@ -120,10 +122,10 @@ module _ (r : Request) where
   passes [] b [] (nothing e) kd = simp (eq-eqb _ _ e) (sym (choice_none r [] (λ x m. absurd m)))
   passes [] b (f ∷ []) (some _ t e) kd = rw e (simp (ne_eqb (major_of r f) no_major (λ z. omega (arith, major_bound r f))) (sym one))
     where
-      one : choice r (f ∷ []) ≡ Number f.soft f.number
+      one : choice r (f ∷ []) ≡ chosen f.soft f.number
       one =
           ⊎_elim (λ a. absurd (not_both (takes_part r f) t (a.1 f (inl refl))))
-          (λ c. ⊎_elim (λ i. choice_is r (f ∷ []) kd c.0 c.1 ∙ ap (λ (x : Candidate). Number x.soft x.number) i) (λ n. absurd n) ((is_left r (f ∷ [])).base c.0 c.1).0)
+          (λ c. ⊎_elim (λ i. choice_is r (f ∷ []) kd c.0 c.1 ∙ ap (λ (x : Candidate). chosen x.soft x.number) i) (λ n. absurd n) ((is_left r (f ∷ [])).base c.0 c.1).0)
           (either r (f ∷ []))
   passes [] b (f ∷ (_ ∷ _)) hb kd = elim hb [ ]
   passes (f ∷ l) b h hb kd =
@@ -243,6 +245,22 @@ module _ (r : Request) where
   pub of_two_lists : (l k : List Candidate) → pass r (no_score true) (l ++ k) ≡ better (pass r (no_score true) l) (pass r (no_score false) k)
   unfolding Known
   of_two_lists l k = passes_joined false l k (no_score true) (inl (true, refl))
+
+-- the order of tuples of three numbers, as the library compares them, is that of scores
+by_tests : (a b c d e f : Bool)
+    → is_some_and is_lt (partial_ordering_then (partial_ordering_then (Some (cond a Less (cond b Equal Greater))) (Some (cond c Less (cond d Equal Greater)))) (Some (cond e Less (cond f Equal Greater))))
+    ≡ (a || (b && (c || (d && e))))
+by_tests true b c d e f = refl
+by_tests false true true d e f = refl
+by_tests false true false true true f = refl
+by_tests false true false true false true = refl
+by_tests false true false true false false = refl
+by_tests false true false false e f = refl
+by_tests false false c d e f = refl
+
+pub tuple_before : (s b : Score)
+    → is_some_and is_lt (partial_ordering_then (partial_ordering_then (Some (nat_cmp s.major b.major)) (Some (nat_cmp s.minor b.minor))) (Some (nat_cmp s.number b.number))) ≡ comes_before s b
+tuple_before s b = by_tests (ltb s.major b.major) (eqb s.major b.major) (ltb s.minor b.minor) (eqb s.minor b.minor) (ltb s.number b.number) (eqb s.number b.number)
 
 -- one font more, from what the code's calls give
 module _ (r : Request) (b : BestSoFar) (f : Candidate) (k : ℕ) where

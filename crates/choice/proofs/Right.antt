@@ -1,13 +1,13 @@
 -- The choice is right for any fonts of which no two of one store have one number, and stands as it should if one goes or comes. Assumes nothing.
-use Rattle.std.proofs.Common.{◌≡◌, ℕ, Bool, ◌⊎◌, List, [], ◌∷◌, sym, refl, ap, ◌∙◌, ap₂, inl, inr, ⊎_elim, arith}
+use Rattle.std.proofs.Common.{◌≡◌, ℕ, Err, Bool, ◌⊎◌, List, [], ◌∷◌, sym, refl, ap, ◌∙◌, ap₂, inl, inr, ⊎_elim, arith}
 use mathlib.Core.Bool.{Bool-discrete}
 use native.Mathlib.Decide.{ℕ_discrete}
 use Rattle.choice.specs.Candidates.{Candidate}
 use Rattle.choice.specs.Lists.{In, having}
-use Rattle.choice.specs.Steps.{fonts_left, choice, takes_part, Beats}
+use Rattle.choice.specs.Steps.{fonts_left, chosen, choice, takes_part, Beats}
 use Rattle.choice.specs.Right.{Keyed, Other, Unused, Best, Right, Reordered, Without, With, Claim}
 use Rattle.choice.specs.declared.Request.{Request}
-use Rattle.choice.specs.declared.Chosen.TheVariants.{Number, NoFont}
+use Rattle.refusals.specs.declared.Refused.TheVariants.{NoneToChoose}
 use Rattle.choice.proofs.Least.{not_both, in_having, having_out}
 use Rattle.choice.proofs.Steps.{is_left}
 use Rattle.choice.proofs.Choice.{only_one, choice_is, choice_none, either, stands}
@@ -61,7 +61,7 @@ module _ (r : Request) where
         refused = (λ e. ⊎_elim (λ a. a.1) (λ c. absurd (never c.0.soft c.0.number (sym (choice_is r l kd c.0 c.1) ∙ e))) (either r l), choice_none r l);
       }
     where
-      never : (p : Bool) (n : ℕ) → Number p n ≡ NoFont → ⊥
+      never : (p : Bool) (n : ℕ) → chosen p n ≡ Err NoneToChoose → ⊥
       never p n e = let z : ◌≡◌ {A = ℕ} 0 1 = cc in omega arith
 
   -- the same fonts in another order
@@ -69,17 +69,17 @@ module _ (r : Request) where
   reordered l k kd h = stands r l k kd (λ x. (h x).0) (λ c m. (h c).1 ((is_left r l).base c m).0)
 
   -- a font that was not chosen goes
-  pub removed : (l : List Candidate) → Keyed l → (p : Bool) (n : ℕ) (k : List Candidate) → Without p n l k → (choice r l ≡ Number p n → ⊥) → choice r k ≡ choice r l
+  pub removed : (l : List Candidate) → Keyed l → (p : Bool) (n : ℕ) (k : List Candidate) → Without p n l k → (choice r l ≡ chosen p n → ⊥) → choice r k ≡ choice r l
   removed l kd p n k h o =
       stands r l k kd (λ x m. ((h x).0 m).0)
-      (λ c m. (h c).1 (((is_left r l).base c m).0, λ s e. o (choice_is r l kd c m ∙ ap₂ Number s e)))
+      (λ c m. (h c).1 (((is_left r l).base c m).0, λ s e. o (choice_is r l kd c m ∙ ap₂ chosen s e)))
 
   -- a font comes under an unused number
   pub added : (l : List Candidate) → Keyed l → (f : Candidate) (k : List Candidate) → With f l k → Unused f.soft f.number l
-      → (choice r k ≡ choice r l) ⊎ (choice r k ≡ Number f.soft f.number)
+      → (choice r k ≡ choice r l) ⊎ (choice r k ≡ chosen f.soft f.number)
   added l kd f k h o =
       ⊎_elim (λ a. inl (sym (stands r k l kk sub (λ d m. absurd (not_both (takes_part r d) ((is_left r k).base d m).1 (a.1 d ((is_left r k).base d m).0))))))
-      (λ d. ⊎_elim (λ e. inr (choice_is r k kk d.0 d.1 ∙ ap (λ (g : Candidate). Number g.soft g.number) e))
+      (λ d. ⊎_elim (λ e. inr (choice_is r k kk d.0 d.1 ∙ ap (λ (g : Candidate). chosen g.soft g.number) e))
       (λ m. inl (sym (stands r k l kk sub (λ g mg. rw (only_one r k kk g d.0 mg d.1) m)))) ((h d.0).0 ((is_left r k).base d.0 d.1).0))
       (either r k)
     where

@@ -1,48 +1,37 @@
 -- The pass along the run of a store's records, from what the store promises of each font. Assumes nothing.
-use Rattle.std.proofs.Common.{◌≡◌, ℕ, ◌+◌, ◌-◌, Bool, true, false, cond, eqb, List, take, drop, sym, refl, ap, ◌∙◌, arith}
+use Rattle.std.proofs.Common.{◌≡◌, Result, Ok, Err, ℕ, ◌+◌, ◌-◌, Bool, true, false, cond, eqb, List, [], ◌∷◌, sym, refl, ap, ◌∙◌, arith}
+use Rattle.std.specs.Prelude.{Option as Optional, Some, None}
 use borrow.Author.Tests.{eqb-false}
 use Rattle.form.specs.Records.{Begun}
-use Rattle.form.specs.Fonts.{Font, fonts_at, fonts_of, Onward}
-use Rattle.form.specs.declared.records.Begin.{Begin}
-use Rattle.form.specs.declared.records.Begin.TheVariants.{At, NotStore}
-use Rattle.form.specs.declared.kept_fonts.NextFont.{NextFont}
-use Rattle.form.specs.declared.kept_fonts.NextFont.TheVariants.{Font as found, End}
+use Rattle.form.specs.Fonts.{Font, fonts_at, fonts_of}
 use Rattle.form.proofs.KeptFonts.{fonts_rise, fonts_begun}
 use Rattle.blocks.specs.Header.{header_bytes}
 use Rattle.choice.specs.Candidates.{Candidate, candidates, of_both}
 use Rattle.choice.specs.Request.{in_range}
 use Rattle.choice.specs.Choosing.{choosing_among, choosing}
-use Rattle.choice.specs.Steps.{takes_part}
+use Rattle.choice.specs.Steps.{Choice, chosen, takes_part}
 use Rattle.choice.specs.Right.{Keyed}
-use Rattle.choice.specs.Scores.{score_of, comes_before, better, better_at, no_major, no_score, weighed, weighed_at, pass, score_answer, kept_place, StandsAt, nowhere, here, PickedAt}
+use Rattle.choice.specs.Scores.{score_of, comes_before, better, better_at, no_major, no_score, weighed, weighed_at, pass, score_answer, kept_place, StandsAt, nowhere, here, picked_choice, PickedAt}
 use Rattle.choice.specs.declared.Request.{Request}
 use Rattle.choice.specs.declared.BestSoFar.{BestSoFar}
 use Rattle.choice.specs.declared.Score.{Score}
-use Rattle.choice.specs.declared.Picked.{Picked}
 use Rattle.choice.specs.declared.Chosen.{Chosen}
-use Rattle.choice.specs.declared.Chosen.TheVariants.{Number, NotStore as not_store_lem, OutOfRange, NoFont}
-use Rattle.choice.proofs.Least.{not_both}
-use Rattle.choice.proofs.Choice.{rising_keyed, two_keyed}
+use Rattle.choice.specs.declared.Picked.{Picked}
+use Rattle.refusals.specs.declared.Refused.{Refused}
+use Rattle.refusals.specs.declared.Refused.TheVariants.{NotStore, OutOfRange, NoneToChoose}
+use Rattle.choice.proofs.Choice.{same_chosen, rising_keyed, two_keyed}
 use Rattle.choice.proofs.Pass.{once, of_two_lists}
 
-module _ (s : List ℕ) (at : ℕ) (v : NextFont) (h : Onward s at v) where
-  -- a font was met
-  pub met : (n k next : ℕ) → v ≡ found n k next → Onward s at (found n k next)
-  met n k next e = rw e at h
-
-  -- the pass goes on with the fonts behind it
-  pub again : (n k next : ℕ) → v ≡ found n k next → (soft : Bool) (r : Request) (best new end : Score)
-      → new ≡ weighed r best (record { soft = soft; number = n; kept = take ((k + header_bytes) - k) (drop k s) }) → pass r best (candidates soft (fonts_at s at)) ≡ end
-      → pass r new (candidates soft (fonts_at s next)) ≡ end
+module _ (fonts : List Font) (soft : Bool) (r : Request) (best end : Score) (i : pass r best (candidates soft fonts) ≡ end) where
+  -- the pass goes on with the fonts behind the first
+  pub again : (f : Font) (more : List Font) → fonts ≡ f ∷ more → (new : Score) → new ≡ weighed r best (record { soft = soft; number = f.number; kept = f.kept }) → pass r new (candidates soft more) ≡ end
   unfolding pass candidates
-  again n k next e soft r best new end t i =
-      let w : (k + header_bytes) - k ≡ header_bytes = omega arith in
-      rw (t, w) (sym (ap (λ (l : List Font). pass r best (candidates soft l)) (met n k next e).0) ∙ i)
+  again f more e new t = rw t (sym (ap (λ (l : List Font). pass r best (candidates soft l)) e) ∙ i)
 
   -- no font is left
-  pub stops : v ≡ End → (soft : Bool) (r : Request) (best end : Score) → pass r best (candidates soft (fonts_at s at)) ≡ end → best ≡ end
+  pub stops : fonts ≡ [] → best ≡ end
   unfolding pass candidates
-  stops e soft r best end i = let none_left : Onward s at End = rw e at h in sym (ap (λ (l : List Font). pass r best (candidates soft l)) none_left) ∙ i
+  stops e = sym (ap (λ (l : List Font). pass r best (candidates soft l)) e) ∙ i
 
 -- ── where the best stands
 module _ (r : Request) (b : BestSoFar) (f : Candidate) (k : ℕ) where
@@ -70,14 +59,14 @@ module _ (r : Request) (b : BestSoFar) (f : Candidate) (k : ℕ) where
       go false u = x
 
 -- the score that an answer names
-named : (x : Score) (p : Bool) (n : ℕ) → score_answer x ≡ Number p n → (x.soft ≡ p) × (x.number ≡ n) × (x.major ≡ no_major → ⊥)
+named : (x : Score) (p : Bool) (n : ℕ) → score_answer x ≡ chosen p n → (x.soft ≡ p) × (x.number ≡ n) × (x.major ≡ no_major → ⊥)
 named x p n e = go (eqb x.major no_major) refl e
   where
-    go : (t : Bool) → eqb x.major no_major ≡ t → cond t NoFont (Number x.soft x.number) ≡ Number p n → (x.soft ≡ p) × (x.number ≡ n) × (x.major ≡ no_major → ⊥)
+    go : (t : Bool) → eqb x.major no_major ≡ t → cond t (Err NoneToChoose) (chosen x.soft x.number) ≡ chosen p n → (x.soft ≡ p) × (x.number ≡ n) × (x.major ≡ no_major → ⊥)
     go true q f = let z : ◌≡◌ {A = ℕ} 0 1 = cc in absurd (omega arith)
-    go false q f = (cc, cc, eqb-false x.major no_major q)
+    go false q f = let e = same_chosen x.soft p x.number n f in (e.0, e.1, eqb-false x.major no_major q)
 
-stood : (s : List ℕ) (soft : Bool) (x : Score) (at : ℕ) → StandsAt s soft x at → (p : Bool) (n : ℕ) → score_answer x ≡ Number p n → (soft ≡ p) × (at ≡ kept_place n s)
+stood : (s : List ℕ) (soft : Bool) (x : Score) (at : ℕ) → StandsAt s soft x at → (p : Bool) (n : ℕ) → score_answer x ≡ chosen p n → (soft ≡ p) × (at ≡ kept_place n s)
 stood s soft x at (nowhere e) p n q = absurd ((named x p n q).2 e)
 stood s soft x at (here e i) p n q = (sym e ∙ (named x p n q).0, i ∙ ap (λ (m : ℕ). kept_place m s) (named x p n q).1)
 
@@ -91,35 +80,25 @@ module _ (a b : BestSoFar) where
       go true = refl
       go false = refl
 
-  pub picked : (s t : List ℕ) → StandsAt s true a.best a.kept → StandsAt t false b.best b.kept → (p : Picked)
-      → p.chosen ≡ score_answer (better_at a b.best b.kept).best → p.kept ≡ (better_at a b.best b.kept).kept → PickedAt s t p
+  pub picked : (s t : List ℕ) → StandsAt s true a.best a.kept → StandsAt t false b.best b.kept → (c : Chosen)
+      → Ok c ≡ score_answer (better_at a b.best b.kept).best → (k : ℕ) → k ≡ (better_at a b.best b.kept).kept → PickedAt s t (record { chosen = c; kept = k })
   unfolding better_at
-  picked s t x y p f g n = go (comes_before b.best a.best) f g
+  picked s t x y c f k g = go (comes_before b.best a.best) f g
     where
-      not_both_stores : true ≡ false → ⊥
-      not_both_stores z = not_both true refl z
+      in_store : ℕ → Bool → ℕ
+      in_store n p = kept_place n (cond p s t)
 
-      go : (u : Bool) → p.chosen ≡ score_answer (cond u b a).best → p.kept ≡ (cond u b a).kept
-          → (p.chosen ≡ Number true n → p.kept ≡ kept_place n s) × (p.chosen ≡ Number false n → p.kept ≡ kept_place n t)
-      go true f g = (
-        λ h. absurd (not_both_stores (sym (stood t false b.best b.kept y true n (sym f ∙ h)).0)),
-        λ h. g ∙ (stood t false b.best b.kept y false n (sym f ∙ h)).1,
-      )
-      go false f g = (
-        λ h. g ∙ (stood s true a.best a.kept x true n (sym f ∙ h)).1,
-        λ h. absurd (not_both_stores (stood s true a.best a.kept x false n (sym f ∙ h)).0),
-      )
-
-pub picked_none : (s t : List ℕ) (p : Picked) → p.chosen ≡ OutOfRange → PickedAt s t p
-picked_none s t p e n = (λ h. let z : ◌≡◌ {A = ℕ} 0 1 = cc in absurd (omega arith), λ h. let z : ◌≡◌ {A = ℕ} 0 1 = cc in absurd (omega arith))
+      go : (u : Bool) → Ok c ≡ score_answer (cond u b a).best → k ≡ (cond u b a).kept → k ≡ kept_place c.number (cond c.soft s t)
+      go true f g = let z = stood t false b.best b.kept y c.soft c.number (sym f) in g ∙ z.1 ∙ ap (in_store c.number) z.0
+      go false f g = let z = stood s true a.best a.kept x c.soft c.number (sym f) in g ∙ z.1 ∙ ap (in_store c.number) z.0
 
 -- the answers among fonts
 module _ (l : List Candidate) (r : Request) where
-  pub out_of_range : in_range r ≡ false → OutOfRange ≡ choosing_among l r
+  pub out_of_range : in_range r ≡ false → Err OutOfRange ≡ choosing_among l r
   unfolding choosing_among
   out_of_range t = rw t
 
-  pub chooses : Keyed l → in_range r ≡ true → (p : Bool) (best : Score) → best ≡ pass r (no_score p) l → (a : Chosen) → a ≡ score_answer best → a ≡ choosing_among l r
+  pub chooses : Keyed l → in_range r ≡ true → (p : Bool) (best : Score) → best ≡ pass r (no_score p) l → (a : Choice) → a ≡ score_answer best → a ≡ choosing_among l r
   unfolding choosing_among
   chooses kd t p best b a f = rw t (f ∙ ap score_answer b ∙ once r p l kd)
 
@@ -130,8 +109,12 @@ store_keyed p s = rising_keyed p 0 (fonts_of s) (fonts_rise s)
 pub stores_keyed : (s t : List ℕ) → Keyed (of_both (fonts_of s) (fonts_of t))
 stores_keyed s t = two_keyed (fonts_of s) (fonts_of t) (store_keyed true s) (store_keyed false t)
 
+-- a refusal of the choice is one of the picking
+pub picked_none : (x : Result Picked Refused) (k : Refused) → x ≡ Err k → (a : Choice) → a ≡ Err k → (b : Choice) → a ≡ b → picked_choice x ≡ b
+picked_none x k e a f b g = rw e (sym f ∙ g)
+
 -- one pass over the fonts of a store, whose run begins at p
-pub one_pass : (s : List ℕ) (r : Request) (p : ℕ) → Begun s (At p) → (soft : Bool) (best : Score) → best ≡ pass r (no_score soft) (candidates soft (fonts_at s p))
+pub one_pass : (s : List ℕ) (r : Request) (p : ℕ) → Begun s (Some p) → (soft : Bool) (best : Score) → best ≡ pass r (no_score soft) (candidates soft (fonts_at s p))
     → best ≡ pass r (no_score soft) (candidates soft (fonts_of s))
 one_pass s r p h soft best f = f ∙ rw (fonts_begun s p h)
 
@@ -142,15 +125,15 @@ unfolding of_both
 two_passes s t r a b best e f g = g ∙ rw (e, f) (sym (of_two_lists r (candidates true (fonts_of s)) (candidates false (fonts_of t))))
 
 -- the answers on a buffer, by where the run begins
-module _ (s : List ℕ) (r : Request) (v : Begin) (h : Begun s v) where
-  pub no_store : v ≡ NotStore → not_store_lem ≡ choosing s r
+module _ (s : List ℕ) (r : Request) (v : Optional ℕ) (h : Begun s v) where
+  pub no_store : v ≡ None → Err NotStore ≡ choosing s r
   unfolding choosing
-  no_store e = let f : Begun s NotStore = rw e at h in rw f
+  no_store e = let f : Begun s None = rw e at h in rw f
 
-  module _ (p : ℕ) (e : v ≡ At p) where
-    pub begun : Begun s (At p)
+  module _ (p : ℕ) (e : v ≡ Some p) where
+    pub begun : Begun s (Some p)
     begun = rw e at h
 
-    pub on_store : (a : Chosen) → a ≡ choosing_among (candidates true (fonts_of s)) r → a ≡ choosing s r
+    pub on_store : (a : Choice) → a ≡ choosing_among (candidates true (fonts_of s)) r → a ≡ choosing s r
     unfolding choosing
     on_store a f = rw begun.0 f

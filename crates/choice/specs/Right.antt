@@ -1,11 +1,10 @@
 -- What is to hold of the choice, for any fonts of which no two of one store have one number. W-208: a font is the pair of store and number.
-use Rattle.std.specs.Prelude.{◌≡◌, ℕ, Bool, false, ◌⊎◌, ◌↔◌, List, ◌≢◌}
+use Rattle.std.specs.Prelude.{◌≡◌, ℕ, Bool, false, ◌⊎◌, ◌↔◌, List, Err, ◌≢◌}
 use Rattle.choice.specs.Candidates.{Candidate}
 use Rattle.choice.specs.Lists.{In}
-use Rattle.choice.specs.Steps.{takes_part, Beats, choice}
+use Rattle.choice.specs.Steps.{takes_part, Beats, Choice, chosen, choice}
 use Rattle.choice.specs.declared.Request.{Request}
-use Rattle.choice.specs.declared.Chosen.{Chosen}
-use Rattle.choice.specs.declared.Chosen.TheVariants.{Number, NoFont}
+use Rattle.refusals.specs.declared.Refused.TheVariants.{NoneToChoose}
 
 -- no two of the fonts of one store have one number
 abbrev pub Keyed : List Candidate → Type 0
@@ -31,9 +30,9 @@ pub record Best (r : Request) (l : List Candidate) (c : Candidate) : Type 0 wher
   pub only : (b : Candidate) → In b l → Unbeaten r l b → b ≡ c
 
 -- the answer a to the request r is right for the fonts l: it is 11, or names the best; and it is 11 exactly if none takes part
-pub record Right (r : Request) (l : List Candidate) (a : Chosen) : Type 0 where
-  pub named : (a ≡ NoFont) ⊎ ((c : Candidate) × (a ≡ Number c.soft c.number) × Best r l c)
-  pub refused : (a ≡ NoFont) ↔ ((x : Candidate) → In x l → takes_part r x ≡ false)
+pub record Right (r : Request) (l : List Candidate) (a : Choice) : Type 0 where
+  pub named : (a ≡ Err NoneToChoose) ⊎ ((c : Candidate) × (a ≡ chosen c.soft c.number) × Best r l c)
+  pub refused : (a ≡ Err NoneToChoose) ↔ ((x : Candidate) → In x l → takes_part r x ≡ false)
 
 -- k holds the fonts of l, in whatever order; those but number n of a store; those and f
 abbrev pub Reordered : List Candidate → List Candidate → Type 0
@@ -51,11 +50,11 @@ pub record Lawful (r : Request) (l : List Candidate) : Type 0 where
   -- the order of the fonts says nothing
   pub reordered : (k : List Candidate) → Reordered l k → choice r k ≡ choice r l
   -- a font that was not chosen goes: the choice stands
-  pub removed : (p : Bool) (n : ℕ) (k : List Candidate) → Without p n l k → (choice r l ≢ Number p n) → choice r k ≡ choice r l
+  pub removed : (p : Bool) (n : ℕ) (k : List Candidate) → Without p n l k → (choice r l ≢ chosen p n) → choice r k ≡ choice r l
   -- a font comes under an unused number: the choice stands or is the new font
   pub added :
       (f : Candidate) (k : List Candidate) → With f l k → Unused f.soft f.number l
-      → (choice r k ≡ choice r l) ⊎ (choice r k ≡ Number f.soft f.number)
+      → (choice r k ≡ choice r l) ⊎ (choice r k ≡ chosen f.soft f.number)
 
 -- the claim
 abbrev pub Claim : Type 0

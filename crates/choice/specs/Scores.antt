@@ -1,20 +1,20 @@
 -- For the code alone: how it finds the choice; no public promise rests on this file. A font has a number for each step, the least for those
 -- that the step leaves; the numbers of the steps up to pitch and of the steps from height on are joined, each as the digits of one number, so
 -- that the earlier step decides. That the font with the least numbers is the one that the steps leave is proved.
-use Rattle.std.specs.Prelude.{◌≡◌, ℕ, ◌+◌, ◌-◌, ◌*◌, ◌%◌, Bool, true, false, cond, ◌&&◌, ◌||◌, List, [], ◌∷◌, pos, ◌==◌, int_le, nat_lt}
+use Rattle.std.specs.Prelude.{◌≡◌, ℕ, ◌+◌, ◌-◌, ◌*◌, ◌%◌, Bool, cond, ◌&&◌, ◌||◌, List, [], ◌∷◌, pos, ◌==◌, int_le, nat_lt, Result, Ok, Err}
 use Rattle.blocks.specs.Header.{stroke_weight}
 use Rattle.form.specs.Layout.{font_kept_at}
 use Rattle.form.specs.Records.{records_in, font_place}
 use Rattle.choice.specs.Candidates.{Candidate}
 use Rattle.choice.specs.Request.{asked_weight}
 use Rattle.choice.specs.Fields.{header_of, is_fixed, is_fine, compared_pitch}
-use Rattle.choice.specs.Steps.{has_set, has_spacing, qualifies, height_off, has_style, exact, is_thicker, is_thinner, has_typeface, has_orientation, takes_part}
+use Rattle.choice.specs.Steps.{has_set, has_spacing, qualifies, height_off, has_style, exact, is_thicker, is_thinner, has_typeface, has_orientation, takes_part, Choice, chosen}
 use Rattle.choice.specs.declared.Request.{Request}
 use Rattle.choice.specs.declared.Score.{Score}
 use Rattle.choice.specs.declared.BestSoFar.{BestSoFar}
 use Rattle.choice.specs.declared.Picked.{Picked}
-use Rattle.choice.specs.declared.Chosen.{Chosen}
-use Rattle.choice.specs.declared.Chosen.TheVariants.{Number, NoFont}
+use Rattle.refusals.specs.declared.Refused.{Refused}
+use Rattle.refusals.specs.declared.Refused.TheVariants.{NoneToChoose}
 
 -- 0 for a match
 abbrev pub miss : Bool → ℕ
@@ -120,8 +120,8 @@ unfoldable pub pass : Request → Score → List Candidate → Score
 pass r best [] = best
 pass r best (f ∷ l) = pass r (weighed r best f) l
 
-abbrev pub score_answer : Score → Chosen
-score_answer s = cond (s.major == no_major) NoFont (Number s.soft s.number)
+abbrev pub score_answer : Score → Choice
+score_answer s = cond (s.major == no_major) (Err NoneToChoose) (chosen s.soft s.number)
 
 -- ── where the chosen font stands
 -- where the kept bytes of font n stand in the store s
@@ -133,6 +133,11 @@ pub data StandsAt (s : List ℕ) (soft : Bool) (best : Score) (at : ℕ) : Type 
   nowhere : best.major ≡ no_major → StandsAt s soft best at
   here : best.soft ≡ soft → at ≡ kept_place best.number s → StandsAt s soft best at
 
--- the font that a choice from the stores s and t names stands where it says
+-- the font that is picked from the stores s and t stands where it says
 abbrev pub PickedAt : List ℕ → List ℕ → Picked → Type 0
-PickedAt s t p = (n : ℕ) → (p.chosen ≡ Number true n → p.kept ≡ kept_place n s) × (p.chosen ≡ Number false n → p.kept ≡ kept_place n t)
+PickedAt s t p = p.kept ≡ kept_place p.chosen.number (cond p.chosen.soft s t)
+
+-- what is picked, without its place
+abbrev pub picked_choice : Result Picked Refused → Choice
+picked_choice (Ok p) = Ok p.chosen
+picked_choice (Err r) = Err r

@@ -1,5 +1,5 @@
 -- Document 01, "Choosing": the steps, each among the fonts left. A comment with a number is the document's line.
-use Rattle.std.specs.Prelude.{◌≡◌, ℕ, ◌+◌, ◌-◌, ◌*◌, Bool, cond, not, ◌&&◌, ◌||◌, leb, List, [], ◌∷◌, pos, ◌==◌, int_le, int_lt, nat_le}
+use Rattle.std.specs.Prelude.{◌≡◌, ℕ, ◌+◌, ◌-◌, ◌*◌, Bool, cond, not, ◌&&◌, ◌||◌, leb, List, [], ◌∷◌, pos, ◌==◌, int_le, int_lt, nat_le, Result, Ok, Err}
 use Rattle.std.specs.Bool.{beq}
 use Rattle.blocks.specs.Header.{symbol_set, style, typeface, orientation, coarse_resolution}
 use Rattle.choice.specs.Candidates.{Candidate}
@@ -8,7 +8,8 @@ use Rattle.choice.specs.Request.{asked_weight}
 use Rattle.choice.specs.Fields.{header_of, is_fixed, is_fine, quarter_dot_parts, compared_pitch, compared_height, weight_of}
 use Rattle.choice.specs.declared.Request.{Request}
 use Rattle.choice.specs.declared.Chosen.{Chosen}
-use Rattle.choice.specs.declared.Chosen.TheVariants.{Number, NoFont}
+use Rattle.refusals.specs.declared.Refused.{Refused}
+use Rattle.refusals.specs.declared.Refused.TheVariants.{NoneToChoose}
 
 -- "8U (Roman-8) is 277"
 abbrev pub roman8 : ℕ
@@ -155,12 +156,20 @@ worked (step ∷ later) l = worked later (step l)
 unfoldable pub fonts_left : Request → List Candidate → List Candidate
 fonts_left r l = worked (steps r) l
 
--- the store and the number of the font that is left, or that there is none to choose
-unfoldable pub first_number : List Candidate → Chosen
-first_number [] = NoFont
-first_number (f ∷ l) = Number f.soft f.number
+-- what choosing answers: the font, or why there is none
+abbrev pub Choice : Type 0
+Choice = Result Chosen Refused
 
-unfoldable pub choice : Request → List Candidate → Chosen
+-- the font by its store and its number
+abbrev pub chosen : Bool → ℕ → Choice
+chosen p n = Ok (record { soft = p; number = n })
+
+-- the store and the number of the font that is left, or that there is none to choose
+unfoldable pub first_number : List Candidate → Choice
+first_number [] = Err NoneToChoose
+first_number (f ∷ l) = chosen f.soft f.number
+
+unfoldable pub choice : Request → List Candidate → Choice
 choice r l = first_number (fonts_left r l)
 
 -- "A *beats* B if these steps, worked on those of the two alone that take part, leave A."

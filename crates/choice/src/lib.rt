@@ -1,22 +1,22 @@
 // The choice of a font.
 #![tactic(auto)]
 
-ghost use Rattle.std.specs.Prelude.{◌≡◌, ℕ, ◌+◌, ◌*◌, ◌%◌, ◌^◌, ◌<◌, ◌≤◌, Bool, true, length, ◌==◌, nat_le, nat_lt};
+ghost use Rattle.std.specs.Prelude.{◌≡◌, ℕ, ◌+◌, ◌*◌, ◌%◌, ◌^◌, ◌<◌, ◌≤◌, Bool, true, length, ◌==◌, nat_le, nat_lt, IfOk, Some};
 ghost use Rattle.blocks.specs.Field.{byte, word, high_low as join_of};
 ghost use Rattle.blocks.specs.Header.{header_bytes, style, typeface, resolution};
 ghost use Rattle.form.specs.Records.{RecordPlace, Begun};
 ghost use Rattle.form.specs.Fonts.{fonts_at, fonts_of};
-ghost use Rattle.form.specs.declared.records.Begin.TheVariants.{At};
 ghost use Rattle.choice.specs.Request.{in_range};
 ghost use Rattle.choice.specs.Fields.{as_bytes, is_fine, compared as compared_of, compared_pitch, compared_height};
 ghost use Rattle.choice.specs.Steps.{pitch_test_limit, height_distance, in_mode, takes_part};
 ghost use Rattle.choice.specs.Candidates.{candidates, of_both};
 ghost use Rattle.choice.specs.Choosing.{choosing_among, choosing};
-ghost use Rattle.choice.specs.Scores.{miss as miss_of, most_compared, pitch_base, pitch_number, height_bound, weight_base, weight_number, weight_score, major_of, minor_of, better_at, no_score, weighed_at, pass, score_answer, StandsAt, PickedAt};
+ghost use Rattle.choice.specs.Scores.{miss as miss_of, most_compared, pitch_base, pitch_number, height_bound, weight_base, weight_number, weight_score, major_of, minor_of, better_at, no_score, weighed_at, pass, score_answer, StandsAt, picked_choice, PickedAt};
 
 use blocks::{field, header};
-use form::kept_fonts::NextFont;
-use form::records::Begin;
+use form::kept_fonts::KeptFonts;
+use form::records;
+use refusals::Refused;
 
 const ROMAN_8: u32 = 277;
 
@@ -65,7 +65,7 @@ const WEIGHT_BASE: u64 = 1024;
 // The number of the steps up to pitch that stands for no font, above that of every font.
 const NO_MAJOR: u64 = 4 * PITCH_BASE;
 
-// What is asked for, as C lays it out. The weight is signed, as 32 bits in two's complement.
+// What is asked for, as C lays it out and hands any numbers in. The weight is signed, as 32 bits in two's complement.
 #[repr(C)]
 #[derive(Clone, Copy)]
 pub struct Request {
@@ -80,13 +80,11 @@ pub struct Request {
     pub mode: u32,
 }
 
-// The font that is chosen, of the soft store or of the cartridge, or why there is none.
-#[derive(Clone, Copy)]
-pub enum Chosen {
-    Number { soft: bool, number: u32 },
-    NotStore,
-    OutOfRange,
-    NoFont,
+// The font that is chosen: whether the soft store holds it, else the cartridge, and its number.
+#[derive(Clone, Copy, Debug, PartialEq, Eq)]
+pub struct Chosen {
+    pub soft: bool,
+    pub number: u32,
 }
 
 // A font's numbers for the steps, of which the least is chosen: those up to pitch, those from height on, the font number; and whether the soft store holds it.
@@ -105,8 +103,8 @@ struct BestSoFar {
     kept: usize,
 }
 
-// The choice from two stores, and where the kept bytes of the font that it names stand in the store that holds it.
-#[derive(Clone, Copy)]
+// The font that is chosen from two stores, and where its kept bytes stand in the store that holds it.
+#[derive(Clone, Copy, Debug, PartialEq, Eq)]
 pub struct Picked {
     pub chosen: Chosen,
     pub kept: usize,
@@ -117,15 +115,15 @@ fn kept_byte(f: &[u8], i: usize) -> u32
     requires { i < length f.now }
     ensures { (result ≡ byte (as_bytes f.now) i) × (result < 256) }
 {
-    f[i] as u32
+    u32::from(f[i])
 }
 
-// Two bytes, high and low.
-fn join(high: u32, low: u32) -> u32
-    requires { (high < 256) × (low < 256) }
-    ensures { (result ≡ join_of high low) × (result ≤ 65535) }
+// A kept number of two bytes, by the places of the high one and of the low one.
+fn kept_number(f: &[u8], high: usize, low: usize) -> u32
+    requires { (high < length f.now) × (low < length f.now) }
+    ensures { (result ≡ join_of (byte (as_bytes f.now) high) (byte (as_bytes f.now) low)) × (result ≤ 65535) }
 {
-    high * 256 + low
+    u32::from(u16::from_be_bytes([f[high], f[low]]))
 }
 
 // A kept field of two bytes.
@@ -133,27 +131,21 @@ fn kept_word(f: &[u8], at: usize) -> u32
     requires { at + 1 < length f.now }
     ensures { (result ≡ word (as_bytes f.now) at) × (result ≤ 65535) }
 {
-    join(kept_byte(f, at), kept_byte(f, at + 1))
+    kept_number(f, at, at + 1)
 }
 
 fn style_of(f: &[u8]) -> u32
     requires { length f.now ≡ header_bytes }
     ensures { result ≡ style (as_bytes f.now) }
 {
-    join(
-        kept_byte(f, header::STYLE_HIGH_AT),
-        kept_byte(f, header::STYLE_LOW_AT),
-    )
+    kept_number(f, header::STYLE_HIGH_AT, header::STYLE_LOW_AT)
 }
 
 fn typeface_of(f: &[u8]) -> u32
     requires { length f.now ≡ header_bytes }
     ensures { result ≡ typeface (as_bytes f.now) }
 {
-    join(
-        kept_byte(f, header::TYPEFACE_HIGH_AT),
-        kept_byte(f, header::TYPEFACE_LOW_AT),
-    )
+    kept_number(f, header::TYPEFACE_HIGH_AT, header::TYPEFACE_LOW_AT)
 }
 
 // Whether a font is one of 600 dpi.
@@ -169,7 +161,7 @@ fn compared(f: &[u8], at: usize, extended: usize) -> u64
     requires { (length f.now ≡ header_bytes) × (at + 1 < length f.now) × (extended < length f.now) }
     ensures { (result ≡ compared_of (resolution (as_bytes f.now)) (word (as_bytes f.now) at) (byte (as_bytes f.now) extended)) × (result ≤ most_compared) }
 {
-    let n = QUARTER_DOT_PARTS * kept_word(f, at) as u64 + kept_byte(f, extended) as u64;
+    let n = QUARTER_DOT_PARTS * u64::from(kept_word(f, at)) + u64::from(kept_byte(f, extended));
     if is_fine(f) { n } else { 2 * n }
 }
 
@@ -193,7 +185,7 @@ fn compared_height(f: &[u8]) -> u64
 fn miss(hit: bool) -> u64
     ensures { (result ≡ miss_of hit) × (result < 2) }
 {
-    if hit { 0 } else { 1 }
+    u64::from(!hit)
 }
 
 // The number of the pitch, from whether the font is fixed, the R asked for and the font's pitch.
@@ -202,7 +194,7 @@ fn pitch_number(fixed: bool, r: u32, p: u64) -> u64
     ensures { (result ≡ pitch_number fixed (nat_le (r * p) pitch_test_limit) p) × (result < pitch_base) }
 {
     if fixed {
-        if r as u64 * p <= PITCH_TEST_LIMIT {
+        if u64::from(r) * p <= PITCH_TEST_LIMIT {
             MOST_COMPARED - p
         } else {
             MOST_COMPARED + 1 + p
@@ -217,9 +209,8 @@ fn height_number(asked: u32, h: u64) -> u64
     requires { h ≤ most_compared }
     ensures { (result ≡ height_distance asked h) × (result < height_bound) }
 {
-    let a = QUARTER_DOT_PARTS * asked as u64;
-    let g = QUARTER_DOT * h;
-    let d = if g <= a { a - g } else { g - a };
+    let a = QUARTER_DOT_PARTS * u64::from(asked);
+    let d = a.abs_diff(QUARTER_DOT * h);
     if d <= QUARTER_POINT { 0 } else { d }
 }
 
@@ -242,7 +233,7 @@ fn weight_number(a: u32, w: u32) -> u32
 fn raised_request(weight: u32) -> u32
     ensures { (result ≡ (weight + 128) % 2 ^ 32) × (weight < 2 ^ 32) }
 {
-    std::num::wrapping_add_u32(weight, 128)
+    weight.wrapping_add(128)
 }
 
 // The number of the weight of a font.
@@ -250,10 +241,8 @@ fn weight_of(f: &[u8], r: Request) -> u64
     requires { (length f.now ≡ header_bytes) × (in_range r ≡ true) }
     ensures { ((p : Bool) (n : ℕ) → result ≡ weight_score r (record { soft = p; number = n; kept = f.now })) × (result < weight_base) }
 {
-    weight_number(
-        raised_request(r.weight),
-        (kept_byte(f, header::STROKE_WEIGHT_AT) + 128) % 256,
-    ) as u64
+    let kept = (kept_byte(f, header::STROKE_WEIGHT_AT) + 128) % 256;
+    u64::from(weight_number(raised_request(r.weight), kept))
 }
 
 // The steps up to pitch, for a font that takes part.
@@ -289,14 +278,8 @@ fn better(b: BestSoFar, s: Score, kept: usize) -> BestSoFar
     ensures { result ≡ better_at b s kept }
 {
     let best = b.best;
-    let level = (s.minor == best.minor) & (s.number < best.number);
-    let later = (s.major == best.major) & ((s.minor < best.minor) | level);
-    let first = (s.major < best.major) | later;
-    if first {
-        BestSoFar {
-            best: s,
-            kept: kept,
-        }
+    if (s.major, s.minor, s.number) < (best.major, best.minor, best.number) {
+        BestSoFar { best: s, kept }
     } else {
         b
     }
@@ -367,15 +350,10 @@ fn scan(s: &[u8], from: usize, soft: bool, r: Request) -> BestSoFar
     ensures { (result.best ≡ pass r (no_score soft) (candidates soft (fonts_at s.now from))) × StandsAt s.now soft result.best result.kept }
 {
     let mut b = nothing(soft);
-    let mut at = from;
-    loop {
-        let NextFont::Font { number, kept, next } = form::kept_fonts::next_font(s, at) else {
-            return b;
-        };
-        let end = kept + header::KEPT;
-        b = weigh(b, &s[kept..end], soft, number, kept, r);
-        at = next;
+    for f in KeptFonts::starting_at(s, from) {
+        b = weigh(b, f.kept, soft, f.number, f.kept_at, r);
     }
+    b
 }
 
 // Whether every number of a request is within its range.
@@ -396,46 +374,41 @@ fn in_range(r: Request) -> bool
 }
 
 // The answer, from the best of all fonts.
-fn answer(best: Score) -> Chosen
+fn answer(best: Score) -> Result<Chosen, Refused>
     ensures { result ≡ score_answer best }
 {
     if best.major == NO_MAJOR {
-        Chosen::NoFont
-    } else {
-        Chosen::Number {
-            soft: best.soft,
-            number: best.number,
-        }
+        return Err(Refused::NoneToChoose);
     }
+    Ok(Chosen {
+        soft: best.soft,
+        number: best.number,
+    })
 }
 
 // The choice on a buffer that is known to be a store, whose fonts begin at a place: for many requests it is checked once.
-pub fn choose_among(s: &[u8], from: usize, r: Request) -> Chosen
-    requires { Begun s.now (At from) }
+pub fn choose_among(s: &[u8], from: usize, r: Request) -> Result<Chosen, Refused>
+    requires { Begun s.now (Some from) }
     ensures { result ≡ choosing_among (candidates true (fonts_of s.now)) r }
 {
-    if in_range(r) {
-        let a = scan(s, from, true, r);
-        answer(a.best)
-    } else {
-        Chosen::OutOfRange
+    if !in_range(r) {
+        return Err(Refused::OutOfRange);
     }
+    let best = scan(s, from, true, r);
+    answer(best.best)
 }
 
-// The number of the font that is chosen among the kept fonts of a store. It makes the pass itself: through `choose_among` the request and the store
+// The font that is chosen among the kept fonts of a store. It makes the pass itself: through `choose_among` the request and the store
 // would be copied once more, which a store of one font shows.
-pub fn choose(s: &[u8], r: Request) -> Chosen
+pub fn choose(s: &[u8], r: Request) -> Result<Chosen, Refused>
     ensures { result ≡ choosing s.now r }
 {
-    let Begin::At(from) = form::records::begin_records(s) else {
-        return Chosen::NotStore;
-    };
-    if in_range(r) {
-        let a = scan(s, from, true, r);
-        answer(a.best)
-    } else {
-        Chosen::OutOfRange
+    let from = records::begin_records(s).ok_or(Refused::NotStore)?;
+    if !in_range(r) {
+        return Err(Refused::OutOfRange);
     }
+    let best = scan(s, from, true, r);
+    answer(best.best)
 }
 
 // The choice on two buffers that are known to be stores, whose fonts begin at these places: the better of the best of each.
@@ -445,23 +418,20 @@ pub fn choose_among_two(
     cartridge: &[u8],
     cartridge_from: usize,
     r: Request,
-) -> Picked
-    requires { Begun soft.now (At soft_from) × Begun cartridge.now (At cartridge_from) }
-    ensures { (result.chosen ≡ choosing_among (of_both (fonts_of soft.now) (fonts_of cartridge.now)) r) × PickedAt soft.now cartridge.now result }
+) -> Result<Picked, Refused>
+    requires { Begun soft.now (Some soft_from) × Begun cartridge.now (Some cartridge_from) }
+    ensures chosen { picked_choice result ≡ choosing_among (of_both (fonts_of soft.now) (fonts_of cartridge.now)) r }
+    ensures stands { IfOk result (PickedAt soft.now cartridge.now) }
 {
-    if in_range(r) {
-        let a = scan(soft, soft_from, true, r);
-        let b = scan(cartridge, cartridge_from, false, r);
-        let both = better(a, b.best, b.kept);
-        let chosen = answer(both.best);
-        Picked {
-            chosen,
-            kept: both.kept,
-        }
-    } else {
-        Picked {
-            chosen: Chosen::OutOfRange,
-            kept: 0,
-        }
+    if !in_range(r) {
+        return Err(Refused::OutOfRange);
     }
+    let a = scan(soft, soft_from, true, r);
+    let b = scan(cartridge, cartridge_from, false, r);
+    let both = better(a, b.best, b.kept);
+    let chosen = answer(both.best)?;
+    Ok(Picked {
+        chosen,
+        kept: both.kept,
+    })
 }

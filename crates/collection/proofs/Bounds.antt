@@ -11,7 +11,7 @@ use lib.ListN.{length, take, drop}
 use Rattle.pictures.specs.Size.{bitmap_class, within, picture_size, data_limit}
 use Rattle.pictures.specs.Picture.{judge, judge_bitmap, held, held_by}
 use Rattle.pictures.specs.declared.picture.Held.TheVariants.{Foreign}
-use Rattle.pictures.specs.declared.picture.Judged.TheVariants.{Complete, Incomplete}
+use Rattle.std.specs.Prelude.{Some, None, Ok}
 use Rattle.blocks.specs.Field.{signed_within, negative}
 use Rattle.blocks.specs.Character.{class, width, height, delta_x, descriptor_bytes, is_kept_first, fixed_first, held_class, first_fields, first_extent, first_size, format, continued, descriptor_size, orientation, left_offset, top_offset, character_format, size_taken, offset_limit}
 use Rattle.blocks.specs.Field.{byte}
@@ -65,11 +65,11 @@ module _ (k : List ℕ) (o : ℕ) (e : is_kept_first k o ≡ true) where
 held_by_lem : (w h len : ℕ) → is_kept (held_by (judge_bitmap w h len) len) ≡ true → len ≤ picture_size w h
 held_by_lem w h len e = go (leb (picture_size w h) len) refl e
   where
-    go : (t : Bool) → leb (picture_size w h) len ≡ t → is_kept (held_by (cond t (Complete (picture_size w h)) Incomplete) len) ≡ true → len ≤ picture_size w h
+    go : (t : Bool) → leb (picture_size w h) len ≡ t → is_kept (held_by (cond t (Ok (Some (picture_size w h))) (Ok None)) len) ≡ true → len ≤ picture_size w h
     go false q e = let x : len < picture_size w h = leb-false (picture_size w h) len q in omega arith
     go true q e = by (eqb (picture_size w h) len) refl e
       where
-        by : (u : Bool) → eqb (picture_size w h) len ≡ u → is_kept (held_by (Complete (picture_size w h)) len) ≡ true → len ≤ picture_size w h
+        by : (u : Bool) → eqb (picture_size w h) len ≡ u → is_kept (held_by (Ok (Some (picture_size w h))) len) ≡ true → len ≤ picture_size w h
         by true p e = let x : picture_size w h ≡ len = eqb-true (picture_size w h) len p in omega arith
         by false p e = let x : false ≡ true = rw p at e in let z : ◌≡◌ {A = ℕ} 0 1 = cc in absurd (omega arith)
 

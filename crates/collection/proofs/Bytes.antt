@@ -1,32 +1,35 @@
 -- Numbers of eight bytes, and the bytes of a figure. Assumes nothing.
-use Prim.Native.Nat.{ℕ, zero, suc, ◌+◌, ◌*◌, ◌/◌, ◌%◌, ◌≤◌, min}
+use Prim.Native.Nat.{ℕ, zero, suc, ◌+◌, ◌*◌, ◌/◌, ◌%◌, ◌≤◌, ◌<◌, ◌^◌, min}
 use mathlib.Core.Path.{◌≡◌, refl, sym, ap, ◌∙◌}
-use mathlib.Core.List.{List, ◌++◌}
+use mathlib.Core.List.{List, [], ◌∷◌, ◌++◌}
 use native.Mathlib.Omega.{arith}
-use lib.ListN.{length}
-use Rattle.form.specs.Num.{low_first, field, double_end}
-use Rattle.form.proofs.Fields.{field_suc, field_zero}
+use lib.ListN.{length, take, drop, length-take, length-drop}
+use Rattle.std.specs.Int.{w64, to_le_bytes, from_le_bytes}
+use Rattle.std.proofs.lemmas.Nat.{from_le_bytes-to_le_bytes_8}
+use Rattle.form.specs.Num.{num, low_first, field, Bytes}
+use Rattle.form.proofs.Numbers.{bytes_drop, le_field}
 use Rattle.change.specs.Put.{with_bytes}
-use Rattle.change.proofs.Puts.{put_put}
+use Rattle.change.proofs.Puts.{put_put, take_whole, bytes_of_number}
 use Rattle.collection.specs.Figures.{lesser_width, mean, rest, code_bytes, figure_from, bytes_of_figure}
 use Rattle.collection.specs.declared.figure.Figure.{Figure}
 
-pub field_eight : (i : ℕ) (s : List ℕ) → i + 8 ≤ length s → field 8 i s ≡ field 4 i s + double_end * field 4 (i + 4) s
-field_eight i s h =
-    let e : field 4 (i + 1 + 1 + 1 + 1) s ≡ field 4 (i + 4) s = let z : i + 1 + 1 + 1 + 1 ≡ i + 4 = omega arith in ap (λ (j : ℕ). field 4 j s) z in
-    omega (
-      arith,
-      e,
-      field_suc 7 i s (omega arith),
-      field_suc 6 (i + 1) s (omega arith),
-      field_suc 5 (i + 1 + 1) s (omega arith),
-      field_suc 4 (i + 1 + 1 + 1) s (omega arith),
-      field_suc 3 i s (omega arith),
-      field_suc 2 (i + 1) s (omega arith),
-      field_suc 1 (i + 1 + 1) s (omega arith),
-      field_suc 0 (i + 1 + 1 + 1) s (omega arith),
-      field_zero (i + 1 + 1 + 1 + 1) s,
-    )
+num_below : (k : ℕ) (s : List ℕ) → Bytes s → num (take k s) < 256 ^ k
+unfolding num
+num_below zero s B = omega arith
+num_below (suc k) [] B = let h : num (take k []) < 256 ^ k = num_below k [] B in omega arith
+num_below (suc k) (x ∷ s) B = let h : num (take k s) < 256 ^ k = num_below k s (λ i. B (suc i)) in omega (arith, h, B 0)
+
+pub eight_below : (i : ℕ) (s : List ℕ) → Bytes s → field 8 i s < 2 ^ 64
+eight_below i s B = num_below 8 (drop i s) (bytes_drop i s B)
+
+-- eight bytes as the library reads them
+pub field_eight : (i : ℕ) (s p : List ℕ) → Bytes s → i + 8 ≤ length s → p ≡ take 8 (drop i s) → from_le_bytes w64 p ≡ field 8 i s
+field_eight i s p B h e =
+    let n = field 8 i s in
+    let l : length (to_le_bytes w64 n) ≡ 8 = refl in
+    let w : to_le_bytes w64 n ≡ low_first 8 n = sym (take_whole (to_le_bytes w64 n)) ∙ bytes_of_number 8 n (omega arith) in
+    let q : p ≡ to_le_bytes w64 n = e ∙ sym (le_field 8 i s B h) ∙ sym w in
+    ap (from_le_bytes w64) q ∙ from_le_bytes-to_le_bytes_8 n (eight_below i s B)
 
 pub length_eight : (v : ℕ) → length (low_first 8 v) ≡ 8
 unfolding low_first
@@ -54,22 +57,3 @@ pub figure_read : (s : List ℕ) (at a b c d e : ℕ) → a ≡ field 8 at s →
     → record { count = a; dots = b; least = c; greatest = d; sum = e } ≡ figure_from s at
 unfolding figure_from
 figure_read s at a b c d e p q r t u = λ i. record { count = p i; dots = q i; least = r i; greatest = t i; sum = u i }
-
--- ── the functions of numbers
-pub mean_some : (sum n : ℕ) → (n ≡ 0 → ⊥) → sum / n ≡ mean sum n
-mean_some sum zero h = absurd (h refl)
-mean_some sum (suc n) h = refl
-
-pub rest_some : (sum n : ℕ) → (n ≡ 0 → ⊥) → sum % n ≡ rest sum n
-rest_some sum zero h = absurd (h refl)
-rest_some sum (suc n) h = refl
-
-pub lesser_none : (a b : ℕ) → b ≡ 0 → a ≡ lesser_width a b
-lesser_none zero b e = sym e
-lesser_none (suc a) zero e = refl
-lesser_none (suc a) (suc b) e = absurd (omega arith)
-
-pub lesser_both : (a b : ℕ) → (a ≡ 0 → ⊥) → (b ≡ 0 → ⊥) → min a b ≡ lesser_width a b
-lesser_both zero b p q = absurd (p refl)
-lesser_both (suc a) zero p q = absurd (q refl)
-lesser_both (suc a) (suc b) p q = omega arith

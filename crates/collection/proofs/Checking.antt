@@ -13,7 +13,7 @@ use Rattle.pictures.proofs.Tests.{both}
 use Rattle.form.specs.Layout.{last_code}
 use Rattle.form.specs.Num.{num, field, Bytes}
 use Rattle.form.specs.Model.{Rec}
-use Rattle.form.proofs.Numbers.{bytes_drop}
+use Rattle.collection.proofs.Bytes.{eight_below}
 use Rattle.collection.specs.declared.figure.Figure.{Figure}
 use Rattle.collection.specs.Figures.{figures_bytes, code_place, stores_in, figure_from, figure_at, most_of_code, most_dots, most_delta, most_stores, within_bound, codes_within, figures_taken}
 use Rattle.collection.specs.ByRecord.{Roomy}
@@ -105,16 +105,6 @@ module _ (b : List ℕ) where
           subst (λ (k : ℕ). codes_within b (stores_in b * 606) k ≡ true) (add-one n)
           (codes_next b (stores_in b * 606) n (all n (omega arith))
           (rw (le-leb _ _ (t.count n (omega arith)), le-leb _ _ (t.dots n (omega arith)), le-leb _ _ (t.sum n (omega arith)))))
-
--- ── numbers of eight bytes
-num_below : (k : ℕ) (s : List ℕ) → Bytes s → num (take k s) < 256 ^ k
-unfolding num
-num_below zero s B = omega arith
-num_below (suc k) [] B = let h : num (take k []) < 256 ^ k = num_below k [] B in omega arith
-num_below (suc k) (x ∷ s) B = let h : num (take k s) < 256 ^ k = num_below k s (λ i. B (suc i)) in omega (arith, h, B 0)
-
-eight_below : (i : ℕ) (s : List ℕ) → Bytes s → field 8 i s < 2 ^ 64
-eight_below i s B = num_below 8 (drop i s) (bytes_drop i s B)
 
 -- ── figures that pass have room for the records of a store
 pub roomy_start : (s b : List ℕ) (rs : List Rec) → StoreBounds s rs → Bytes b → figures_taken b ≡ true → Roomy b rs

@@ -1,5 +1,6 @@
 -- The pass over the records of a store. Assumes nothing.
 use Prim.Native.Nat.{ℕ, ◌+◌, ◌-◌, ◌<◌, ◌≤◌, ◌^◌}
+use Rattle.std.specs.Prelude.{Option as Optional, Some, None}
 use mathlib.Core.Path.{◌≡◌, refl, sym, ap, ◌∙◌, subst}
 use mathlib.Core.List.{List, [], ◌∷◌}
 use mathlib.Core.Bool.{true, false}
@@ -10,19 +11,17 @@ use Rattle.pictures.specs.Size.{bitmap_class, picture_size, data_limit}
 use Rattle.blocks.specs.Character.{descriptor_bytes, class, width, height, delta_x}
 use Rattle.form.specs.Num.{low_first, Bytes}
 use Rattle.form.specs.Model.{Rec, Store, decode}
-use Rattle.form.specs.Records.{is_store, some_store, records_in, records_at, RecordPlace, Begun, MetAt, font_from, FontMet, character_from, CharacterMet}
-use Rattle.form.specs.declared.records.Begin.{Begin}
-use Rattle.form.specs.declared.records.Begin.TheVariants.{At, NotStore}
+use Rattle.form.specs.Records.{is_store, some_store, records_in, records_at, RecordPlace, Begun}
+use Rattle.form.specs.RecordsLeft.{CharacterKept}
 use Rattle.form.specs.Checks.{on_store}
 use Rattle.form.proofs.Locates.{is_store_lem}
 use Rattle.form.proofs.RecordBytes.{kept_small}
 use Rattle.change.specs.Put.{with_bytes}
 use Rattle.blackdots.specs.Black.{black_dots}
 use Rattle.collection.specs.declared.figure.Figure.{Figure}
-use Rattle.collection.specs.declared.adding.NextRecord.{NextRecord}
-use Rattle.collection.specs.declared.adding.NextRecord.TheVariants.{At, End}
+use Rattle.std.specs.Prelude.{Option as Place, Some, None}
 use Rattle.collection.specs.Figures.{joined, code_place, figure_at, bytes_of_figure, stores_in, figures_bytes, figures_taken, figures_after, Adding, adding_figures}
-use Rattle.collection.specs.ByRecord.{Drawable, RoomFor, Roomy, figures_with, with_record, with_records, RecordAdded}
+use Rattle.collection.specs.ByRecord.{Drawable, RoomFor, Roomy, figures_with, with_record, with_records}
 use Rattle.collection.proofs.Bounds.{kept_least, store_bounds}
 use Rattle.collection.proofs.Records.{room_for, roomy_after, long_after, stores_after, figures_are}
 use Rattle.collection.proofs.Checking.{roomy_start, taken}
@@ -44,67 +43,32 @@ pub room_by : (b k d : List ℕ) (c n x : ℕ) (f : Figure) → RoomFor b c k d 
 room_by b k d c n x f R e p q =
     (rw e R.count, rw (e, p) R.dots, rw (e, q) R.sum)
 
-pub same_part : (s : List ℕ) (a n : ℕ) → take (a + n - a) (drop a s) ≡ take n (drop a s)
-same_part s a n = let e : a + n - a ≡ n = omega arith in rw e
-
-module _ (s : List ℕ) (at n c kept bytes next : ℕ) (m : CharacterMet s at n c kept bytes next) where
-  abbrev k : List ℕ
-  k = take (kept + descriptor_bytes - kept) (drop kept s)
-
-  abbrev d : List ℕ
-  d = take (next - bytes) (drop bytes s)
-
-  pub descriptor_long : length k ≡ descriptor_bytes
-  descriptor_long = simp (length-take, length-drop) (omega (arith, m.join, m.last, m.met.within))
-
-  pub drawable : Drawable k d
+-- what the store gives of a character
+module _ (n c : ℕ) (b : List ℕ) (k : CharacterKept n c b) where
+  pub drawable : Drawable (take descriptor_bytes b) (drop descriptor_bytes b)
   drawable =
-      let e = same_part s kept descriptor_bytes in
-      let h : List ℕ = take descriptor_bytes (drop kept s) in
-      subst (λ (z : List ℕ). Drawable z d) (sym e)
-      (record { wide = m.wide; most = kept_least (class h) (width h) (height h) d m.held; small = kept_small (class h) (width h) (height h) d m.held })
+      let h : List ℕ = take descriptor_bytes b in
+      let d : List ℕ = drop descriptor_bytes b in
+      record { wide = k.wide; most = kept_least (class h) (width h) (height h) d k.held; small = kept_small (class h) (width h) (height h) d k.held }
 
-  pub character_room : (b : List ℕ) → Roomy b (records_at s at) → RoomFor b c k d
-  character_room b r =
-      subst (λ (h : List ℕ). RoomFor b c h d) (sym (same_part s kept descriptor_bytes))
-      (room_for b n c (take descriptor_bytes (drop kept s)) d (records_at s next) (subst (Roomy b) m.met.records r))
+-- ── the loop: the records that are left give what all give
+pub record Going (all left : List Rec) (b₀ b : List ℕ) : Type 0 where
+  pub roomy : Roomy b left
+  pub same : with_records left b ≡ with_records all b₀
 
-  pub character_step : (b after : List ℕ) → after ≡ figures_with b c k d → (r : Rec) × MetAt s at r next × (after ≡ with_record b r)
-  unfolding with_record
-  character_step b after e = (character_from s n c kept bytes next, m.met, e ∙ ap (λ (h : List ℕ). figures_with b c h d) (same_part s kept descriptor_bytes))
+pub going_starts : (all left : List Rec) (b : List ℕ) → left ≡ all → Roomy b all → Going all left b b
+going_starts all left b e r = record { roomy = subst (Roomy b) (sym e) r; same = ap (λ (l : List Rec). with_records l b) e }
 
-pub font_step : (s : List ℕ) (at n kept next : ℕ) → FontMet s at n kept next → (b : List ℕ) → (r : Rec) × MetAt s at r next × (b ≡ with_record b r)
-unfolding with_record
-font_step s at n kept next m b = (font_from s n kept, m.met, refl)
-
--- ── the loop: the records from here on give what all give
-pub record Going (s : List ℕ) (from at : ℕ) (b₀ b : List ℕ) : Type 0 where
-  pub place : RecordPlace s at
-  pub long : length b ≡ figures_bytes
-  pub roomy : Roomy b (records_at s at)
-  pub same : with_records (records_at s at) b ≡ with_records (records_at s from) b₀
-
-pub going_next : (s : List ℕ) (from at next : ℕ) (b₀ b after : List ℕ) → Going s from at b₀ b → (r : Rec) × MetAt s at r next × (after ≡ with_record b r) → Going s from next b₀ after
+pub going_next : (all left more : List Rec) (r : Rec) (b₀ b after : List ℕ) → Going all left b₀ b → left ≡ r ∷ more → after ≡ with_record b r → Going all more b₀ after
 unfolding with_records
-going_next s from at next b₀ b after g (r, m, e) =
-    let y : Roomy b (r ∷ records_at s next) = subst (Roomy b) m.records g.roomy in
-    let x : Roomy after (records_at s next) = subst (λ (z : List ℕ). Roomy z (records_at s next)) (sym e) (roomy_after b r (records_at s next) y) in
-    record {
-      place = m.place;
-      long = x.long;
-      roomy = x;
-      same = ap (with_records (records_at s next)) e ∙ sym (ap (λ (l : List Rec). with_records l b) m.records) ∙ g.same;
-    }
+going_next all left more r b₀ b after g i e =
+    let y : Roomy b (r ∷ more) = subst (Roomy b) i g.roomy in
+    let x : Roomy after more = subst (λ (z : List ℕ). Roomy z more) (sym e) (roomy_after b r more y) in
+    record { roomy = x; same = ap (with_records more) e ∙ sym (ap (λ (l : List Rec). with_records l b) i) ∙ g.same }
 
-pub going_ends : (s : List ℕ) (from at : ℕ) (b₀ b after : List ℕ) → Going s from at b₀ b → (records_at s at ≡ []) × (after ≡ b) → after ≡ with_records (records_at s from) b₀
+pub going_ends : (all left : List Rec) (b₀ b : List ℕ) → Going all left b₀ b → left ≡ [] → b ≡ with_records all b₀
 unfolding with_records
-going_ends s from at b₀ b after g (e, p) = p ∙ sym (ap (λ (l : List Rec). with_records l b) e) ∙ g.same
-
-pub step_next : (s : List ℕ) (at : ℕ) (b after : List ℕ) (x : NextRecord) (next : ℕ) → RecordAdded s at b after x → x ≡ At next → (r : Rec) × MetAt s at r next × (after ≡ with_record b r)
-step_next s at b after x next p e = subst (RecordAdded s at b after) e p
-
-pub step_end : (s : List ℕ) (at : ℕ) (b after : List ℕ) (x : NextRecord) → RecordAdded s at b after x → x ≡ End → (records_at s at ≡ []) × (after ≡ b)
-step_end s at b after x p e = subst (RecordAdded s at b after) e p
+going_ends all left b₀ b g e = sym (ap (λ (l : List Rec). with_records l b) e) ∙ g.same
 
 -- ── the call
 none_store : (o : Option Store) → some_store o ≡ false → o ≡ none
@@ -143,10 +107,10 @@ added s b mid last rs n e t r i p q z =
 pub answered : (a : Adding) (x : ℕ) (l : List ℕ) → a ≡ record { answer = x; bytes = l } → (x ≡ a.answer) × (l ≡ a.bytes)
 answered a x l e = (sym (ap (λ (y : Adding). y.answer) e), sym (ap (λ (y : Adding). y.bytes) e))
 
-pub begun_not : (s : List ℕ) (v : Begin) → Begun s v → v ≡ NotStore → is_store s ≡ false
+pub begun_not : (s : List ℕ) (v : Optional ℕ) → Begun s v → v ≡ None → is_store s ≡ false
 begun_not s v w e = subst (Begun s) e w
 
-pub begun_at : (s : List ℕ) (v : Begin) → Begun s v → (p : ℕ) → v ≡ At p → (is_store s ≡ true) × RecordPlace s p × (records_at s p ≡ records_in s)
+pub begun_at : (s : List ℕ) (v : Optional ℕ) → Begun s v → (p : ℕ) → v ≡ Some p → (is_store s ≡ true) × RecordPlace s p × (records_at s p ≡ records_in s)
 begun_at s v w p e = subst (Begun s) e w
 
 -- the first number stands, and may grow
@@ -166,7 +130,7 @@ pub record Ready (s b : List ℕ) (p : ℕ) : Type 0 where
   pub room : Roomy b (records_at s p)
   pub same : records_at s p ≡ records_in s
 
-pub ready : (s b : List ℕ) (v : Begin) (p : ℕ) → Begun s v → v ≡ At p → figures_taken b ≡ true → Bytes s → Bytes b → Ready s b p
+pub ready : (s b : List ℕ) (v : Optional ℕ) (p : ℕ) → Begun s v → v ≡ Some p → figures_taken b ≡ true → Bytes s → Bytes b → Ready s b p
 ready s b v p w e t S B =
     let x = begun_at s v w p e in
     let r = added_roomy s b S B x.0 t in

@@ -1,15 +1,12 @@
 -- For the code alone: how it brings the figures up to date, record by record.
-use Rattle.std.specs.Prelude.{ℕ, ◌+◌, ◌≤◌, ◌<◌, ◌^◌, ◌≡◌, List, [], ◌∷◌, length}
+use Rattle.std.specs.Prelude.{ℕ, ◌+◌, ◌≤◌, ◌<◌, ◌^◌, ◌≡◌, List, [], ◌∷◌, length, Option, Some, None}
 use Rattle.pictures.specs.Size.{bitmap_class, picture_size, data_limit}
 use Rattle.blocks.specs.Character.{class, width, height, delta_x}
 use Rattle.form.specs.Layout.{last_code}
 use Rattle.form.specs.Model.{Rec, font, character}
-use Rattle.form.specs.Records.{MetAt, records_at}
 use Rattle.change.specs.Put.{with_bytes}
 use Rattle.blackdots.specs.Black.{black_dots}
 use Rattle.collection.specs.Figures.{joined, figure_of, figure_in, code_place, figure_at, bytes_of_figure, figures_bytes}
-use Rattle.collection.specs.declared.adding.NextRecord.{NextRecord}
-use Rattle.collection.specs.declared.adding.NextRecord.TheVariants.{At, End}
 
 -- a character's data, as a store holds it
 pub record Drawable (k d : List ℕ) : Type 0 where
@@ -53,8 +50,3 @@ with_record b (character n c h d) = figures_with b c h d
 unfoldable pub with_records : List Rec → List ℕ → List ℕ
 with_records [] b = b
 with_records (r ∷ rs) b = with_records rs (with_record b r)
-
--- a record that stands at a place of the run is added, or there is none
-abbrev pub RecordAdded : List ℕ → ℕ → List ℕ → List ℕ → NextRecord → Type 0
-RecordAdded s at b after (At next) = (r : Rec) × MetAt s at r next × (after ≡ with_record b r)
-RecordAdded s at b after End = (records_at s at ≡ []) × (after ≡ b)

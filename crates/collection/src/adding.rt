@@ -1,16 +1,18 @@
 // The characters of one more store, added to the figures.
-ghost use Rattle.std.specs.Prelude.{◌≡◌, ◌+◌, ◌≤◌, length};
+ghost use Rattle.std.specs.Prelude.{◌≡◌, ◌+◌, ◌≤◌, List, ◌∷◌, length};
 ghost use Rattle.blocks.specs.Character.{descriptor_bytes};
 ghost use Rattle.form.specs.Layout.{last_code};
 ghost use Rattle.form.specs.Records.{RecordPlace, records_at};
 ghost use Rattle.collection.specs.Figures.{figures_bytes, adding_figures};
-ghost use Rattle.collection.specs.ByRecord.{Drawable, RoomFor, Roomy, figures_with, with_records, RecordAdded};
+ghost use Rattle.collection.specs.ByRecord.{Drawable, RoomFor, Roomy, figures_with, with_record, with_records};
+ghost use Rattle.form.specs.Model.{Rec};
+ghost use Rattle.form.specs.RecordsLeft.{record_of, RecordKept};
 
 use crate::{check, figure};
 use blackdots::picture;
 use blocks::character;
 use form::records;
-use form::records::{Begin, Met};
+use form::records::{Record, Records};
 
 // Brings the seven numbers of a code up to date with a character of it, by its kept bytes and its data.
 fn add_character(k: &[u8], d: &[u8], b: &mut [u8], code: u32)
@@ -25,39 +27,18 @@ fn add_character(k: &[u8], d: &[u8], b: &mut [u8], code: u32)
     figure::put_figure(
         b,
         at,
-        figure::with_character(f, width as usize, dots as usize, delta as usize),
+        figure::with_character(f, usize::from(width), dots as usize, delta as usize),
     );
 }
 
-// Whether a record stands at a place of the run, and the place of the next one.
-#[derive(Clone, Copy)]
-pub enum NextRecord {
-    At(usize),
-    End,
-}
-
-fn add_record(s: &[u8], at: usize, b: &mut [u8]) -> NextRecord
-    requires { RecordPlace s.now at × (length b.old ≡ figures_bytes) × Roomy b.old (records_at s.now at) }
-    ensures { RecordAdded s.now at b.old b.new result }
+// Adds a record.
+fn add_record(r: Record<'_>, b: &mut [u8])
+    requires { RecordKept r × ((rs : List Rec) × Roomy b.old (record_of r ∷ rs)) }
+    ensures { b.new ≡ with_record b.old (record_of r.entry) }
 {
-    match records::next_record(s, at) {
-        Met::Font {
-            number: _,
-            kept: _,
-            next,
-        } => NextRecord::At(next),
-        Met::Character {
-            number: _,
-            code,
-            kept,
-            bytes,
-            next,
-        } => {
-            let end = kept + character::KEPT;
-            add_character(&s[kept..end], &s[bytes..next], b, code);
-            NextRecord::At(next)
-        }
-        Met::End => NextRecord::End,
+    if let Record::Character { code, bytes, .. } = r {
+        let (kept, data) = bytes.split_at(character::KEPT);
+        add_character(kept, data, b, code);
     }
 }
 
@@ -66,16 +47,8 @@ fn add_records(s: &[u8], from: usize, b: &mut [u8])
     requires { RecordPlace s.now from × (length b.old ≡ figures_bytes) × Roomy b.old (records_at s.now from) }
     ensures { b.new ≡ with_records (records_at s.now from) b.old }
 {
-    let mut at = from;
-    loop {
-        match add_record(s, at, b) {
-            NextRecord::At(next) => {
-                at = next;
-            }
-            NextRecord::End => {
-                return;
-            }
-        }
+    for record in Records::starting_at(s, from) {
+        add_record(record, b);
     }
 }
 
@@ -84,7 +57,7 @@ pub fn add_figures(store: &[u8], figures: &mut [u8]) -> u32
     ensures value { result ≡ (adding_figures store.now figures.old).answer }
     ensures figures_after { figures.new ≡ (adding_figures store.now figures.old).bytes }
 {
-    let Begin::At(at) = records::begin_records(store) else {
+    let Some(at) = records::begin_records(store) else {
         return 1;
     };
     if !check::figures_taken(figures) {
@@ -92,6 +65,6 @@ pub fn add_figures(store: &[u8], figures: &mut [u8]) -> u32
     }
     add_records(store, at, figures);
     let stores = figure::number_at(figures, 0);
-    change::put64(figures, 0, stores + 1);
+    change::put::<8>(figures, 0, stores + 1);
     0
 }

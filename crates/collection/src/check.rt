@@ -29,12 +29,10 @@ fn codes_within(b: &[u8], most: usize) -> bool
     requires { (length b.now ≡ figures_bytes) × (most ≤ most_in_stores) }
     ensures { result ≡ codes_within b.now most (last_code + 1) }
 {
-    let mut c: usize = 0;
-    while c <= LAST_CODE {
-        if !code_within(b, c, most) {
+    for code in 0..LAST_CODE + 1 {
+        if !code_within(b, code, most) {
             return false;
         }
-        c += 1;
     }
     true
 }

@@ -1,13 +1,11 @@
 // The figure of a code, and the bytes that it stands in.
 ghost use Rattle.std.specs.Prelude.{◌≡◌, ◌+◌, ◌≤◌, ◌<◌, ◌^◌, max, length};
 ghost use Rattle.form.specs.Layout.{last_code};
-ghost use Rattle.form.specs.Num.{double_end, low_first, field};
+ghost use Rattle.form.specs.Num.{low_first, field};
 ghost use Rattle.change.specs.Put.{with_bytes};
 ghost use Rattle.collection.specs.Figures.{lesser_width, joined, mean, rest, code_bytes, figures_bytes, code_place, figure_from, figure_at, bytes_of_figure};
 
 use change;
-use form::layout::{DOUBLE_END, WORD_END};
-use form::number;
 
 // Of the characters of one code: how many there are, the black dots, the least and greatest width, the sum of delta X.
 #[derive(Clone, Copy)]
@@ -39,19 +37,14 @@ const MEAN_AT: usize = 5 * NUMBER_BYTES;
 
 const REST_AT: usize = 6 * NUMBER_BYTES;
 
-fn half_at(b: &[u8], at: usize) -> usize
-    requires { at + 4 ≤ length b.now }
-    ensures { (result ≡ field 4 at b.now) × (result < double_end) }
-{
-    number::le16(b, at) + WORD_END * number::le16(b, at + 2)
-}
-
 // The number in eight bytes, low byte first.
 pub(crate) fn number_at(b: &[u8], at: usize) -> usize
     requires { at + 8 ≤ length b.now }
     ensures { result ≡ field 8 at b.now }
 {
-    half_at(b, at) + DOUBLE_END * half_at(b, at + 4)
+    let mut bytes = [0; NUMBER_BYTES];
+    bytes.copy_from_slice(&b[at..at + NUMBER_BYTES]);
+    usize::from_le_bytes(bytes)
 }
 
 // The figure that stands at a place.
@@ -59,17 +52,12 @@ pub(crate) fn figure_at(b: &[u8], at: usize) -> Figure
     requires { at + code_bytes ≤ length b.now }
     ensures { result ≡ figure_from b.now at }
 {
-    let count = number_at(b, at);
-    let dots = number_at(b, at + DOTS_AT);
-    let least = number_at(b, at + LEAST_AT);
-    let greatest = number_at(b, at + GREATEST_AT);
-    let sum = number_at(b, at + SUM_AT);
     Figure {
-        count,
-        dots,
-        least,
-        greatest,
-        sum,
+        count: number_at(b, at),
+        dots: number_at(b, at + DOTS_AT),
+        least: number_at(b, at + LEAST_AT),
+        greatest: number_at(b, at + GREATEST_AT),
+        sum: number_at(b, at + SUM_AT),
     }
 }
 
@@ -93,19 +81,10 @@ pub fn figure_of(b: &[u8], code: usize) -> Figure
 fn lesser_width(a: usize, b: usize) -> usize
     ensures { result ≡ lesser_width a b }
 {
-    if a == 0 {
-        return b;
+    match (a, b) {
+        (0, w) | (w, 0) => w,
+        (v, w) => v.min(w),
     }
-    if b == 0 {
-        return a;
-    }
-    if a < b { a } else { b }
-}
-
-fn greater_width(a: usize, b: usize) -> usize
-    ensures { result ≡ max a b }
-{
-    if a < b { b } else { a }
 }
 
 // With one character more.
@@ -113,34 +92,26 @@ pub(crate) fn with_character(f: Figure, width: usize, dots: usize, delta: usize)
     requires { (f.count + 1 < 2 ^ 64) × (f.dots + dots < 2 ^ 64) × (f.sum + delta < 2 ^ 64) }
     ensures { result ≡ joined f (record { count = 1; dots = dots; least = width; greatest = width; sum = delta }) }
 {
-    let least = lesser_width(f.least, width);
-    let greatest = greater_width(f.greatest, width);
     Figure {
         count: f.count + 1,
         dots: f.dots + dots,
-        least,
-        greatest,
+        least: lesser_width(f.least, width),
+        greatest: f.greatest.max(width),
         sum: f.sum + delta,
     }
 }
 
-// The mean of a sum, rounded down, and the rest; 0 and 0 of none.
+// The mean of a sum, rounded down; 0 of none. So is the rest.
 pub fn mean(sum: usize, count: usize) -> usize
     ensures { result ≡ mean sum count }
 {
-    if count == 0 {
-        return 0;
-    }
-    sum / count
+    sum.checked_div(count).unwrap_or(0)
 }
 
 pub fn rest(sum: usize, count: usize) -> usize
     ensures { result ≡ rest sum count }
 {
-    if count == 0 {
-        return 0;
-    }
-    sum % count
+    sum.checked_rem(count).unwrap_or(0)
 }
 
 // Writes the seven numbers of a code at a place.
@@ -148,11 +119,11 @@ pub(crate) fn put_figure(b: &mut [u8], at: usize, f: Figure)
     requires { at + code_bytes ≤ length b.old }
     ensures { b.new ≡ with_bytes b.old at (bytes_of_figure f) }
 {
-    change::put64(b, at, f.count);
-    change::put64(b, at + DOTS_AT, f.dots);
-    change::put64(b, at + LEAST_AT, f.least);
-    change::put64(b, at + GREATEST_AT, f.greatest);
-    change::put64(b, at + SUM_AT, f.sum);
-    change::put64(b, at + MEAN_AT, mean(f.sum, f.count));
-    change::put64(b, at + REST_AT, rest(f.sum, f.count));
+    change::put::<8>(b, at, f.count);
+    change::put::<8>(b, at + DOTS_AT, f.dots);
+    change::put::<8>(b, at + LEAST_AT, f.least);
+    change::put::<8>(b, at + GREATEST_AT, f.greatest);
+    change::put::<8>(b, at + SUM_AT, f.sum);
+    change::put::<8>(b, at + MEAN_AT, mean(f.sum, f.count));
+    change::put::<8>(b, at + REST_AT, rest(f.sum, f.count));
 }

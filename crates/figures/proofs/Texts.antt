@@ -1,7 +1,7 @@
 -- Laws of the lines and of the whole text. Assumes nothing.
 use Prim.Native.Nat.{ℕ, zero, suc, ◌+◌, ◌*◌, ◌<◌, ◌≤◌}
 use mathlib.Core.Path.{◌≡◌, refl, sym, ap, ap₂, ◌∙◌, subst}
-use mathlib.Core.List.{List, ◌++◌}
+use mathlib.Core.List.{List, [], ◌∷◌, ◌++◌}
 use mathlib.Core.Bool.{true, false}
 use native.Mathlib.Omega.{arith}
 use native.Mathlib.Numerals.{add-one}
@@ -20,22 +20,16 @@ use Rattle.text.specs.Wrote.{Wrote}
 use Rattle.text.specs.Column.{column}
 use Rattle.text.proofs.Writes.{wrote_none, wrote_put, wrote_length, wrote_then}
 use Rattle.figures.specs.Table.{figures_heading, not_store, first_columns, last_columns, figure_line, code_line, figure_lines, figures_table, line_room, table_room}
-use Rattle.figures.specs.Lines.{lines_in}
+use Rattle.figures.specs.Lines.{four_columns, lines_in}
 
 -- ── a line
-pub wrote_first : (s o₁ o₂ o₃ o₄ : List ℕ) (at e₁ e₂ e₃ e₄ a b c d : ℕ) → Wrote s at (column a 32) e₁ o₁ → Wrote o₁ e₁ (column b 32) e₂ o₂
-    → Wrote o₂ e₂ (column c 32) e₃ o₃ → Wrote o₃ e₃ (column d 32) e₄ o₄ → Wrote s at (first_columns a b c d) e₄ o₄
-unfolding first_columns
-wrote_first s o₁ o₂ o₃ o₄ at e₁ e₂ e₃ e₄ a b c d w x y z = wrote_then _ _ _ _ _ _ _ _ w (wrote_then _ _ _ _ _ _ _ _ x (wrote_then _ _ _ _ _ _ _ _ y z))
+pub wrote_four : (s o₁ o₂ o₃ o₄ : List ℕ) (at e₁ e₂ e₃ e₄ a b c d x : ℕ) → Wrote s at (column a 32) e₁ o₁ → Wrote o₁ e₁ (column b 32) e₂ o₂
+    → Wrote o₂ e₂ (column c 32) e₃ o₃ → Wrote o₃ e₃ (column d x) e₄ o₄ → Wrote s at (column a 32 ++ (column b 32 ++ (column c 32 ++ column d x))) e₄ o₄
+wrote_four s o₁ o₂ o₃ o₄ at e₁ e₂ e₃ e₄ a b c d x p q r t = wrote_then _ _ _ _ _ _ _ _ p (wrote_then _ _ _ _ _ _ _ _ q (wrote_then _ _ _ _ _ _ _ _ r t))
 
-pub wrote_last : (s o₁ o₂ o₃ o₄ : List ℕ) (at e₁ e₂ e₃ e₄ a b c d : ℕ) → Wrote s at (column a 32) e₁ o₁ → Wrote o₁ e₁ (column b 32) e₂ o₂
-    → Wrote o₂ e₂ (column c 32) e₃ o₃ → Wrote o₃ e₃ (column d 10) e₄ o₄ → Wrote s at (last_columns a b c d) e₄ o₄
-unfolding last_columns
-wrote_last s o₁ o₂ o₃ o₄ at e₁ e₂ e₃ e₄ a b c d w x y z = wrote_then _ _ _ _ _ _ _ _ w (wrote_then _ _ _ _ _ _ _ _ x (wrote_then _ _ _ _ _ _ _ _ y z))
-
-pub wrote_line : (s o₁ o₂ : List ℕ) (at e₁ e₂ code m r : ℕ) (f : Figure) → Wrote s at (first_columns code f.count f.dots f.least) e₁ o₁
-    → m ≡ mean f.sum f.count → r ≡ rest f.sum f.count → Wrote o₁ e₁ (last_columns f.greatest f.sum m r) e₂ o₂ → Wrote s at (figure_line code f) e₂ o₂
-unfolding figure_line
+pub wrote_line : (s o₁ o₂ : List ℕ) (at e₁ e₂ code m r : ℕ) (f : Figure) → Wrote s at (four_columns (code ∷ f.count ∷ f.dots ∷ f.least ∷ []) 32) e₁ o₁
+    → m ≡ mean f.sum f.count → r ≡ rest f.sum f.count → Wrote o₁ e₁ (four_columns (f.greatest ∷ f.sum ∷ m ∷ r ∷ []) 10) e₂ o₂ → Wrote s at (figure_line code f) e₂ o₂
+unfolding figure_line first_columns last_columns
 wrote_line s o₁ o₂ at e₁ e₂ code m r f w p q x = wrote_then _ _ _ _ _ _ _ _ w (rw (p, q) at x)
 
 pub wrote_lacking : (s : List ℕ) (at code : ℕ) (f g : Figure) → f ≡ g → f.count ≡ 0 → at ≤ length s → Wrote s at (code_line code g) at s

@@ -28,10 +28,8 @@ pub fn write_lines(out: &mut [u8], at: usize, figures: &[u8]) -> usize
     ensures { Wrote out.old at (lines_in figures.now (last_code + 1)) result out.new }
 {
     let mut to = at;
-    let mut code: usize = 0;
-    while code <= LAST_CODE {
+    for code in 0..LAST_CODE + 1 {
         to = write_code(out, to, figures, code);
-        code += 1;
     }
     to
 }

@@ -1,5 +1,6 @@
 -- What the inspection of a buffer answers, by its first record and the walk over the others. Assumes nothing.
 use mathlib.Core.Path.{◌≡◌, refl, ap, ◌∙◌}
+use Rattle.std.specs.Prelude.{Some, None}
 use mathlib.Core.List.{List}
 use mathlib.Core.Bool.{Bool, true, false, not, cond, ◌||◌}
 use mathlib.Core.Option.{Option, none, some}
@@ -13,14 +14,11 @@ use Rattle.form.specs.Num.{◌and◌, field}
 use Rattle.form.specs.Model.{Rec, Mark, no_owner, Store, sorted, no_characters, tally_of, counted, opened, mark_ok, only_if, split, mark_in, begins, valid_or, decode}
 use Rattle.form.specs.Cursor.{EndKnown}
 use Rattle.form.proofs.Counts.{settled_counted}
-use Rattle.form.specs.Walk.{walk_start, tallied, end_of, walked_over, walked, mark_seen, surveyed_over, surveyed, checked_store, inspected, Stands}
+use Rattle.form.specs.Walk.{Walked, walk_start, tallied, end_of, walked_over, walked, mark_seen, surveyed_over, surveyed, checked_store, inspected, Stands}
 use Rattle.form.specs.declared.walk.Places.{Places}
 use Rattle.form.specs.declared.walk.RunEnd.{RunEnd}
-use Rattle.form.specs.declared.walk.Walk.TheVariants.{Run, NotStore}
 use Rattle.form.specs.declared.walk.MarkSeen.{MarkSeen}
 use Rattle.form.specs.declared.walk.MarkSeen.TheVariants.{Shut, Open, Wrong}
-use Rattle.form.specs.declared.walk.Checked.TheVariants.{Store as Is, NotStore}
-use Rattle.form.specs.declared.walk.Inspected.TheVariants.{Found, NotStore}
 
 -- ── the first record
 module _ (s : List ℕ) where
@@ -71,37 +69,38 @@ module _ (m : Mark) where
 
 -- ── the records
 module _ (n m : ℕ) (must : Bool) (s : List ℕ) where
-  surveyed_some : (rs : List Rec) (u : RunEnd) (k : Bool) → walked_over n m walk_start s (some rs) ≡ Run u k → surveyed_over n m must s (some rs) ≡ cond (not must || k) (Is u) NotStore
+  surveyed_some : (rs : List Rec) (u : RunEnd) (k : Bool) → walked_over n m walk_start s (some rs) ≡ Some (u, k) → surveyed_over n m must s (some rs) ≡ cond (not must || k) (Some u) None
   unfolding walked_over surveyed_over ◌and◌
   surveyed_some rs u k e = rw (← (settled_counted s rs)) (go (sorted 0 no_owner rs and tallied no_characters no_characters s rs) e)
     where
-      go : (b : Bool) → cond b (Run (end_of n walk_start rs) (opened m rs)) NotStore ≡ Run u k
-          → cond (b and (not must || opened m rs)) (Is (end_of n walk_start rs)) NotStore ≡ cond (not must || k) (Is u) NotStore
+      go : (b : Bool) → cond {A = Walked} b (Some (end_of n walk_start rs, opened m rs)) None ≡ Some (u, k)
+          → cond (b and (not must || opened m rs)) (Some (end_of n walk_start rs)) None ≡ cond (not must || k) (Some u) None
       go true e' =
-          let a : end_of n walk_start rs ≡ u = cc in
-          let b : opened m rs ≡ k = cc in
+          let q : ◌≡◌ {A = RunEnd × Bool} (end_of n walk_start rs, opened m rs) (u, k) = cc in
+          let a : end_of n walk_start rs ≡ u = ap (λ (t : RunEnd × Bool). t.0) q in
+          let b : opened m rs ≡ k = ap (λ (t : RunEnd × Bool). t.1) q in
           rw (← b, ← a)
       go false e' = let z : ◌≡◌ {A = ℕ} 0 1 = cc in absurd (omega arith)
 
-  surveyed_none : (rs : List Rec) → walked_over n m walk_start s (some rs) ≡ NotStore → surveyed_over n m must s (some rs) ≡ NotStore
+  surveyed_none : (rs : List Rec) → walked_over n m walk_start s (some rs) ≡ None → surveyed_over n m must s (some rs) ≡ None
   unfolding walked_over surveyed_over ◌and◌
   surveyed_none rs e = rw (← (settled_counted s rs)) (go (sorted 0 no_owner rs and tallied no_characters no_characters s rs) e)
     where
-      go : (b : Bool) → cond b (Run (end_of n walk_start rs) (opened m rs)) NotStore ≡ NotStore → cond (b and (not must || opened m rs)) (Is (end_of n walk_start rs)) NotStore ≡ NotStore
+      go : (b : Bool) → cond {A = Walked} b (Some (end_of n walk_start rs, opened m rs)) None ≡ None → cond (b and (not must || opened m rs)) (Some (end_of n walk_start rs)) None ≡ None
       go true e' = let z : ◌≡◌ {A = ℕ} 0 1 = cc in absurd (omega arith)
       go false e' = refl
 
-  pub surveyed_run : (u : RunEnd) (k : Bool) → walked n m walk_start s ≡ Run u k → surveyed n m must s ≡ cond (not must || k) (Is u) NotStore
+  pub surveyed_run : (u : RunEnd) (k : Bool) → walked n m walk_start s ≡ Some (u, k) → surveyed n m must s ≡ cond (not must || k) (Some u) None
   surveyed_run u k e = go (split s) e
     where
-      go : (o : Option (List Rec)) → walked_over n m walk_start s o ≡ Run u k → surveyed_over n m must s o ≡ cond (not must || k) (Is u) NotStore
+      go : (o : Option (List Rec)) → walked_over n m walk_start s o ≡ Some (u, k) → surveyed_over n m must s o ≡ cond (not must || k) (Some u) None
       go none e' = unfold walked_over in let z : ◌≡◌ {A = ℕ} 0 1 = cc in absurd (omega arith)
       go (some rs) e' = surveyed_some rs u k e'
 
-  pub surveyed_broken : walked n m walk_start s ≡ NotStore → surveyed n m must s ≡ NotStore
+  pub surveyed_broken : walked n m walk_start s ≡ None → surveyed n m must s ≡ None
   surveyed_broken e = go (split s) e
     where
-      go : (o : Option (List Rec)) → walked_over n m walk_start s o ≡ NotStore → surveyed_over n m must s o ≡ NotStore
+      go : (o : Option (List Rec)) → walked_over n m walk_start s o ≡ None → surveyed_over n m must s o ≡ None
       go none e' = unfold surveyed_over in refl
       go (some rs) e' = surveyed_none rs e'
 
@@ -126,7 +125,7 @@ mark_by m rs = go (eqb m.on 0) (eqb m.font_of 0 and eqb m.code_of 0) (eqb m.on 1
     go false b false d e = unfold ◌and◌ in refl
 
 module _ (n : ℕ) (s : List ℕ) where
-  pub check_not : begins s ≡ false → checked_store n (decode s) ≡ NotStore
+  pub check_not : begins s ≡ false → checked_store n (decode s) ≡ None
   unfolding decode only_if checked_store
   check_not e = rw e
 
@@ -137,21 +136,21 @@ module _ (n : ℕ) (s : List ℕ) where
   unfolding decode only_if
   check_by e = rw e
 
-  pub check_wrong : begins s ≡ true → mark_seen (mark_in s) ≡ Wrong → checked_store n (decode s) ≡ NotStore
+  pub check_wrong : begins s ≡ true → mark_seen (mark_in s) ≡ Wrong → checked_store n (decode s) ≡ None
   check_wrong e w = check_by e ∙ go (split records)
     where
-      go : (o : Option (List Rec)) → checked_store n (valid_or (length s) (mark_in s) records o) ≡ NotStore
+      go : (o : Option (List Rec)) → checked_store n (valid_or (length s) (mark_in s) records o) ≡ None
       go none = unfold valid_or checked_store in refl
       go (some rs) = unfold valid_or checked_store only_if in rw (mark_by (mark_in s) rs, w) (fail (sorted 0 no_owner rs and counted (tally_of rs) records rs) rs)
         where
-          fail : (b : Bool) (rs : List Rec) → checked_store n (only_if (b and false) (some (record { size = length s; mark = mark_in s; recs = rs }))) ≡ NotStore
+          fail : (b : Bool) (rs : List Rec) → checked_store n (only_if (b and false) (some (record { size = length s; mark = mark_in s; recs = rs }))) ≡ None
           fail true rs = unfold ◌and◌ only_if checked_store in refl
           fail false rs = unfold ◌and◌ only_if checked_store in refl
 
   check_is : (m : ℕ) (must : Bool) → begins s ≡ true → ((rs : List Rec) → mark_ok (mark_in s) rs ≡ not must || opened m rs) → checked_store n (decode s) ≡ surveyed n m must records
   check_is m must e k = check_by e ∙ go (split records)
     where
-      give : (b : Bool) (rs : List Rec) → checked_store n (only_if b (some (record { size = length s; mark = mark_in s; recs = rs }))) ≡ cond b (Is (end_of n walk_start rs)) NotStore
+      give : (b : Bool) (rs : List Rec) → checked_store n (only_if b (some (record { size = length s; mark = mark_in s; recs = rs }))) ≡ cond b (Some (end_of n walk_start rs)) None
       give true rs = unfold only_if checked_store in refl
       give false rs = unfold only_if checked_store in refl
 
@@ -166,24 +165,24 @@ module _ (n : ℕ) (s : List ℕ) where
   check_open k e w = check_is k true e (λ rs. mark_by (mark_in s) rs ∙ rw w)
 
 -- ── the places, by the check and the search behind it
-pub not_checked : (n : ℕ) (s : List ℕ) → checked_store n (decode s) ≡ NotStore → decode s ≡ none
+pub not_checked : (n : ℕ) (s : List ℕ) → checked_store n (decode s) ≡ None → decode s ≡ none
 not_checked n s e = go (decode s) refl e
   where
-    go : (o : Option Store) → decode s ≡ o → checked_store n o ≡ NotStore → decode s ≡ none
+    go : (o : Option Store) → decode s ≡ o → checked_store n o ≡ None → decode s ≡ none
     go none q e' = q
     go (some st) q e' = unfold checked_store in let z : ◌≡◌ {A = ℕ} 0 1 = cc in absurd (omega arith)
 
-pub inspect_not : (n p : ℕ) (s : List ℕ) → checked_store n (decode s) ≡ NotStore → inspected n p (decode s) ≡ NotStore
+pub inspect_not : (n p : ℕ) (s : List ℕ) → checked_store n (decode s) ≡ None → inspected n p (decode s) ≡ None
 unfolding inspected
 inspect_not n p s e = rw (not_checked n s e)
 
-pub ends_by : (n : ℕ) (s : List ℕ) (e : RunEnd) → checked_store n (decode s) ≡ Is e → EndKnown n s e
+pub ends_by : (n : ℕ) (s : List ℕ) (e : RunEnd) → checked_store n (decode s) ≡ Some e → EndKnown n s e
 ends_by n s u e = go (decode s) refl e
   where
-    go : (o : Option Store) → decode s ≡ o → checked_store n o ≡ Is u → EndKnown n s u
+    go : (o : Option Store) → decode s ≡ o → checked_store n o ≡ Some u → EndKnown n s u
     go none q e' = unfold checked_store in let z : ◌≡◌ {A = ℕ} 0 1 = cc in absurd (omega arith)
     go (some st) q e' = unfold checked_store in let a : u ≡ end_of n walk_start st.recs = cc in record { store = st; is = q; end = a }
 
-pub inspect_found : (n p : ℕ) (s : List ℕ) (w : Places) → Stands n p s w → inspected n p (decode s) ≡ Found w
+pub inspect_found : (n p : ℕ) (s : List ℕ) (w : Places) → Stands n p s w → inspected n p (decode s) ≡ Some w
 unfolding inspected
-inspect_found n p s w x = rw x.is (ap Found x.at)
+inspect_found n p s w x = rw x.is (ap Some x.at)

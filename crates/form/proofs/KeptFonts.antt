@@ -1,5 +1,6 @@
 -- The kept fonts of a store among its records. Assumes nothing.
 use mathlib.Core.Path.{◌≡◌, refl, sym, ap, ◌∙◌}
+use Rattle.std.specs.Prelude.{Some}
 use mathlib.Core.List.{List, [], ◌∷◌, ◌++◌}
 use mathlib.Core.Bool.{true}
 use mathlib.Core.Option.{Option, none, some}
@@ -12,20 +13,18 @@ use Rattle.form.specs.Num.{field}
 use Rattle.form.specs.Model.{Rec, font, character, Store, Owner, owner_after, no_owner, sorted, number, place, key, total, decode}
 use Rattle.form.specs.Records.{records_in, font_place, records_at, RecordPlace, Begun, font_from, FontMet, CharacterMet}
 use Rattle.form.specs.Fonts.{fonts_in, fonts_of, fonts_at, RisingFrom}
-use Rattle.form.specs.declared.records.Begin.TheVariants.{At}
+use Rattle.std.specs.Iterator.{MakesProgress, item_count}
+use Rattle.form.specs.FontsLeft.{font_given, fonts_to_come, FontsOn}
+use Rattle.form.specs.declared.kept_fonts.KeptFont.{KeptFont}
+use Rattle.form.specs.declared.kept_fonts.KeptFonts.{KeptFonts}
 use Rattle.form.proofs.Codec.{sorted_inv}
 use Rattle.form.proofs.RecordRuns.{records_are, records_short, records_zero, decoded}
 use Rattle.form.specs.Order.{below}
 use Rattle.form.proofs.Order.{below_front}
 
-module _ (s : List ℕ) (at : ℕ) (p : RecordPlace s at) where
-  pub fonts_short : length s - at < character_record → fonts_at s at ≡ []
-  unfolding fonts_at fonts_in
-  fonts_short l = ap fonts_in (records_short s at p l)
-
-  pub fonts_zero : field 4 at s ≡ 0 → fonts_at s at ≡ []
-  unfolding fonts_at fonts_in
-  fonts_zero x = ap fonts_in (records_zero s at p x)
+pub fonts_end : (s : List ℕ) (at : ℕ) → records_at s at ≡ [] → fonts_at s at ≡ []
+unfolding fonts_at fonts_in
+fonts_end s at e = ap fonts_in e
 
 pub font_listed : (s : List ℕ) (at n kept next : ℕ) → FontMet s at n kept next → fonts_at s at ≡ record { number = n; kept = take header_bytes (drop kept s) } ∷ fonts_at s next
 unfolding fonts_at fonts_in
@@ -73,6 +72,10 @@ font_place_lem s at n kept next p m =
     sym p.sum ∙ ap (λ (l : List Rec). mark_record + total l) (sym b)
 
 -- the fonts from where the run begins
-pub fonts_begun : (s : List ℕ) (p : ℕ) → Begun s (At p) → fonts_at s p ≡ fonts_of s
+pub fonts_begun : (s : List ℕ) (p : ℕ) → Begun s (Some p) → fonts_at s p ≡ fonts_of s
 unfolding fonts_of fonts_at
 fonts_begun s p b = ap fonts_in b.2
+
+-- ── a font that is given leaves one less
+pub one_less : (old new : KeptFonts) (f : KeptFont) → FontsOn new → fonts_to_come old ≡ font_given f ∷ fonts_to_come new → MakesProgress FontsOn (item_count fonts_to_come) old (Some f) new
+one_less old new f k e = record { on = λ _. (k, tt, omega (arith, ap length e)); keeps = k; rests = λ _. tt }

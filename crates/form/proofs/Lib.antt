@@ -15,4 +15,4 @@ pub mod RecordRuns
 pub mod KeptFonts
 pub mod Locates
 pub mod FontRecords
-pub mod Meetings
+pub mod Runs

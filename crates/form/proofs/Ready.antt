@@ -1,5 +1,6 @@
 -- What an inspection that finds a store tells. Assumes nothing.
 use mathlib.Core.Path.{◌≡◌, refl, sym, ap, ◌∙◌}
+use Rattle.std.specs.Prelude.{Some, None}
 use mathlib.Core.List.{List, ◌++◌}
 use mathlib.Core.Bool.{Bool, true, false, cond}
 use mathlib.Core.Option.{Option, none, some}
@@ -15,8 +16,6 @@ use Rattle.form.specs.Model.{Rec, font, Store, no_owner, sorted, tally_of, bytes
 use Rattle.form.specs.Order.{below, from, find_record}
 use Rattle.form.specs.Walk.{places_of, inspected, Stands}
 use Rattle.form.specs.declared.walk.Places.{Places}
-use Rattle.form.specs.declared.walk.Lookup.TheVariants.{At, Missing}
-use Rattle.form.specs.declared.walk.Inspected.TheVariants.{Found as FoundAt, NotStore}
 use Rattle.form.proofs.RecordBytes.{size_pos}
 use Rattle.form.proofs.Codec.{encode_decode, length_encode, encode_parts, spare, mark_length}
 use Rattle.form.proofs.Order.{split_at}
@@ -38,11 +37,11 @@ pub record Ready (n p : ℕ) (s : List ℕ) (w : Places) : Type 0 where
   pub room : w.used ≤ length s
 
 module _ (n p : ℕ) (s : List ℕ) where
-  pub not_store_lem : inspected n p (decode s) ≡ NotStore → decode s ≡ none
+  pub not_store_lem : inspected n p (decode s) ≡ None → decode s ≡ none
   unfolding inspected
   not_store_lem e = go (decode s) refl e
     where
-      go : (o : Option Store) → decode s ≡ o → inspected n p o ≡ NotStore → decode s ≡ none
+      go : (o : Option Store) → decode s ≡ o → inspected n p o ≡ None → decode s ≡ none
       go none q e' = q
       go (some st) q e' = let z : ◌≡◌ {A = ℕ} 0 1 = cc in absurd (omega arith)
 
@@ -77,11 +76,11 @@ module _ (n p : ℕ) (s : List ℕ) where
   pub standing : Bytes s → (w : Places) → Stands n p s w → Ready n p s w
   standing B w x = ready_of B w x.store x.is x.at
 
-  pub ready : Bytes s → (w : Places) → inspected n p (decode s) ≡ FoundAt w → Ready n p s w
+  pub ready : Bytes s → (w : Places) → inspected n p (decode s) ≡ Some w → Ready n p s w
   unfolding inspected
   ready B w e = go (decode s) refl e
     where
-      go : (o : Option Store) → decode s ≡ o → inspected n p o ≡ FoundAt w → Ready n p s w
+      go : (o : Option Store) → decode s ≡ o → inspected n p o ≡ Some w → Ready n p s w
       go none q e' = let z : ◌≡◌ {A = ℕ} 0 1 = cc in absurd (omega arith)
       go (some st) q e' = ready_of B w st q (cc)
 
@@ -93,17 +92,17 @@ pub stands : {n p : ℕ} {s : List ℕ} {w : Places} → Ready n p s w → Stand
 stands r = record { store = r.store; is = r.is; at = sym r.at }
 
 -- ── lookups
-pub looked_at : (a b : ℕ) (w x : Places) → cond (ltb a b) (At w) Missing ≡ At x → (a < b) × (w ≡ x)
+pub looked_at : (a b : ℕ) (w x : Places) → cond (ltb a b) (Some w) None ≡ Some x → (a < b) × (w ≡ x)
 looked_at a b w x e = go (ltb a b) refl e
   where
-    go : (t : Bool) → ltb a b ≡ t → cond t (At w) Missing ≡ At x → (a < b) × (w ≡ x)
+    go : (t : Bool) → ltb a b ≡ t → cond t (Some w) None ≡ Some x → (a < b) × (w ≡ x)
     go true q e' = (ltb-true a b q, cc)
     go false q e' = let z : ◌≡◌ {A = ℕ} 0 1 = cc in absurd (omega arith)
 
-pub looked_not : (a b : ℕ) (w : Places) → cond (ltb a b) (At w) Missing ≡ Missing → b ≤ a
+pub looked_not : (a b : ℕ) (w : Places) → cond (ltb a b) (Some w) None ≡ None → b ≤ a
 looked_not a b w e = go (ltb a b) refl e
   where
-    go : (t : Bool) → ltb a b ≡ t → cond t (At w) Missing ≡ Missing → b ≤ a
+    go : (t : Bool) → ltb a b ≡ t → cond t (Some w) None ≡ None → b ≤ a
     go true q e' = let z : ◌≡◌ {A = ℕ} 0 1 = cc in absurd (omega arith)
     go false q e' = ltb-false a b q
 

@@ -1,5 +1,6 @@
 -- The records of a store by their places. Assumes nothing.
 use mathlib.Core.Path.{◌≡◌, refl, sym, ap, ◌∙◌, subst}
+use Rattle.std.specs.Prelude.{Some}
 use mathlib.Core.List.{List, [], ◌∷◌, ◌++◌, append_assoc}
 use mathlib.Core.Bool.{Bool, true, false, cond}
 use mathlib.Core.Option.{Option, none, some}
@@ -11,7 +12,6 @@ use Rattle.form.specs.Layout.{kind_at, number_at, mark_record, least_store, font
 use Rattle.form.specs.Num.{field, all_zero}
 use Rattle.form.specs.Model.{Rec, font_in, character_in, Store, owner_after, no_owner, allowed, sorted, key, head_rec, size_of, total, and_then, split, tally_of, counted, mark_in, decode, valid_or}
 use Rattle.form.specs.Records.{is_store, records_in, records_at, RecordPlace, Begun, MetAt, font_from, FontMet, character_from, CharacterMet}
-use Rattle.form.specs.declared.records.Begin.TheVariants.{At}
 use Rattle.form.proofs.Numbers.{zeros_field, both_l, both_r}
 use Rattle.form.proofs.Fields.{field_drop}
 use Rattle.form.proofs.RecordBytes.{zero_head, Headed, is_font_lem, is_character, head_inv, guard_test, guard_is, allowed_char, allowed_font, kept_sides}
@@ -125,7 +125,7 @@ module _ (s : List ℕ) (at : ℕ) (p : RecordPlace s at) where
   font_is ts e h q =
       let a = allowed_font p.behind _ _ (allowed_here font_here ts e) in
       let m : MetAt s at font_here (at + font_record) = met_at font_here ts e h q in
-      record { met = m; low = a.0; room = omega (arith, m.within); header = a.1 }
+      record { met = m; low = a.0; here = refl; room = omega (arith, m.within); header = a.1 }
 
   pub font_met : (field 4 at s ≡ 0 → ⊥) → field 2 (at + kind_at) s ≡ font_kind → FontMet s at (field 2 (at + number_at) s) (at + font_kept_at) (at + font_record)
   font_met x k = go (stands_at (drop at s) p.recs p.is)
@@ -192,7 +192,7 @@ decoded s st e = go (split (drop mark_record s)) refl (guard_is _ _ st e)
         let j : rs ≡ st.recs = ap (λ (x : Store). x.recs) i in
         ((begins_parts s (guard_test _ _ st e)).0, rw (← j) q, rw (← j) (both_l _ _ (both_l _ _ (guard_test _ _ st e'))), rw (← j) (both_r _ _ (both_l _ _ (guard_test _ _ st e'))))
 
-pub begun : (s : List ℕ) (st : Store) → decode s ≡ some st → Begun s (At mark_record)
+pub begun : (s : List ℕ) (st : Store) → decode s ≡ some st → Begun s (Some mark_record)
 unfolding is_store records_in records_at total
 begun s st e =
     let d = decoded s st e in

@@ -1,7 +1,9 @@
 -- A walk over the records, step by step. Assumes nothing.
 use mathlib.Core.Path.{◌≡◌, refl, sym, ap, ◌∙◌, subst}
+use Rattle.std.specs.Prelude.{Some, None}
+use Rattle.std.specs.declared.ops.ControlFlow.TheVariants.{Continue, Break}
 use mathlib.Core.List.{List, [], ◌∷◌}
-use mathlib.Core.Bool.{Bool, true, false, cond, ◌&&◌, ◌||◌}
+use mathlib.Core.Bool.{Bool, true, false, not, cond, ◌&&◌, ◌||◌}
 use mathlib.Core.Option.{Option, none, some}
 use Prim.Native.Nat.{ℕ, ◌+◌, ◌-◌, ◌<◌, ◌≤◌}
 use native.Mathlib.Omega.{arith}
@@ -14,11 +16,10 @@ use Rattle.form.specs.Layout.{key_of, character_record, last_font}
 use Rattle.form.specs.Num.{◌and◌, field, all_zero}
 use Rattle.form.specs.Model.{Rec, font, character, Owner, owner_after, allowed, sorted, unfinished, opened, number, place, key, no_characters, one_more, same_tally, head_rec, size_of, total, cons_to, and_then, split}
 use Rattle.form.specs.Walk.{tally_held, item_of, seen, head_of, standing, tally_behind, met_behind, settled, behind, passed, tallied, key_after, nearer, near_after, last_after, walked_over, walked, walk_after, Within, Ahead}
+use Rattle.form.specs.declared.tally.Tally.{Tally}
 use Rattle.form.specs.declared.walk.Item.{Item}
 use Rattle.form.specs.declared.walk.Pos.{Pos}
 use Rattle.form.specs.declared.walk.Head.TheVariants.{End, Rec as HeadRec, Bad}
-use Rattle.form.specs.declared.walk.Walk.TheVariants.{Run, NotStore}
-use Rattle.form.specs.declared.walk.Step.TheVariants.{Go, Stop}
 use Rattle.form.proofs.Numbers.{zeros_field}
 use Rattle.form.proofs.RecordBytes.{cond_same, shaped, allowed_char, zero_head, head_nonzero, Headed, is_font_lem, is_character, head_inv}
 use Rattle.form.proofs.Codec.{split_eq}
@@ -80,6 +81,17 @@ unfolding ◌and◌
 and_is true b = refl
 and_is false b = refl
 
+-- two numbers that are compared, or found to differ, at once
+pub alike : (t u : Tally) (r : Bool) → r ≡ (eqb t.characters u.characters && eqb t.bytes u.bytes) → r ≡ same_tally t u
+alike t u r e = e ∙ sym (and_is (eqb t.characters u.characters) (eqb t.bytes u.bytes))
+
+pub differ : (t u : Tally) (r : Bool) → r ≡ not (eqb t.characters u.characters && eqb t.bytes u.bytes) → same_tally t u ≡ not r
+differ t u r e = and_is (eqb t.characters u.characters) (eqb t.bytes u.bytes) ∙ rw e (twice (eqb t.characters u.characters && eqb t.bytes u.bytes))
+  where
+    twice : (b : Bool) → b ≡ not (not b)
+    twice true = refl
+    twice false = refl
+
 pub total_more : (r : Rec) (rs : List Rec) (n : ℕ) → n + total (r ∷ rs) ≡ n + size_of r + total rs
 unfolding total
 total_more r rs n = omega arith
@@ -111,9 +123,9 @@ cond_step true false false e x y = refl
 cond_step false c d e x y = refl
 
 walked_cons : (n m : ℕ) (p : Pos) (s : List ℕ) (r : Rec) (o : Option (List Rec)) → allowed (standing p) r ≡ true
-    → walked_over n m p s (cons_to r o) ≡ cond (leb p.key (key r) and settled p (item_of (standing p) s r)) (walked_over n m (behind n m p (item_of (standing p) s r)) (drop (size_of r) s) o) NotStore
+    → walked_over n m p s (cons_to r o) ≡ cond (leb p.key (key r) and settled p (item_of (standing p) s r)) (walked_over n m (behind n m p (item_of (standing p) s r)) (drop (size_of r) s) o) None
 unfolding walked_over cons_to sorted key_after near_after last_after
-walked_cons n m p s r none a = sym (cond_same (leb p.key (key r) and settled p (item_of (standing p) s r)) NotStore)
+walked_cons n m p s r none a = sym (cond_same (leb p.key (key r) and settled p (item_of (standing p) s r)) None)
 walked_cons n m p s r (some rs) a =
     let i = item_of (standing p) s r in
     rw (tallied_more p (standing p) s r rs, a, cond_step (leb p.key (key r)) (sorted (key r + 1) (owner_after (standing p) r) rs) (settled p i) (tallied (tally_behind p i) (met_behind p i) (drop (size_of r) s) rs), total_more r rs p.at, marked_more p.marked m r rs)
@@ -179,7 +191,7 @@ bad_seen u s e = go (ltb (length s) character_record) (eqb (field 4 0 s) 0) e
 
 module _ (n m : ℕ) (p : Pos) where
   pub walked_end : (s : List ℕ) → head_of (standing p) s ≡ End
-      → walked n m p s ≡ cond (same_tally p.held p.met && all_zero s) (Run (record { used = p.at; least = p.key; near = p.near; last = p.last }) p.marked) NotStore
+      → walked n m p s ≡ cond (same_tally p.held p.met && all_zero s) (Some (record { used = p.at; least = p.key; near = p.near; last = p.last }, p.marked)) None
   unfolding and_then walked_over tallied sorted total opened key_after near_after last_after
   walked_end s e =
       let w : split s ≡ cond (all_zero s) (some []) none = split_eq s ∙ rw (end_none (standing p) s e) in
@@ -190,25 +202,25 @@ module _ (n m : ℕ) (p : Pos) where
       or_false false = refl
 
       go : (t : Bool) → same_tally p.held p.met ≡ t → (b : Bool)
-          → walked_over n m p s (cond b (some []) none) ≡ cond (t && b) (Run (record { used = p.at; least = p.key; near = p.near; last = p.last }) p.marked) NotStore
+          → walked_over n m p s (cond b (some []) none) ≡ cond (t && b) (Some (record { used = p.at; least = p.key; near = p.near; last = p.last }, p.marked)) None
       go true i true = unfold ◌and◌ in rw i (simp (add-zero, or_false))
       go false i true = unfold ◌and◌ in rw i
       go true i false = refl
       go false i false = refl
 
-  pub walked_bad : (s : List ℕ) → head_of (standing p) s ≡ Bad → walked n m p s ≡ NotStore
+  pub walked_bad : (s : List ℕ) → head_of (standing p) s ≡ Bad → walked n m p s ≡ None
   unfolding walked_over seen cons_to sorted ◌and◌
   walked_bad s e = go (head_rec s) refl
     where
-      refused : (r : Rec) (o : Option (List Rec)) → allowed (standing p) r ≡ false → walked_over n m p s (cons_to r o) ≡ NotStore
+      refused : (r : Rec) (o : Option (List Rec)) → allowed (standing p) r ≡ false → walked_over n m p s (cons_to r o) ≡ None
       refused r none x = refl
       refused r (some rs) x = rw x
 
-      unsound : (r : Rec) → head_rec s ≡ some r → (b : Bool) → allowed (standing p) r ≡ b → walked n m p s ≡ NotStore
+      unsound : (r : Rec) → head_rec s ≡ some r → (b : Bool) → allowed (standing p) r ≡ b → walked n m p s ≡ None
       unsound r h true x = let y : HeadRec (item_of (standing p) s r) ≡ Bad = rw (h, x) at (bad_seen (standing p) s e) in cc
       unsound r h false x = ap (walked_over n m p s) (split_cons s r h) ∙ refused r (split (drop (size_of r) s)) x
 
-      go : (o : Option Rec) → head_rec s ≡ o → walked n m p s ≡ NotStore
+      go : (o : Option Rec) → head_rec s ≡ o → walked n m p s ≡ None
       go none h = rw (split_none s h (not_zero (standing p) s (λ x. let z : ◌≡◌ {A = ℕ} 0 1 = cc in omega arith)))
       go (some r) h = unsound r h (allowed (standing p) r) refl
 
@@ -220,8 +232,8 @@ module _ (n m : ℕ) (p : Pos) where
       let i = item_of (standing p) t r in
       go (leb p.key (key r) and settled p i) ∙ sym (walked_cons n m p t r (split (drop (size_of r) t)) o) ∙ ap (walked_over n m p t) (sym (split_cons t r h))
     where
-      go : (b : Bool) → walk_after n m s (cond b (Go (behind n m p (item_of (standing p) (drop p.at s) r))) (Stop NotStore))
-          ≡ cond b (walked_over n m (behind n m p (item_of (standing p) (drop p.at s) r)) (drop (size_of r) (drop p.at s)) (split (drop (size_of r) (drop p.at s)))) NotStore
+      go : (b : Bool) → walk_after n m s (cond b (Continue (behind n m p (item_of (standing p) (drop p.at s) r))) (Break None))
+          ≡ cond b (walked_over n m (behind n m p (item_of (standing p) (drop p.at s) r)) (drop (size_of r) (drop p.at s)) (split (drop (size_of r) (drop p.at s)))) None
       go true = rw (drop-drop (size_of r) p.at s)
       go false = refl
 
@@ -242,7 +254,7 @@ module _ (n m : ℕ) (p : Pos) where
       met true = (omega arith, omega arith)
       met false = (omega arith, omega arith)
 
-      go : (b : Bool) → Ahead (length s) p (cond b (Go (behind n m p i)) (Stop NotStore))
+      go : (b : Bool) → Ahead (length s) p (cond b (Continue (behind n m p i)) (Break None))
       go true = (
         omega (arith, k),
         record {
@@ -254,24 +266,24 @@ module _ (n m : ℕ) (p : Pos) where
       go false = tt
 
 -- ── passing a record, by its numbers
-pub pass_low : (n m : ℕ) (p : Pos) (i : Item) → key_of i.font i.place < p.key → passed n m p i ≡ Stop NotStore
+pub pass_low : (n m : ℕ) (p : Pos) (i : Item) → key_of i.font i.place < p.key → passed n m p i ≡ Break None
 unfolding passed ◌and◌
 pass_low n m p i h = rw (lt-leb p.key (key_of i.font i.place) h)
 
 module _ (n m : ℕ) (p : Pos) (i : Item) (h : p.key ≤ key_of i.font i.place) where
   -- a font
-  pub pass_untrue : i.place ≡ 0 → same_tally p.held p.met ≡ false → passed n m p i ≡ Stop NotStore
+  pub pass_untrue : i.place ≡ 0 → same_tally p.held p.met ≡ false → passed n m p i ≡ Break None
   unfolding passed settled ◌and◌
   pass_untrue z e = rw (le-leb p.key (key_of i.font i.place) h, eq-eqb i.place 0 z, e)
 
   pub pass_font : i.place ≡ 0 → same_tally p.held p.met ≡ true
-      → passed n m p i ≡ Go (record { at = p.at + i.len; near = nearer n i.font 0 p.at p.near; last = p.at; marked = p.marked || (eqb (key_of i.font i.place) m && i.unfinished); key = key_of i.font i.place + 1; owner = i.font + 1; orientation = i.orientation; held = i.held; met = no_characters })
+      → passed n m p i ≡ Continue (record { at = p.at + i.len; near = nearer n i.font 0 p.at p.near; last = p.at; marked = p.marked || (eqb (key_of i.font i.place) m && i.unfinished); key = key_of i.font i.place + 1; owner = i.font + 1; orientation = i.orientation; held = i.held; met = no_characters })
   unfolding passed settled tally_behind met_behind nearer ◌and◌
   pass_font z e = rw (le-leb p.key (key_of i.font i.place) h, eq-eqb i.place 0 z, e)
 
   -- a character
   pub pass_character : (i.place ≡ 0 → ⊥)
-      → passed n m p i ≡ Go (record { at = p.at + i.len; near = p.near; last = p.at; marked = p.marked || (eqb (key_of i.font i.place) m && i.unfinished); key = key_of i.font i.place + 1; owner = i.font + 1; orientation = i.orientation; held = p.held; met = one_more true (i.len - character_record) p.met })
+      → passed n m p i ≡ Continue (record { at = p.at + i.len; near = p.near; last = p.at; marked = p.marked || (eqb (key_of i.font i.place) m && i.unfinished); key = key_of i.font i.place + 1; owner = i.font + 1; orientation = i.orientation; held = p.held; met = one_more true (i.len - character_record) p.met })
   unfolding passed settled tally_behind met_behind nearer ◌and◌
   pass_character z = rw (le-leb p.key (key_of i.font i.place) h, ne_eqb i.place 0 z)
 

@@ -1,8 +1,7 @@
 -- How a call's checks stand in order, each with the number that it refuses with. `refuse` makes the whole answer of a refusal.
 use Rattle.std.specs.Prelude.{ℕ, List, Bool, true, false, ◌&&◌, leb}
+use Rattle.std.specs.Prelude.{Result, Ok, Err}
 use Rattle.std.proofs.Math.Option.{Option, none, some}
-use Rattle.blocks.specs.declared.Verdict.{Verdict}
-use Rattle.blocks.specs.declared.Verdict.TheVariants.{Taken, Refused}
 use Rattle.form.specs.Layout.{last_font, last_code}
 use Rattle.form.specs.Model.{Rec, Store, decode}
 use Rattle.form.specs.Order.{font_at, character_at}
@@ -18,9 +17,9 @@ checked refuse true k a = a
 checked refuse false k a = refuse k
 
 -- the checks of a block
-abbrev pub taking : {A : Type 0} → (ℕ → A) → Verdict → A → A
-taking refuse Taken a = a
-taking refuse (Refused k) a = refuse k
+abbrev pub taking : {A : Type 0} → (ℕ → A) → Result Unit ℕ → A → A
+taking refuse (Ok tt) a = a
+taking refuse (Err k) a = refuse k
 
 -- a record that must be there, else k
 unfoldable pub finding : {A : Type 0} → (ℕ → A) → Option Rec → ℕ → (Rec → A) → A

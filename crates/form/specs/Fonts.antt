@@ -1,11 +1,10 @@
 -- What the store promises of its kept fonts, to a caller that knows nothing of its form.
 use Rattle.std.specs.Prelude.{ℕ, suc, ◌+◌, ◌≤◌, ◌<◌, ◌≡◌, List, [], ◌∷◌, ◌++◌, cond, eqb, ltb, length, take, drop}
+use Rattle.std.specs.Prelude.{Option as Optional, Some, None}
 use Rattle.blocks.specs.Header.{header_bytes}
 use Rattle.form.specs.Layout.{last_font, font_kept_at}
 use Rattle.form.specs.Model.{Rec, font, character}
 use Rattle.form.specs.Records.{records_in, font_place, records_at, RecordPlace}
-use Rattle.form.specs.declared.kept_fonts.NextFont.{NextFont}
-use Rattle.form.specs.declared.kept_fonts.NextFont.TheVariants.{Font as found, End}
 
 -- a font: its number and its kept bytes
 pub record Font : Type 0 where
@@ -49,11 +48,3 @@ fonts_at s at = fonts_in (records_at s at)
 abbrev pub RisingFrom : ℕ → List Font → Type 0
 RisingFrom n [] = Unit {0}
 RisingFrom n (f ∷ l) = (n ≤ f.number) × RisingFrom (suc f.number) l
-
--- none, or the font at a place of the run or after it, whose kept bytes stand in its record, and then those from the next place
-abbrev pub Onward : List ℕ → ℕ → NextFont → Type 0
-Onward s at End = fonts_at s at ≡ []
-Onward s at (found n k next) =
-    (fonts_at s at ≡ record { number = n; kept = take header_bytes (drop k s) } ∷ fonts_at s next)
-    × RecordPlace s next × (at < next) × (next ≤ length s) × (k + header_bytes ≤ length s) × (n ≤ last_font)
-    × (k ≡ font_place n (records_in s) + font_kept_at)

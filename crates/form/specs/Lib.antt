@@ -7,3 +7,5 @@ pub mod Walk
 pub mod Cursor
 pub mod Records
 pub mod Fonts
+pub mod RecordsLeft
+pub mod FontsLeft

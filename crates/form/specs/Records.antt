@@ -1,6 +1,7 @@
 -- What the store promises of its records, fonts and characters alike, to a caller that knows nothing of its form: where they begin, what
 -- stands at a place, and where the next one stands.
 use Rattle.std.specs.Prelude.{ℕ, ◌+◌, ◌-◌, ◌≤◌, ◌<◌, ◌≡◌, List, [], ◌∷◌, ◌++◌, Bool, true, false, eqb, length, take, drop}
+use Rattle.std.specs.Prelude.{Option as Optional, Some, None}
 use Rattle.std.proofs.Math.Option.{Option, none, some}
 use Rattle.blocks.specs.Header.{header_bytes, is_kept_header}
 use Rattle.blocks.specs.Character.{descriptor_bytes, width, is_kept_first}
@@ -9,10 +10,6 @@ use Rattle.form.specs.Num.{field}
 use Rattle.form.specs.Model.{Rec, font, character, tally_of, tally_in, Store, Owner, held_of, is_kept, sorted, number, size_of, total, split, decode}
 use Rattle.form.specs.Order.{keep, below, font_at}
 use Rattle.form.specs.declared.tally.Tally.{Tally}
-use Rattle.form.specs.declared.records.Begin.{Begin}
-use Rattle.form.specs.declared.records.Begin.TheVariants.{At, NotStore}
-use Rattle.form.specs.declared.records.Met.{Met}
-use Rattle.form.specs.declared.records.Met.TheVariants.{Font, Character, End}
 
 abbrev pub some_store : Option Store → Bool
 some_store none = false
@@ -74,9 +71,9 @@ pub record RecordPlace (s : List ℕ) (at : ℕ) : Type 0 where
   pub sum : mark_record + total before ≡ at
 
 -- where the run begins, if the buffer is a store
-abbrev pub Begun : List ℕ → Begin → Type 0
-Begun s NotStore = is_store s ≡ false
-Begun s (At p) = (is_store s ≡ true) × RecordPlace s p × (records_at s p ≡ records_in s)
+abbrev pub Begun : List ℕ → Optional ℕ → Type 0
+Begun s None = is_store s ≡ false
+Begun s (Some p) = (is_store s ≡ true) × RecordPlace s p × (records_at s p ≡ records_in s)
 
 -- ── W-205: "Every download, replacement, continuation and removal .. keeps both equal to a fresh count."
 -- the records that stand behind the first one, whatever numbers they hold
@@ -107,6 +104,7 @@ font_from s n kept = font n (take header_bytes (drop kept s))
 pub record FontMet (s : List ℕ) (at n kept next : ℕ) : Type 0 where
   pub met : MetAt s at (font_from s n kept) next
   pub low : n ≤ last_font
+  pub here : kept ≡ at + font_kept_at
   pub room : kept + header_bytes ≤ length s
   pub header : is_kept_header (take header_bytes (drop kept s)) ≡ true
 
@@ -125,12 +123,6 @@ pub record CharacterMet (s : List ℕ) (at n c kept bytes next : ℕ) : Type 0 w
   pub held : is_kept (held_of (take descriptor_bytes (drop kept s)) (take (next - bytes) (drop bytes s))) ≡ true
   pub wide : 0 < width (take descriptor_bytes (drop kept s))
 
--- what stands at a place of the run
-abbrev pub Meeting : List ℕ → ℕ → Met → Type 0
-Meeting s at End = records_at s at ≡ []
-Meeting s at (Font n kept next) = FontMet s at n kept next
-Meeting s at (Character n c kept bytes next) = CharacterMet s at n c kept bytes next
-
 -- the records rs stand from one place of the run up to another
 pub record Between (s : List ℕ) (at hi : ℕ) (rs : List Rec) : Type 0 where
   pub place : RecordPlace s at
@@ -138,3 +130,16 @@ pub record Between (s : List ℕ) (at hi : ℕ) (rs : List Rec) : Type 0 where
   pub sum : at + total rs ≡ hi
   pub within : hi ≤ length s
   pub small : length s ≤ most_store
+
+-- ── one after the other, in a slice
+-- the bytes are records that a store may hold, and zeros after them
+pub record RecordRun (b : List ℕ) : Type 0 where
+  pub recs : List Rec
+  pub is : split b ≡ some recs
+  pub least : ℕ
+  pub behind : Owner
+  pub order : sorted least behind recs ≡ true
+
+-- the records that bytes are
+unfoldable pub run_records : List ℕ → List Rec
+run_records b = records_among (split b)

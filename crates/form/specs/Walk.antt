@@ -1,11 +1,13 @@
 -- For the code alone: what the walk over the records answers, record by record, as the functions that check a buffer and find places in it
 -- state it.
 use Rattle.std.specs.Prelude.{ℕ, ◌+◌, ◌-◌, ◌≤◌, ◌<◌, ◌≡◌, List, [], ◌∷◌, ◌++◌, Bool, true, false, not, cond, ◌&&◌, ◌||◌, length, get_or, take, drop, eqb, leb, ltb}
+use Rattle.std.specs.Prelude.{Option as Optional, Result, Some, None, Ok, Err}
+use Rattle.std.specs.declared.ops.ControlFlow.{ControlFlow}
+use Rattle.std.specs.declared.ops.ControlFlow.TheVariants.{Continue, Break}
 use Rattle.std.proofs.Math.Option.{Option, none, some}
 use Rattle.blocks.specs.Header.{orientation}
 use Rattle.blocks.specs.Character.{class, width, height, descriptor_bytes, continuation_bytes}
 use Rattle.pictures.specs.Picture.{judge}
-use Rattle.pictures.specs.declared.picture.Judged.TheVariants.{Complete, Incomplete}
 use Rattle.form.specs.Layout.{last_font, last_code, key_of, character_kept_at, character_record, font_orientation_at, font_record, mark_record}
 use Rattle.form.specs.Num.{◌and◌, field}
 use Rattle.form.specs.Model.{Rec, font, character, is_kept, held_under, Mark, Store, Owner, owner_after, no_owner, allowed, sorted, unfinished, opened, number, place, no_characters, one_more, tally_of, tally_in, same_tally, counted, head_rec, size_of, total, split, decode}
@@ -18,20 +20,8 @@ use Rattle.form.specs.declared.walk.Head.TheVariants.{End, Rec as HeadRec, Bad}
 use Rattle.form.specs.declared.walk.Pos.{Pos}
 use Rattle.form.specs.declared.walk.Places.{Places}
 use Rattle.form.specs.declared.walk.RunEnd.{RunEnd}
-use Rattle.form.specs.declared.walk.Walk.{Walk}
-use Rattle.form.specs.declared.walk.Walk.TheVariants.{Run, NotStore}
-use Rattle.form.specs.declared.walk.Step.{Step}
-use Rattle.form.specs.declared.walk.Step.TheVariants.{Go, Stop}
 use Rattle.form.specs.declared.walk.MarkSeen.{MarkSeen}
 use Rattle.form.specs.declared.walk.MarkSeen.TheVariants.{Shut, Open, Wrong}
-use Rattle.form.specs.declared.walk.Lookup.{Lookup}
-use Rattle.form.specs.declared.walk.Lookup.TheVariants.{At, Missing}
-use Rattle.form.specs.declared.seek.Sought.{Sought}
-use Rattle.form.specs.declared.seek.Sought.TheVariants.{Here, Refused}
-use Rattle.form.specs.declared.walk.Checked.{Checked}
-use Rattle.form.specs.declared.walk.Checked.TheVariants.{Store as Is, NotStore}
-use Rattle.form.specs.declared.walk.Inspected.{Inspected}
-use Rattle.form.specs.declared.walk.Inspected.TheVariants.{Found, NotStore}
 
 -- ── one record
 
@@ -60,6 +50,14 @@ pub record Heading (s : List ℕ) (at len : ℕ) : Type 0 where
   pub fits : at + len ≤ length s
 
 -- ── the walk
+
+-- what a walk answers of a store: how its records end, and whether the open character was met
+abbrev pub Walked : Type 0
+Walked = Optional (RunEnd × Bool)
+
+-- a walk goes on from a place, or breaks with its answer
+abbrev pub Step : Type 0
+Step = ControlFlow Walked Pos
 
 -- where a walk begins: behind the first record
 abbrev pub walk_start : Pos
@@ -100,7 +98,7 @@ behind n m p i =
 
 -- a record's key rises, and the font before it held what is true
 unfoldable pub passed : ℕ → ℕ → Pos → Item → Step
-passed n m p i = cond (leb p.key (key_of i.font i.place) and settled p i) (Go (behind n m p i)) (Stop NotStore)
+passed n m p i = cond (leb p.key (key_of i.font i.place) and settled p i) (Continue (behind n m p i)) (Break None)
 
 -- the numbers that fonts hold are true, where the font before these records, which stand in s, holds t and its characters so far have m
 unfoldable pub tallied : Tally → Tally → List ℕ → List Rec → Bool
@@ -126,17 +124,17 @@ abbrev pub end_of : ℕ → Pos → List Rec → RunEnd
 end_of n p rs = record { used = p.at + total rs; least = key_after p.key rs; near = near_after n p.near p.at rs; last = last_after p.last p.at rs }
 
 -- the answer of a walk from p on over these records, which stand in s: how they end, and whether the open character is among them
-unfoldable pub walked_over : ℕ → ℕ → Pos → List ℕ → Option (List Rec) → Walk
-walked_over n m p s none = NotStore
-walked_over n m p s (some rs) = cond (sorted p.key (standing p) rs and tallied p.held p.met s rs) (Run (end_of n p rs) (p.marked || opened m rs)) NotStore
+unfoldable pub walked_over : ℕ → ℕ → Pos → List ℕ → Option (List Rec) → Walked
+walked_over n m p s none = None
+walked_over n m p s (some rs) = cond (sorted p.key (standing p) rs and tallied p.held p.met s rs) (Some (end_of n p rs, p.marked || opened m rs)) None
 
-abbrev pub walked : ℕ → ℕ → Pos → List ℕ → Walk
+abbrev pub walked : ℕ → ℕ → Pos → List ℕ → Walked
 walked n m p s = walked_over n m p s (split s)
 
 -- the answer after a step
-unfoldable pub walk_after : ℕ → ℕ → List ℕ → Step → Walk
-walk_after n m s (Go p) = walked n m p (drop p.at s)
-walk_after n m s (Stop w) = w
+unfoldable pub walk_after : ℕ → ℕ → List ℕ → Step → Walked
+walk_after n m s (Continue p) = walked n m p (drop p.at s)
+walk_after n m s (Break w) = w
 
 -- the sums of a walk stay within what it passed
 pub record Within (n : ℕ) (p : Pos) : Type 0 where
@@ -146,8 +144,8 @@ pub record Within (n : ℕ) (p : Pos) : Type 0 where
 
 -- a step goes ahead, within n bytes
 unfoldable pub Ahead : ℕ → Pos → Step → Type 0
-Ahead n p (Go q) = (p.at < q.at) × Within n q
-Ahead n p (Stop w) = Unit {0}
+Ahead n p (Continue q) = (p.at < q.at) × Within n q
+Ahead n p (Break w) = Unit {0}
 
 -- ── a whole buffer: the places of font n, and of the record at place p of it (0 the font, code + 1 a character)
 abbrev pub places_of : ℕ → ℕ → List Rec → Places
@@ -168,21 +166,21 @@ mark_seen m =
     (cond (eqb m.on 1 and leb m.font_of last_font and leb m.code_of last_code) (Open (key_of m.font_of (m.code_of + 1))) Wrong)
 
 -- the records of a buffer whose first record is right; with `must`, the character with the key m must be there and incomplete
-unfoldable pub surveyed_over : ℕ → ℕ → Bool → List ℕ → Option (List Rec) → Checked
-surveyed_over n m must s none = NotStore
-surveyed_over n m must s (some rs) = cond ((sorted 0 no_owner rs and counted (tally_of rs) s rs) and (not must || opened m rs)) (Is (end_of n walk_start rs)) NotStore
+unfoldable pub surveyed_over : ℕ → ℕ → Bool → List ℕ → Option (List Rec) → Optional RunEnd
+surveyed_over n m must s none = None
+surveyed_over n m must s (some rs) = cond ((sorted 0 no_owner rs and counted (tally_of rs) s rs) and (not must || opened m rs)) (Some (end_of n walk_start rs)) None
 
-abbrev pub surveyed : ℕ → ℕ → Bool → List ℕ → Checked
+abbrev pub surveyed : ℕ → ℕ → Bool → List ℕ → Optional RunEnd
 surveyed n m must s = surveyed_over n m must s (split s)
 
 -- a store, and how its records end
-unfoldable pub checked_store : ℕ → Option Store → Checked
-checked_store n none = NotStore
-checked_store n (some st) = Is (end_of n walk_start st.recs)
+unfoldable pub checked_store : ℕ → Option Store → Optional RunEnd
+checked_store n none = None
+checked_store n (some st) = Some (end_of n walk_start st.recs)
 
-unfoldable pub inspected : ℕ → ℕ → Option Store → Inspected
-inspected n p none = NotStore
-inspected n p (some st) = Found (places_of n p st.recs)
+unfoldable pub inspected : ℕ → ℕ → Option Store → Optional Places
+inspected n p none = None
+inspected n p (some st) = Some (places_of n p st.recs)
 
 -- s is a store, and w are the places of font n and its place p in it
 pub record Stands (n p : ℕ) (s : List ℕ) (w : Places) : Type 0 where
@@ -191,28 +189,28 @@ pub record Stands (n p : ℕ) (s : List ℕ) (w : Places) : Type 0 where
   pub at : places_of n p store.recs ≡ w
 
 -- a font with its characters, or one record, stands from one place to another, if these differ
-abbrev pub font_lookup : Places → Lookup
-font_lookup w = cond (ltb w.lo w.hi) (At w) Missing
+abbrev pub font_lookup : Places → Optional Places
+font_lookup w = cond (ltb w.lo w.hi) (Some w) None
 
-abbrev pub character_lookup : Places → Lookup
-character_lookup w = cond (ltb w.from w.to) (At w) Missing
+abbrev pub character_lookup : Places → Optional Places
+character_lookup w = cond (ltb w.from w.to) (Some w) None
 
 -- the number of each case, 0 where it stands: "font present, else 6"
-abbrev pub font_number : Lookup → ℕ
-font_number (At w) = 0
-font_number Missing = 6
+abbrev pub font_number : Optional Places → ℕ
+font_number (Some w) = 0
+font_number None = 6
 
 -- "no such character" is 7
-abbrev pub character_number : Lookup → ℕ
-character_number (At w) = 0
-character_number Missing = 7
+abbrev pub character_number : Optional Places → ℕ
+character_number (Some w) = 0
+character_number None = 7
 
 -- what seeking a font, or a character, answers: its places, or the refusal
-unfoldable pub sought_font : ℕ → List ℕ → Sought
-sought_font n s = on_font Refused n s (λ st r. Here (places_of n 0 st.recs))
+unfoldable pub sought_font : ℕ → List ℕ → Result Places ℕ
+sought_font n s = on_font Err n s (λ st r. Ok (places_of n 0 st.recs))
 
-unfoldable pub sought_character : ℕ → ℕ → List ℕ → Sought
-sought_character n c s = on_character Refused n c s (λ st r. Here (places_of n (c + 1) st.recs))
+unfoldable pub sought_character : ℕ → ℕ → List ℕ → Result Places ℕ
+sought_character n c s = on_character Err n c s (λ st r. Ok (places_of n (c + 1) st.recs))
 
 -- ── a character block for font n and code c, whose places w are known
 -- the numbers are in range, and the font is there, with this header
@@ -247,6 +245,6 @@ font_orientation s w = get_or s (w.lo + font_orientation_at) 0
 -- the character's data and then the continuation b: n bytes of b are kept, all of them where the picture stays incomplete, which `marked` says,
 -- else those that complete it
 abbrev pub Continued : List ℕ → Places → List ℕ → ℕ → Bool → Type 0
-Continued s w b n true = (judge (class (kept_at s w)) (width (kept_at s w)) (height (kept_at s w)) (data_at s w ++ drop continuation_bytes b) ≡ Incomplete) × (n ≡ length b - continuation_bytes)
+Continued s w b n true = (judge (class (kept_at s w)) (width (kept_at s w)) (height (kept_at s w)) (data_at s w ++ drop continuation_bytes b) ≡ Ok None) × (n ≡ length b - continuation_bytes)
 Continued s w b n false =
-    judge (class (kept_at s w)) (width (kept_at s w)) (height (kept_at s w)) (data_at s w ++ drop continuation_bytes b) ≡ Complete (length (data_at s w) + n)
+    judge (class (kept_at s w)) (width (kept_at s w)) (height (kept_at s w)) (data_at s w ++ drop continuation_bytes b) ≡ Ok (Some (length (data_at s w) + n))

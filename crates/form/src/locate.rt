@@ -37,43 +37,32 @@ fn advance(s: &[u8], used: usize, from: usize, key: usize) -> usize
     ensures { Reaches s.now key result }
 {
     let mut at = from;
-    while at < used {
-        if key <= key_at(s, at) {
-            return at;
-        }
+    while at < used && key_at(s, at) < key {
         at += number::le32(s, at);
     }
     at
 }
 
-// The place of a key, by a search that begins at from, where no key from least on stands.
-fn reach(s: &[u8], used: usize, least: usize, from: usize, key: usize) -> usize
-    requires { Behind s.now used least × Seeking s.now used key from }
+// The place of a key, by a search that begins at from, where the records end so: no key from the least on stands.
+fn reach(s: &[u8], end: RunEnd, from: usize, key: usize) -> usize
+    requires { Behind s.now end.used end.least × Seeking s.now end.used key from }
     ensures { Reaches s.now key result }
 {
-    if least <= key {
-        return used;
+    if end.least <= key {
+        return end.used;
     }
-    advance(s, used, from, key)
+    advance(s, end.used, from, key)
 }
 
 // Where a font and its characters end: from the place of one of its records, if that is known, else from its own.
-fn seek_end(
-    s: &[u8],
-    used: usize,
-    least: usize,
-    lo: usize,
-    to: usize,
-    font: usize,
-    place: usize,
-) -> usize
-    requires { Behind s.now used least × Reaches s.now (key_of font 0) lo × Reaches s.now (key_of font place + 1) to × (font ≤ 4294967296) }
+fn seek_end(s: &[u8], end: RunEnd, lo: usize, to: usize, font: usize, place: usize) -> usize
+    requires { Behind s.now end.used end.least × Reaches s.now (key_of font 0) lo × Reaches s.now (key_of font place + 1) to × (font ≤ 4294967296) }
     ensures { Reaches s.now (key_of (font + 1) 0) result }
 {
     if place < KEYS_EACH {
-        return reach(s, used, least, to, (font + 1) * KEYS_EACH + 0);
+        return reach(s, end, to, (font + 1) * KEYS_EACH + 0);
     }
-    reach(s, used, least, lo, (font + 1) * KEYS_EACH + 0)
+    reach(s, end, lo, (font + 1) * KEYS_EACH + 0)
 }
 
 // The place of a record: the last one's is known.
@@ -85,7 +74,7 @@ fn seek_record(s: &[u8], end: RunEnd, lo: usize, font: usize, place: usize) -> u
     if key + 1 == end.least {
         return end.last;
     }
-    reach(s, end.used, end.least, lo, key)
+    reach(s, end, lo, key)
 }
 
 // Where font `font` stands in a store whose records end so, and the record at a place of it, whatever numbers these are.
@@ -93,16 +82,16 @@ pub(crate) fn places_in(s: &[u8], end: RunEnd, font: usize, place: usize) -> Pla
     requires { EndKnown font s.now end × (font ≤ 4294967296) × (place ≤ 4294967296) }
     ensures { Stands font place s.now result }
 {
-    let lo = reach(s, end.used, end.least, end.near, font * KEYS_EACH + 0);
+    let lo = reach(s, end, end.near, font * KEYS_EACH + 0);
     let from = seek_record(s, end, lo, font, place);
-    let to = reach(s, end.used, end.least, from, font * KEYS_EACH + place + 1);
-    let hi = seek_end(s, end.used, end.least, lo, to, font, place);
+    let to = reach(s, end, from, font * KEYS_EACH + place + 1);
+    let hi = seek_end(s, end, lo, to, font, place);
     Places {
         used: end.used,
-        lo: lo,
-        from: from,
-        to: to,
-        hi: hi,
+        lo,
+        from,
+        to,
+        hi,
     }
 }
 
@@ -146,9 +135,9 @@ pub fn locate(s: &[u8], c: Cursor, font: usize, place: usize) -> Places
     let hi = advance(s, c.used, to, (font + 1) * KEYS_EACH + 0);
     Places {
         used: c.used,
-        lo: lo,
-        from: from,
-        to: to,
-        hi: hi,
+        lo,
+        from,
+        to,
+        hi,
     }
 }

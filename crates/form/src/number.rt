@@ -2,37 +2,27 @@
 ghost use Rattle.std.specs.Prelude.{◌≡◌, ◌+◌, ◌≤◌, ◌<◌, length, drop};
 ghost use Rattle.form.specs.Num.{word_end, field, all_zero};
 
-use crate::layout::WORD_END;
-
-fn wide(x: u8) -> usize
-    ensures { result ≡ x }
-{
-    x as usize
-}
-
 pub fn le16(s: &[u8], at: usize) -> usize
     requires { at + 2 ≤ length s.now }
     ensures { (result ≡ field 2 at s.now) × (result < word_end) }
 {
-    wide(s[at]) + 256 * wide(s[at + 1])
+    u16::from_le_bytes([s[at], s[at + 1]]) as usize
 }
 
 pub fn le32(s: &[u8], at: usize) -> usize
     requires { at + 4 ≤ length s.now }
     ensures { result ≡ field 4 at s.now }
 {
-    le16(s, at) + WORD_END * le16(s, at + 2)
+    u32::from_le_bytes([s[at], s[at + 1], s[at + 2], s[at + 3]]) as usize
 }
 
 // Whether all bytes are 0. It has no early end, so that many bytes are tested at a time.
 fn all_zeros(s: &[u8]) -> bool
     ensures { result ≡ all_zero s.now }
 {
-    let mut any: u8 = 0;
-    let mut i = 0;
-    while i < s.len() {
-        any = any | s[i];
-        i += 1;
+    let mut any = 0;
+    for b in s {
+        any |= *b;
     }
     any == 0
 }
@@ -40,20 +30,15 @@ fn all_zeros(s: &[u8]) -> bool
 // How many bytes a machine reads at once.
 const AT_ONCE: usize = 16;
 
-// Whether all bytes from a place on are 0: one by one up to a multiple of those. A buffer mostly begins at one, and what is read at once is
-// then nowhere parted between two lines of the machine's memory.
+// Whether all bytes from a place on are 0: those up to a multiple of that many, and the rest. A buffer mostly begins at one, and what is read at
+// once is then nowhere parted between two lines of the machine's memory.
 pub fn zeros(s: &[u8], at: usize) -> bool
     ensures { result ≡ all_zero (drop at s.now) }
 {
-    let mut i = at;
-    while i < s.len() {
-        if i % AT_ONCE == 0 {
-            return all_zeros(&s[i..]);
-        }
-        if 0 < s[i] {
-            return false;
-        }
-        i += 1;
+    if s.len() <= at {
+        return true;
     }
-    true
+    let s = &s[at..];
+    let (front, rest) = s.split_at(s.len().min(AT_ONCE - at % AT_ONCE));
+    all_zeros(front) && all_zeros(rest)
 }

@@ -1,83 +1,96 @@
 // The records of a store one after the other, for callers that know nothing of its form.
 ghost use Rattle.std.specs.Prelude.{◌≡◌, []};
-ghost use Rattle.form.specs.Records.{RecordPlace, Begun, Meeting, records_at};
+ghost use Rattle.form.specs.Records.{RecordPlace, Begun, Between, records_at};
 
 use crate::layout::{
-    CHARACTER_KEPT_AT, CHARACTER_RECORD, CODE_AT, FONT_KEPT_AT, FONT_KIND, FONT_RECORD, KIND_AT,
-    MARK_RECORD, NUMBER_AT,
+    CHARACTER_KEPT_AT, CHARACTER_RECORD, CODE_AT, FONT_KEPT_AT, FONT_KIND, KIND_AT, MARK_RECORD,
+    NUMBER_AT,
 };
-use crate::walk::Checked;
 use crate::{number, walk};
 
-// Where the run of records begins.
+// A font with its kept bytes, or a character with its kept bytes and its data after them.
 #[derive(Clone, Copy)]
-pub enum Begin {
-    At(usize),
-    NotStore,
-}
-
-// What stands at a place of the run: a font with the place of its kept bytes, or a character with those of its kept bytes and of its data, and
-// the place behind it.
-#[derive(Clone, Copy)]
-pub enum Met {
+pub enum Record<'a> {
     Font {
         number: u32,
-        kept: usize,
-        next: usize,
+        kept: &'a [u8],
     },
     Character {
         number: u32,
         code: u32,
-        kept: usize,
-        bytes: usize,
-        next: usize,
+        bytes: &'a [u8],
     },
-    End,
 }
 
-// Checks a buffer.
-pub fn begin_records(s: &[u8]) -> Begin
+// Records of a store one after the other.
+#[derive(Clone, Copy)]
+pub struct Records<'a> {
+    left: &'a [u8],
+}
+
+// Checks a buffer: where the run of records begins, if it is a store.
+pub fn begin_records(s: &[u8]) -> Option<usize>
     ensures { Begun s.now result }
 {
-    let Checked::Store(_) = walk::check(s, 0) else {
-        return Begin::NotStore;
-    };
-    Begin::At(MARK_RECORD)
+    walk::check(s, 0)?;
+    Some(MARK_RECORD)
 }
 
-// The record at a place of the run where one stands.
-pub fn record_at(s: &[u8], at: usize) -> Met
-    requires { RecordPlace s.now at × (records_at s.now at ≡ [] → ⊥) }
-    ensures { Meeting s.now at result }
-{
-    let len = number::le32(s, at);
-    let font = number::le16(s, at + NUMBER_AT);
-    if number::le16(s, at + KIND_AT) == FONT_KIND {
-        return Met::Font {
-            number: font as u32,
-            kept: at + FONT_KEPT_AT,
-            next: at + FONT_RECORD,
-        };
+impl<'a> Records<'a> {
+    ghost use Rattle.std.specs.Prelude.{List};
+    ghost use Rattle.form.specs.Model.{Rec};
+    ghost use Rattle.form.specs.RecordsLeft.{records_left, RunsOn};
+
+    // Those from a place of the run on.
+    pub fn starting_at(s: &'a [u8], at: usize) -> Records<'a>
+        requires { RecordPlace s.now at }
+        ensures { RunsOn result × (records_left result ≡ records_at s.now at) }
+    {
+        Records { left: &s[at..] }
     }
-    let code = number::le16(s, at + CODE_AT);
-    Met::Character {
-        number: font as u32,
-        code: code as u32,
-        kept: at + CHARACTER_KEPT_AT,
-        bytes: at + CHARACTER_RECORD,
-        next: at + len,
+
+    // Those from one place of the run up to another.
+    pub fn between(s: &'a [u8], lo: usize, hi: usize) -> Records<'a>
+        requires { (rs : List Rec) × Between s.now lo hi rs }
+        ensures { RunsOn result × ((rs : List Rec) → Between s.now lo hi rs → records_left result ≡ rs) }
+    {
+        Records { left: &s[lo..hi] }
     }
 }
 
-pub fn next_record(s: &[u8], at: usize) -> Met
-    requires { RecordPlace s.now at }
-    ensures { Meeting s.now at result }
-{
-    if s.len() - at < CHARACTER_RECORD {
-        return Met::End;
+impl<'a> Iterator for Records<'a> {
+    ghost use Rattle.std.specs.Iterator.{item_count};
+    ghost use Rattle.form.specs.RecordsLeft.{records_left, RunsOn, RecordGiven};
+
+    type Item = Record<'a>;
+
+    ghost can_next = { RunsOn };
+
+    ghost next_gives = { RecordGiven };
+
+    ghost remaining = { item_count records_left };
+
+    fn next(&mut self) -> Option<Record<'a>> {
+        let s = self.left;
+        if s.len() < CHARACTER_RECORD {
+            return None;
+        }
+        let len = number::le32(s, 0);
+        if len == 0 {
+            return None;
+        }
+        self.left = &s[len..];
+        let number = number::le16(s, NUMBER_AT) as u32;
+        if number::le16(s, KIND_AT) == FONT_KIND {
+            let kept = &s[FONT_KEPT_AT..len];
+            return Some(Record::Font { number, kept });
+        }
+        let code = number::le16(s, CODE_AT) as u32;
+        let bytes = &s[CHARACTER_KEPT_AT..len];
+        Some(Record::Character {
+            number,
+            code,
+            bytes,
+        })
     }
-    if number::le32(s, at) == 0 {
-        return Met::End;
-    }
-    record_at(s, at)
 }

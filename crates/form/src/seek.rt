@@ -1,32 +1,23 @@
 // Seeking a kept font or a kept character: its places, or the refusal that a call on it answers.
 ghost use Rattle.std.specs.Prelude.{◌≡◌};
+ghost use Rattle.refusals.specs.Refusals.{numbered_result};
 ghost use Rattle.form.specs.Checks.{numbered};
 ghost use Rattle.form.specs.Walk.{sought_font, sought_character};
 
 use crate::layout::{LAST_CODE_ASKED, LAST_FONT_ASKED};
 use crate::walk;
-use crate::walk::{Inspected, Lookup, Places};
-
-#[derive(Clone, Copy)]
-pub enum Sought {
-    Here(Places),
-    Refused(u32),
-}
+use crate::walk::Places;
+use refusals::Refused;
 
 // Checks 1, 2, 6.
-pub fn seek_font(s: &[u8], font: u32) -> Sought
-    ensures { result ≡ sought_font font s.now }
+pub fn seek_font(s: &[u8], font: u32) -> Result<Places, Refused>
+    ensures { numbered_result result ≡ sought_font font s.now }
 {
-    let Inspected::Found(p) = walk::inspect(s, font as usize, 0) else {
-        return Sought::Refused(1);
-    };
+    let p = walk::inspect(s, font as usize, 0).ok_or(Refused::NotStore)?;
     if LAST_FONT_ASKED < font {
-        return Sought::Refused(2);
+        return Err(Refused::OutOfRange);
     }
-    let Lookup::At(at) = walk::look_up_font(p) else {
-        return Sought::Refused(6);
-    };
-    Sought::Here(at)
+    walk::look_up_font(p).ok_or(Refused::NoFont)
 }
 
 // A font number and a code within range.
@@ -37,20 +28,13 @@ pub fn in_range(font: u32, code: u32) -> bool
 }
 
 // Checks 1, 2, 6, 7.
-pub fn seek_character(s: &[u8], font: u32, code: u32) -> Sought
-    ensures { result ≡ sought_character font code s.now }
+pub fn seek_character(s: &[u8], font: u32, code: u32) -> Result<Places, Refused>
+    ensures { numbered_result result ≡ sought_character font code s.now }
 {
-    let Inspected::Found(p) = walk::inspect(s, font as usize, code as usize + 1) else {
-        return Sought::Refused(1);
-    };
+    let p = walk::inspect(s, font as usize, code as usize + 1).ok_or(Refused::NotStore)?;
     if !in_range(font, code) {
-        return Sought::Refused(2);
+        return Err(Refused::OutOfRange);
     }
-    let Lookup::At(font_at) = walk::look_up_font(p) else {
-        return Sought::Refused(6);
-    };
-    let Lookup::At(at) = walk::look_up_character(font_at) else {
-        return Sought::Refused(7);
-    };
-    Sought::Here(at)
+    let p = walk::look_up_font(p).ok_or(Refused::NoFont)?;
+    walk::look_up_character(p).ok_or(Refused::NoCharacter)
 }

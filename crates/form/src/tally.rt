@@ -1,12 +1,12 @@
 // The two numbers that a font's record holds: how many characters the font has, and how many data bytes they keep together.
 ghost use Rattle.std.specs.Prelude.{◌≡◌, ◌+◌, ◌≤◌, length, drop};
 ghost use Rattle.form.specs.Layout.{font_kept_at};
-ghost use Rattle.form.specs.Model.{same_tally, tally_in};
+ghost use Rattle.form.specs.Model.{tally_in};
 
 use crate::layout::{FONT_BYTES_AT, FONT_CHARACTERS_AT};
 use crate::number;
 
-#[derive(Clone, Copy)]
+#[derive(Clone, Copy, PartialEq, Eq)]
 pub struct Tally {
     pub characters: usize,
     pub bytes: usize,
@@ -16,12 +16,6 @@ pub const NONE: Tally = Tally {
     characters: 0,
     bytes: 0,
 };
-
-pub fn same_tally(a: Tally, b: Tally) -> bool
-    ensures { result ≡ same_tally a b }
-{
-    (a.characters == b.characters) & (a.bytes == b.bytes)
-}
 
 // The numbers of the font whose record begins at a place.
 pub fn tally_at(s: &[u8], at: usize) -> Tally

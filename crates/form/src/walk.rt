@@ -1,5 +1,5 @@
 // The walk over a buffer's records: whether it is a store, and the places that a call asks for. One pass over the bytes.
-ghost use Rattle.std.specs.Prelude.{◌≡◌, ◌+◌, ◌-◌, ◌*◌, ◌≤◌, ◌<◌, true, false, cond, length, take, drop, ltb};
+ghost use Rattle.std.specs.Prelude.{◌≡◌, ◌+◌, ◌-◌, ◌*◌, ◌≤◌, ◌<◌, true, false, cond, is_some, unwrap_or, length, take, drop, ltb};
 ghost use Rattle.blocks.specs.Character.{descriptor_bytes};
 ghost use Rattle.form.specs.Layout.{character_kept_at, character_record, kind_at, last_font, least_store, mark_record, most_store, character_kind, font_kind, last_code};
 ghost use Rattle.form.specs.Num.{field};
@@ -16,6 +16,7 @@ use crate::{locate, number, tally};
 use blocks::{character, header};
 use pictures::picture;
 use pictures::picture::Held;
+use std::ops::ControlFlow;
 
 // What stands at a place of the run: the font number, 0 or the code and 1, the length, the font's orientation, whether it is incomplete, and the
 // numbers that a font's record holds.
@@ -29,6 +30,7 @@ pub struct Item {
     pub held: Tally,
 }
 
+// Two of its three cases are no record, and an option of an option would name neither.
 #[derive(Clone, Copy)]
 pub enum Head {
     End,
@@ -70,45 +72,17 @@ pub struct RunEnd {
     pub last: usize,
 }
 
-// How the records end, and whether the open character was met.
-#[derive(Clone, Copy)]
-pub enum Walk {
-    Run(RunEnd, bool),
-    NotStore,
-}
+// How the records of a store end, and whether the open character was met; none, if the buffer is no store.
+type Walked = Option<(RunEnd, bool)>;
 
-#[derive(Clone, Copy)]
-pub enum Step {
-    Go(Pos),
-    Stop(Walk),
-}
+type Step = ControlFlow<Walked, Pos>;
 
-// The open mark: closed, naming the character with a key, or neither.
+// The open mark: closed, naming the character with a key, or neither. An option of an option would not name the two cases without a key.
 #[derive(Clone, Copy)]
 pub enum MarkSeen {
     Shut,
     Open(usize),
     Wrong,
-}
-
-// A font or a character that was looked up: its places, or none.
-#[derive(Clone, Copy)]
-pub enum Lookup {
-    At(Places),
-    Missing,
-}
-
-// A store, and how its records end.
-#[derive(Clone, Copy)]
-pub enum Checked {
-    Store(RunEnd),
-    NotStore,
-}
-
-#[derive(Clone, Copy)]
-pub enum Inspected {
-    Found(Places),
-    NotStore,
 }
 
 // A character's data, by its descriptor, which must be a kept one of a font of this orientation.
@@ -155,7 +129,7 @@ fn look_font(s: &[u8], at: usize, len: usize) -> Head
         return Head::Bad;
     }
     Head::Rec(Item {
-        font: font,
+        font,
         place: 0,
         len: FONT_RECORD,
         orientation: s[at + FONT_ORIENTATION_AT],
@@ -184,18 +158,18 @@ fn look_character(s: &[u8], at: usize, len: usize, owner: usize, orientation: u8
     }
     match held_at(s, at, len, orientation) {
         Held::Whole => Head::Rec(Item {
-            font: font,
+            font,
             place: code + 1,
-            len: len,
-            orientation: orientation,
+            len,
+            orientation,
             unfinished: false,
             held: NONE,
         }),
         Held::Unfinished => Head::Rec(Item {
-            font: font,
+            font,
             place: code + 1,
-            len: len,
-            orientation: orientation,
+            len,
+            orientation,
             unfinished: true,
             held: NONE,
         }),
@@ -236,8 +210,8 @@ fn nearer_font(font: usize, number: usize, at: usize, near: usize) -> usize
     if number <= font { at } else { near }
 }
 
-// A walk at p, over a record with a key, where font is asked for and mark is the key of the open character: the numbers of the font before it must be true if it is the
-// next font's.
+// A walk at p, over a record with a key, where font is asked for and mark is the key of the open character: the numbers of the font before it must be
+// true if it is the next font's.
 fn pass(font: usize, mark: usize, p: Pos, i: Item) -> Step
     requires font_le_last_font { (i.font ≤ last_font) × (i.place ≤ last_code + 1) × (i.len ≤ most_store) × Within most_store p }
     requires character_record_le_len { (i.place ≡ 0 → ⊥) → character_record ≤ i.len }
@@ -245,16 +219,13 @@ fn pass(font: usize, mark: usize, p: Pos, i: Item) -> Step
 {
     let key = i.font * KEYS_EACH + i.place;
     if key < p.key {
-        return Step::Stop(Walk::NotStore);
+        return ControlFlow::Break(None);
     }
     if i.place == 0 {
-        let numbers = p.held;
-        let counted = p.met;
-        if !tally::same_tally(numbers, counted) {
-            return Step::Stop(Walk::NotStore);
+        if p.held != p.met {
+            return ControlFlow::Break(None);
         }
-        let held = i.held;
-        return Step::Go(Pos {
+        return ControlFlow::Continue(Pos {
             at: p.at + i.len,
             near: nearer_font(font, i.font, p.at, p.near),
             last: p.at,
@@ -262,13 +233,11 @@ fn pass(font: usize, mark: usize, p: Pos, i: Item) -> Step
             key: key + 1,
             owner: i.font + 1,
             orientation: i.orientation,
-            held: held,
+            held: i.held,
             met: NONE,
         });
     }
-    let held = p.held;
-    let met = p.met;
-    Step::Go(Pos {
+    ControlFlow::Continue(Pos {
         at: p.at + i.len,
         near: p.near,
         last: p.at,
@@ -276,10 +245,10 @@ fn pass(font: usize, mark: usize, p: Pos, i: Item) -> Step
         key: key + 1,
         owner: i.font + 1,
         orientation: i.orientation,
-        held: held,
+        held: p.held,
         met: Tally {
-            characters: met.characters + 1,
-            bytes: met.bytes + (i.len - CHARACTER_RECORD),
+            characters: p.met.characters + 1,
+            bytes: p.met.bytes + (i.len - CHARACTER_RECORD),
         },
     })
 }
@@ -291,25 +260,25 @@ fn walk_one(s: &[u8], font: usize, mark: usize, p: Pos) -> Step
     let at = p.at;
     match look(s, at, p.owner, p.orientation) {
         Head::End => {
-            if tally::same_tally(p.held, p.met) & number::zeros(s, at) {
+            if (p.held == p.met) & number::zeros(s, at) {
                 let end = RunEnd {
                     used: p.at,
                     least: p.key,
                     near: p.near,
                     last: p.last,
                 };
-                Step::Stop(Walk::Run(end, p.marked))
+                ControlFlow::Break(Some((end, p.marked)))
             } else {
-                Step::Stop(Walk::NotStore)
+                ControlFlow::Break(None)
             }
         }
         Head::Rec(i) => pass(font, mark, p, i),
-        Head::Bad => Step::Stop(Walk::NotStore),
+        Head::Bad => ControlFlow::Break(None),
     }
 }
 
 // The whole run of a buffer, behind its first record.
-fn survey(s: &[u8], font: usize, mark: usize) -> Walk
+fn survey(s: &[u8], font: usize, mark: usize) -> Walked
     requires { (least_store ≤ length s.now) × (length s.now ≤ most_store) }
     ensures { result ≡ walked font mark walk_start (drop mark_record s.now) }
 {
@@ -326,10 +295,10 @@ fn survey(s: &[u8], font: usize, mark: usize) -> Walk
     };
     loop {
         match walk_one(s, font, mark, p) {
-            Step::Go(next) => {
+            ControlFlow::Continue(next) => {
                 p = next;
             }
-            Step::Stop(w) => {
+            ControlFlow::Break(w) => {
                 return w;
             }
         }
@@ -377,66 +346,52 @@ fn see_mark(s: &[u8]) -> MarkSeen
     MarkSeen::Open(font * KEYS_EACH + (code + 1))
 }
 
-// The records of a buffer whose first record is right: with must, the character with the key mark must be there and incomplete.
-fn check_records(s: &[u8], font: usize, mark: usize, must: bool) -> Checked
+// The records of a buffer whose first record is right: the open character, if there is one, must be there and incomplete.
+fn check_records(s: &[u8], font: usize, opened: Option<usize>) -> Option<RunEnd>
     requires { (least_store ≤ length s.now) × (length s.now ≤ most_store) }
-    ensures { result ≡ surveyed font mark must (drop mark_record s.now) }
+    ensures { result ≡ surveyed font (unwrap_or opened 0) (is_some opened) (drop mark_record s.now) }
 {
-    match survey(s, font, mark) {
-        Walk::Run(end, marked) => {
-            if !must | marked {
-                Checked::Store(end)
-            } else {
-                Checked::NotStore
-            }
-        }
-        Walk::NotStore => Checked::NotStore,
+    let (end, marked) = survey(s, font, opened.unwrap_or(0))?;
+    if opened.is_none() | marked {
+        Some(end)
+    } else {
+        None
     }
 }
 
 // Whether a buffer is a store, and how its records end, where a font is asked for.
-pub fn check(s: &[u8], font: usize) -> Checked
+pub fn check(s: &[u8], font: usize) -> Option<RunEnd>
     ensures { result ≡ checked_store font (decode s.now) }
 {
     if !begins_right(s) {
-        return Checked::NotStore;
+        return None;
     }
     match see_mark(s) {
-        MarkSeen::Shut => check_records(s, font, 0, false),
-        MarkSeen::Open(key) => check_records(s, font, key, true),
-        MarkSeen::Wrong => Checked::NotStore,
+        MarkSeen::Shut => check_records(s, font, None),
+        MarkSeen::Open(key) => check_records(s, font, Some(key)),
+        MarkSeen::Wrong => None,
     }
 }
 
 // Whether a buffer is a store, and where font `font` stands in it and the record at a place of it: 0 the font itself, code + 1 a character.
-pub fn inspect(s: &[u8], font: usize, place: usize) -> Inspected
+pub fn inspect(s: &[u8], font: usize, place: usize) -> Option<Places>
     requires { (font ≤ 4294967296) × (place ≤ 4294967296) }
     ensures { result ≡ inspected font place (decode s.now) }
 {
-    let Checked::Store(end) = check(s, font) else {
-        return Inspected::NotStore;
-    };
-    Inspected::Found(locate::places_in(s, end, font, place))
+    let end = check(s, font)?;
+    Some(locate::places_in(s, end, font, place))
 }
 
 // Whether the font stands there.
-pub fn look_up_font(p: Places) -> Lookup
+pub fn look_up_font(p: Places) -> Option<Places>
     ensures { (result ≡ font_lookup p) × (font_number result ≡ cond (ltb p.lo p.hi) 0 6) }
 {
-    if p.lo < p.hi {
-        Lookup::At(p)
-    } else {
-        Lookup::Missing
-    }
+    if p.lo < p.hi { Some(p) } else { None }
 }
 
 // Whether the character stands there.
-pub fn look_up_character(p: Places) -> Lookup
+pub fn look_up_character(p: Places) -> Option<Places>
     ensures { (result ≡ character_lookup p) × (character_number result ≡ cond (ltb p.from p.to) 0 7) }
 {
-    if p.from < p.to {
-        Lookup::At(p)
-    } else {
-        Lookup::Missing
-    }
+    if p.from < p.to { Some(p) } else { None }
 }

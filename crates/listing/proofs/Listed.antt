@@ -1,5 +1,6 @@
 -- Laws of the lines of fonts. Assumes nothing.
 use Prim.Native.Nat.{ℕ, ◌+◌, ◌-◌, ◌*◌, ◌<◌, ◌≤◌}
+use Rattle.std.specs.Prelude.{Option as Optional, Some, None}
 use mathlib.Core.Path.{◌≡◌, refl, sym, ap, ◌∙◌}
 use mathlib.Core.List.{List, [], ◌∷◌, ◌++◌, append_assoc, append-nil}
 use mathlib.Core.Bool.{false}
@@ -13,12 +14,8 @@ use Rattle.form.specs.Model.{Rec, Store, font, character, split, size_of, total,
 use Rattle.store.specs.Answer.{told_of}
 use Rattle.store.specs.Calls.{telling_font}
 use Rattle.form.specs.Records.{is_store, some_store, records_in, records_at, records_by, RecordPlace, Begun}
-use Rattle.form.specs.Fonts.{fonts_in, fonts_at, fonts_of, Onward}
+use Rattle.form.specs.Fonts.{Font, fonts_in, fonts_at, fonts_of}
 use Rattle.store.specs.declared.telling.Told.{Told}
-use Rattle.form.specs.declared.records.Begin.{Begin}
-use Rattle.form.specs.declared.records.Begin.TheVariants.{At, NotStore}
-use Rattle.form.specs.declared.kept_fonts.NextFont.{NextFont}
-use Rattle.form.specs.declared.kept_fonts.NextFont.TheVariants.{Font as found, End}
 use Rattle.form.proofs.RecordBytes.{head_inv}
 use Rattle.form.proofs.RecordRuns.{Standing, at_end, at_record, stands_at, headed_size}
 use Rattle.form.proofs.KeptFonts.{fonts_begun}
@@ -90,41 +87,37 @@ pub fonts_fit : (s : List ℕ) (at : ℕ) → RecordPlace s at → font_record *
 unfolding fonts_at records_at
 fonts_fit s at p = rw p.is (omega (arith, fonts_total p.recs, run_fits p.recs (drop at s) p.is, length-drop at s))
 
--- ── line by line: those before place p stand in the output, which is o with them from `at` up to `to`
-pub record Listed (s : List ℕ) (from : ℕ) (o : List ℕ) (at p : ℕ) (out : List ℕ) (to : ℕ) : Type 0 where
+-- ── line by line: those before the fonts that are left stand in the output, which is o with them from `at` up to `to`
+pub record Listed (s : List ℕ) (from : ℕ) (o : List ℕ) (at : ℕ) (fonts : List Font) (out : List ℕ) (to : ℕ) : Type 0 where
   pub text : List ℕ
   pub wrote : Wrote o at text to out
-  pub left : text ++ lines s (fonts_at s p) ≡ lines s (fonts_at s from)
-  pub room : to + 65 * length (fonts_at s p) ≤ at + length s
+  pub left : text ++ lines s fonts ≡ lines s (fonts_at s from)
+  pub room : to + 65 * length fonts ≤ at + length s
 
-pub listed_none : (s : List ℕ) (from : ℕ) (o : List ℕ) (at : ℕ) → at + length s ≤ length o → RecordPlace s from → Listed s from o at from o at
-listed_none s from o at h p =
-    record { text = []; wrote = wrote_none o at (omega arith); left = refl; room = omega (arith, fonts_fit s from p) }
+pub listed_none : (s : List ℕ) (from : ℕ) (o : List ℕ) (at : ℕ) (fonts : List Font) → at + length s ≤ length o → RecordPlace s from → fonts ≡ fonts_at s from → Listed s from o at fonts o at
+listed_none s from o at fonts h p e =
+    record { text = []; wrote = wrote_none o at (omega arith); left = ap (lines s) e; room = omega (arith, fonts_fit s from p, ap length e) }
 
-module _ (s : List ℕ) (from : ℕ) (o : List ℕ) (at p : ℕ) (out : List ℕ) (to : ℕ) (x : Listed s from o at p out to) (v : NextFont) (h : Onward s p v) where
-  pub listed_all : v ≡ End → Wrote o at (lines s (fonts_at s from)) to out
+module _ (s : List ℕ) (from : ℕ) (o : List ℕ) (at : ℕ) (fonts : List Font) (out : List ℕ) (to : ℕ) (x : Listed s from o at fonts out to) where
+  pub listed_all : fonts ≡ [] → Wrote o at (lines s (fonts_at s from)) to out
   unfolding lines
   listed_all e =
-      let z : Onward s p End = rw e at h in
-      let t : x.text ≡ lines s (fonts_at s from) = sym (append-nil x.text) ∙ ap (λ (l : List _). x.text ++ lines s l) (sym z) ∙ x.left in
+      let t : x.text ≡ lines s (fonts_at s from) = sym (append-nil x.text) ∙ ap (λ (l : List _). x.text ++ lines s l) (sym e) ∙ x.left in
       rw (← t) x.wrote
 
-  module _ (n k next : ℕ) (e : v ≡ found n k next) where
-    pub met : Onward s p (found n k next)
-    met = rw e at h
-
+  module _ (f : Font) (more : List Font) (e : fonts ≡ f ∷ more) where
     pub room_here : to + 65 ≤ at + length s
-    room_here = omega (arith, x.room, ap length met.0)
+    room_here = omega (arith, x.room, ap length e)
 
-    pub listed_more : (end : ℕ) (last : List ℕ) → end ≤ to + 65 → Wrote out to (font_line s n) end last → Listed s from o at next last end
+    pub listed_more : (end : ℕ) (last : List ℕ) → end ≤ to + 65 → Wrote out to (font_line s f.number) end last → Listed s from o at more last end
     unfolding lines
     listed_more end last b w =
-        let rest = lines s (fonts_at s next) in
+        let rest = lines s more in
         record {
-          text = x.text ++ font_line s n;
-          wrote = wrote_then o x.text (font_line s n) out last at to end x.wrote w;
-          left = append_assoc x.text (font_line s n) rest ∙ ap (λ (l : List _). x.text ++ lines s l) (sym met.0) ∙ x.left;
-          room = omega (arith, x.room, ap length met.0);
+          text = x.text ++ font_line s f.number;
+          wrote = wrote_then o x.text (font_line s f.number) out last at to end x.wrote w;
+          left = append_assoc x.text (font_line s f.number) rest ∙ ap (λ (l : List _). x.text ++ lines s l) (sym e) ∙ x.left;
+          room = omega (arith, x.room, ap length e);
         }
 
 -- ── from where the run begins
@@ -136,12 +129,12 @@ no_lines s e = go (decode s) e
     go none e = refl
     go (some st) e = let z : ◌≡◌ {A = ℕ} 0 1 = cc in absurd (omega arith)
 
-module _ (s : List ℕ) (v : Begin) (h : Begun s v) where
-  pub unbegun : v ≡ NotStore → (o : List ℕ) (at : ℕ) → at ≤ length o → Wrote o at (lines s (fonts_of s)) at o
-  unbegun e o at l = let f : Begun s NotStore = rw e at h in rw (no_lines s f) (wrote_none o at l)
+module _ (s : List ℕ) (v : Optional ℕ) (h : Begun s v) where
+  pub unbegun : v ≡ None → (o : List ℕ) (at : ℕ) → at ≤ length o → Wrote o at (lines s (fonts_of s)) at o
+  unbegun e o at l = let f : Begun s None = rw e at h in rw (no_lines s f) (wrote_none o at l)
 
-  module _ (p : ℕ) (e : v ≡ At p) where
-    begun : Begun s (At p)
+  module _ (p : ℕ) (e : v ≡ Some p) where
+    begun : Begun s (Some p)
     begun = rw e at h
 
     pub begins_at : RecordPlace s p

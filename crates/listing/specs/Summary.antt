@@ -1,7 +1,7 @@
 -- Document 01, "The stream", the listing program: the last line. "After 13 the last line ends ` stopped P`, P the place."
 use Rattle.std.specs.Prelude.{ℕ, List, [], ◌∷◌, ◌++◌, cond, eqb}
 use Rattle.stream.specs.Digits.{decimal_of}
-use Rattle.stream.specs.declared.reading.StreamRead.{StreamRead}
+use Rattle.stream.specs.Reading.{StreamAnswer}
 use Rattle.text.specs.Column.{space, newline, column}
 
 -- "done "
@@ -22,5 +22,5 @@ counts done refused = done_word ++ (column done space ++ (refused_word ++ decima
 unfoldable pub stopped : ℕ → List ℕ
 stopped p = stopped_word ++ column p newline
 
-unfoldable pub summary : StreamRead → List ℕ
+unfoldable pub summary : StreamAnswer → List ℕ
 summary r = counts r.done r.refused ++ cond (eqb r.refusal 13) (stopped r.place) (newline ∷ [])

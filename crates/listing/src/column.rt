@@ -22,8 +22,8 @@ pub fn write_signed(out: &mut [u8], at: usize, b: u8, after: u8) -> usize
     ensures upper_bound { result ≤ at + 7 }
 {
     if b < 128 {
-        return write_short(out, at, b as usize, after);
+        return write_short(out, at, usize::from(b), after);
     }
     out[at] = b'-';
-    write_short(out, at + 1, 256 - b as usize, after)
+    write_short(out, at + 1, 256 - usize::from(b), after)
 }

@@ -11,18 +11,12 @@ use blocks::header::KEPT;
 use store::fonts;
 use text::column::write_column;
 
-fn wide(x: u8) -> usize
-    ensures { (result ≡ x) × (result < 256) }
-{
-    x as usize
-}
-
 // A kept byte.
 fn byte(k: &[u8; KEPT], i: usize) -> usize
     requires { i < header_bytes }
     ensures { (result ≡ byte_of k.now i) × (result < 256) }
 {
-    wide(k[i])
+    usize::from(k[i])
 }
 
 // Two kept bytes, high and low.

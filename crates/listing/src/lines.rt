@@ -6,9 +6,8 @@ ghost use Rattle.text.specs.Wrote.{Wrote};
 ghost use Rattle.listing.specs.Line.{lines};
 
 use crate::line::write_font;
-use form::kept_fonts::NextFont;
-use form::records::Begin;
-use form::{kept_fonts, records};
+use form::kept_fonts::KeptFonts;
+use form::records;
 
 // Those from a place of the store on. A line is shorter than the record of its font, so that the store's length is room enough.
 fn write_from(out: &mut [u8], at: usize, s: &[u8], from: usize) -> usize
@@ -17,19 +16,10 @@ fn write_from(out: &mut [u8], at: usize, s: &[u8], from: usize) -> usize
     ensures upper_bound { result ≤ at + length s.now }
 {
     let mut to = at;
-    let mut place = from;
-    loop {
-        let NextFont::Font {
-            number,
-            kept: _,
-            next,
-        } = kept_fonts::next_font(s, place)
-        else {
-            return to;
-        };
-        to = write_font(out, to, s, number);
-        place = next;
+    for font in KeptFonts::starting_at(s, from) {
+        to = write_font(out, to, s, font.number);
     }
+    to
 }
 
 pub fn write_lines(out: &mut [u8], at: usize, s: &[u8]) -> usize
@@ -37,7 +27,7 @@ pub fn write_lines(out: &mut [u8], at: usize, s: &[u8]) -> usize
     ensures wrote { Wrote out.old at (lines s.now (fonts_of s.now)) result out.new }
     ensures upper_bound { result ≤ at + length s.now }
 {
-    let Begin::At(from) = records::begin_records(s) else {
+    let Some(from) = records::begin_records(s) else {
         return at;
     };
     write_from(out, at, s, from)

@@ -29,8 +29,9 @@ pub fn list(input: &[u8], text: &mut [u8]) -> usize
         return write_bytes(text, 0, b"input too long\n");
     }
     let mut store = [0u8; STORE];
-    fonts::make_fresh(&mut store);
-    let read = reading::read_stream(&mut store, input);
+    // Not refused, since a store may have this length.
+    let _ = fonts::make_fresh(&mut store);
+    let read = reading::read_stream(&mut store, input).unwrap();
     let heading = write_bytes(
         text,
         0,

@@ -1,10 +1,11 @@
 // The last line: the commands done and refused, and where the stream broke.
 ghost use Rattle.std.specs.Prelude.{◌+◌, ◌≤◌, length};
 ghost use Rattle.text.specs.Wrote.{Wrote};
+ghost use Rattle.stream.specs.Reading.{end_answer};
 ghost use Rattle.listing.specs.Summary.{counts, stopped, summary};
 
 use stream::digits::write_digits;
-use stream::reading::StreamRead;
+use stream::reading::{CommandCounts, Stopped};
 use stream::writing::write_bytes;
 use text::column::write_column;
 
@@ -27,13 +28,14 @@ fn write_place(out: &mut [u8], at: usize, p: usize) -> usize
     write_column(out, from, p, b'\n')
 }
 
-pub fn write_summary(out: &mut [u8], at: usize, read: StreamRead) -> usize
+pub fn write_summary(out: &mut [u8], at: usize, read: Stopped) -> usize
     requires { at + 84 ≤ length out.old }
-    ensures { Wrote out.old at (summary read) result out.new }
+    ensures { Wrote out.old at (summary (end_answer read.ending read.counts read.bad)) result out.new }
 {
-    let end = write_counts(out, at, read.done as usize, read.refused as usize);
-    if read.refusal == 13 {
-        return write_place(out, end, read.place as usize);
+    let CommandCounts { done, refused } = read.counts;
+    let end = write_counts(out, at, done as usize, refused as usize);
+    match read.ending {
+        Some(place) => write_place(out, end, place),
+        None => write_bytes(out, end, b"\n"),
     }
-    write_bytes(out, end, b"\n")
 }

@@ -1,5 +1,6 @@
 -- Demand 1. Assumes nothing.
 use Prim.Native.Nat.{ℕ}
+use Rattle.std.specs.Prelude.{Err}
 use mathlib.Core.Path.{◌≡◌, refl, sym, ap, ◌∙◌, subst}
 use mathlib.Core.Logic.{◌⊎◌, inl, inr}
 use mathlib.Core.List.{List, [], ◌∷◌, ◌++◌}
@@ -11,7 +12,6 @@ use Rattle.blocks.specs.Check.{Check, verdict}
 use Rattle.blocks.specs.Header.{header_bytes, header_checks, read_header, kept_header}
 use Rattle.blocks.specs.Character.{descriptor_bytes, width, height}
 use Rattle.pictures.specs.Size.{row_size, picture_size}
-use Rattle.blocks.specs.declared.Verdict.TheVariants.{Refused}
 use Rattle.form.specs.Layout.{least_store, most_store, last_font}
 use Rattle.form.specs.Num.{◌and◌}
 use Rattle.form.specs.Model.{Rec, Store, decode}
@@ -24,16 +24,16 @@ use Rattle.store.specs.Download.{downloading_character}
 use Rattle.store.proofs.Again.{character_answers}
 use Rattle.form.proofs.Locates.{store_is}
 use Rattle.store.specs.Drawing.{drawing_row, row_of, drawing_picture, picture_of}
-use Rattle.choice.specs.Choosing.{choosing, choosing_from_two}
+use Rattle.choice.specs.Choosing.{choosing_from_two}
 use Rattle.cartridge.specs.Cartridge.{record_answer, answering_from_two}
 use Rattle.choice.specs.declared.Request.{Request}
-use Rattle.choice.specs.declared.Chosen.{Chosen}
-use Rattle.choice.specs.declared.Chosen.TheVariants.{Number, NotStore, OutOfRange, NoFont}
+use Rattle.choice.specs.Steps.{Choice}
+use Rattle.choice.proofs.Refusing.{of_one, of_two}
 use Rattle.sheet.specs.Sheet.{Sheet, most_requests, unanswered, choosing_sheet}
 use Rattle.sheet.specs.declared.SheetAnswer.{SheetAnswer}
 use Rattle.stream.specs.Reading.{none_counted, obey_all, Progress, Reading, end_answer, reading_of, reading}
-use Rattle.stream.specs.declared.reading.Ending.{Ending}
-use Rattle.stream.specs.declared.reading.Ending.TheVariants.{AtEnd, BrokenAt}
+use Rattle.stream.specs.Reading.{Ending}
+use Rattle.std.specs.Prelude.{None, Some}
 use Rattle.turning.specs.Turn.{turnable, turned_size, turned, unturned, turning_picture}
 use Rattle.stream.specs.Written.{WriteOut, unwritten, written, writing_font}
 use Rattle.collection.specs.Figures.{Adding, not_added, figures_taken, adding_figures}
@@ -92,7 +92,7 @@ module _ {c : Call} {s : List ℕ} {A : Type 0} (w : Way c s A) where
   by_verdict [] a l p = p
   by_verdict (x ∷ xs) a l p = go x.holds (by_verdict xs a l.1 p)
     where
-      go : (t : Bool) → Is (taking w.refuse (verdict xs) a) → Is (taking w.refuse (cond t (verdict xs) (Refused x.number)) a)
+      go : (t : Bool) → Is (taking w.refuse (verdict xs) a) → Is (taking w.refuse (cond t (verdict xs) (Err x.number)) a)
       go true q = q
       go false q = refused x.number l.0
 
@@ -138,13 +138,9 @@ removes_character n c s =
 -- choosing has its refusals as the cases of its answer
 chooses : (r : Request) (s : List ℕ) → Claim (choose_font r) s
 unfolding listed output_of others
-chooses r s = by_case (choosing s r)
-  where
-    by_case : (a : Chosen) → Told (choose_font r) s (of_choice s a)
-    by_case (Number p n) = inl refl
-    by_case NotStore = inr (as_listed (choose_font r) 1 refl)
-    by_case OutOfRange = inr (as_listed (choose_font r) 2 refl)
-    by_case NoFont = inr (as_listed (choose_font r) 11 refl)
+chooses r s =
+    of_one (λ (a : Choice). Told (choose_font r) s (of_choice s a)) (λ c. inl refl) (inr (as_listed (choose_font r) 1 refl)) (inr (as_listed (choose_font r) 2 refl))
+    (inr (as_listed (choose_font r) 11 refl)) s r
 
 tells_font : (n : ℕ) (out s : List ℕ) → Claim (tell_font n out) s
 unfolding listed output_of others telling_font
@@ -230,12 +226,13 @@ module _ (n c : ℕ) (b s : List ℕ) where
           (λ row filled run x r. inr (past_width n c b row filled run x r)) (λ st h d x v. inl refl) (λ st h d x v. inr (no_room n c b st _ x.guest.is x.guest.there))
 
 -- ── two stores
-chooses_from_two_lem : (p : Bool) (t : List ℕ) (r : Request) (s soft cartridge : List ℕ) (a : Chosen) → Told (choose_from_two p t r) s (of_record s (record_answer soft cartridge a))
+chooses_from_two_lem : (p : Bool) (t : List ℕ) (r : Request) (s soft cartridge : List ℕ)
+    → Told (choose_from_two p t r) s (of_record s (record_answer soft cartridge (choosing_from_two soft cartridge r)))
 unfolding listed output_of others record_answer
-chooses_from_two_lem p t r s soft cartridge (Number q n) = inl refl
-chooses_from_two_lem p t r s soft cartridge NotStore = inr (as_listed (choose_from_two p t r) 1 refl)
-chooses_from_two_lem p t r s soft cartridge OutOfRange = inr (as_listed (choose_from_two p t r) 2 refl)
-chooses_from_two_lem p t r s soft cartridge NoFont = inr (as_listed (choose_from_two p t r) 11 refl)
+chooses_from_two_lem p t r s soft cartridge =
+    let c : Call = choose_from_two p t r in
+    of_two (λ (a : Choice). Told c s (of_record s (record_answer soft cartridge a))) (λ a. inl refl) (inr (as_listed c 1 refl)) (inr (as_listed c 2 refl))
+    (inr (as_listed c 11 refl)) soft cartridge r
 
 -- ── a stream
 reads : (b s : List ℕ) → Claim (read_stream b) s
@@ -248,8 +245,8 @@ reads b s =
     is st e = rw e
 
     ends : (o : Ending) → (carried_out b s).ending ≡ o → is_store s ≡ true → Told (read_stream b) s (of_reading (reading_of (carried_out b s)))
-    ends AtEnd q i = rw q (inl refl)
-    ends (BrokenAt at) q i =
+    ends None q i = rw q (inl refl)
+    ends (Some at) q i =
         let x : Progress = (carried_out b s).progress in
         rw q (inr (subst (λ (ns : List ℕ). Refusal s (read_stream b) (answered 13 (x.counts.done ∷ x.counts.refused ∷ at ∷ ns) x.bytes [])) (sym (carried_first b s)) (broken b at i q)))
 
@@ -292,7 +289,7 @@ demand1 (choose_sheet rs out) s = chooses_sheet rs out s
 demand1 (turn_picture t w h pic out) s = turns_picture t w h pic out s
 demand1 (check_profile n) s = checks_profile n s
 demand1 (write_profiled n out) s = writes_profiled n out s
-demand1 (choose_from_two true t r) s = chooses_from_two_lem true t r s s t (choosing_from_two s t r)
-demand1 (choose_from_two false t r) s = chooses_from_two_lem false t r s t s (choosing_from_two t s r)
+demand1 (choose_from_two true t r) s = chooses_from_two_lem true t r s s t
+demand1 (choose_from_two false t r) s = chooses_from_two_lem false t r s t s
 demand1 (add_figures b) s = adds_figures b s
 demand1 (salvage_stream b list) s = salvages b list s

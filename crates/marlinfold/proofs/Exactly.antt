@@ -19,9 +19,9 @@ use Rattle.store.specs.Download.{downloading_character}
 use Rattle.store.specs.Drawing.{drawing_row, drawing_picture}
 use Rattle.choice.specs.Choosing.{choosing, choosing_among, choosing_from_two, refusal_of}
 use Rattle.choice.specs.Candidates.{Candidate, candidates}
-use Rattle.choice.specs.Steps.{fonts_left, first_number, choice}
-use Rattle.choice.specs.declared.Chosen.{Chosen}
-use Rattle.choice.specs.declared.Chosen.TheVariants.{NotStore, OutOfRange}
+use Rattle.choice.specs.Steps.{Choice, fonts_left, first_number, choice}
+use Rattle.std.specs.Prelude.{Err}
+use Rattle.refusals.specs.declared.Refused.TheVariants.{NotStore, OutOfRange}
 use Rattle.choice.specs.Request.{in_range}
 use Rattle.choice.specs.declared.Request.{Request}
 use Rattle.cartridge.specs.Cartridge.{answering_from_two, record_answer}
@@ -30,8 +30,8 @@ use Rattle.sheet.specs.declared.SheetAnswer.{SheetAnswer}
 use Rattle.stream.specs.Reading.{Progress, spelled_from, first_target, reading, reading_of, end_answer, read_from}
 use Rattle.stream.proofs.Readings.{read_store}
 use Rattle.stream.specs.Written.{unwritten, written, writing_font}
-use Rattle.stream.specs.declared.reading.Ending.{Ending}
-use Rattle.stream.specs.declared.reading.Ending.TheVariants.{AtEnd, BrokenAt}
+use Rattle.stream.specs.Reading.{Ending}
+use Rattle.std.specs.Prelude.{None, Some}
 use Rattle.profile.specs.Profile.{checking_profile, writing_profiled}
 use Rattle.collection.specs.Figures.{adding_figures}
 use Rattle.salvage.specs.Salvage.{salvaging}
@@ -76,8 +76,8 @@ store_first (salvage_stream b l) s i = inr (rw (no_store s i))
 -- ── choosing
 module _ (s : List ℕ) (r : Request) where
   -- by whether s is a store and the request is within range
-  abbrev chosen_where : Bool → Bool → Chosen
-  chosen_where a c = cond a (cond c (choice r (candidates true (fonts_of s))) OutOfRange) NotStore
+  abbrev chosen_where : Bool → Bool → Choice
+  chosen_where a c = cond a (cond c (choice r (candidates true (fonts_of s))) (Err OutOfRange)) (Err NotStore)
 
   font_or_none : (refusal_of (chosen_where true true) ≡ 0) ⊎ (refusal_of (chosen_where true true) ≡ 11)
   unfolding choice first_number
@@ -159,16 +159,16 @@ stored s i = go (decode s) refl i
 
 by_ending : (b s : List ℕ) (p : Progress) (e : Ending) → outcome (read_stream b) s ≡ of_reading (reading_of (record { ending = e; progress = p }))
     → let o : Outcome = outcome (read_stream b) s in
-    ((at : ℕ) → (e ≡ BrokenAt at) ↔ ((o.refusal ≡ 13) × (get_or o.numbers 2 0 ≡ at))) × ((e ≡ AtEnd) ↔ ((o.refusal ≡ 0) × (get_or o.numbers 2 0 ≡ 0)))
+    ((at : ℕ) → (e ≡ Some at) ↔ ((o.refusal ≡ 13) × (get_or o.numbers 2 0 ≡ at))) × ((e ≡ None) ↔ ((o.refusal ≡ 0) × (get_or o.numbers 2 0 ≡ 0)))
 unfolding end_answer
-by_ending b s p AtEnd q =
+by_ending b s p None q =
     let k = ap (λ (o : Outcome). o.refusal) q in
     let n = ap (λ (o : Outcome). get_or o.numbers 2 0) q in
     (λ at. (λ e. let x : ◌≡◌ {A = ℕ} 0 1 = cc in absurd (omega arith), λ h. absurd (omega (arith, k, h.0))), (λ e. (k, n), λ h. refl))
-by_ending b s p (BrokenAt i) q =
+by_ending b s p (Some i) q =
     let k = ap (λ (o : Outcome). o.refusal) q in
     let n = ap (λ (o : Outcome). get_or o.numbers 2 0) q in
-    (λ at. (λ e. (k, let j : i ≡ at = cc in n ∙ j), λ h. ap (λ (a : ℕ). BrokenAt a) (sym n ∙ h.1)), (λ e. let x : ◌≡◌ {A = ℕ} 0 1 = cc in absurd (omega arith), λ h. absurd (omega (arith, k, h.0))))
+    (λ at. (λ e. (k, let j : i ≡ at = cc in n ∙ j), λ h. ap (λ (a : ℕ). Some a) (sym n ∙ h.1)), (λ e. let x : ◌≡◌ {A = ℕ} 0 1 = cc in absurd (omega arith), λ h. absurd (omega (arith, k, h.0))))
 
 pub broken_exactly : BrokenExactly
 unfolding read_from

@@ -11,13 +11,14 @@ use Rattle.store.specs.Calls.{downloading_font}
 use Rattle.store.proofs.Again.{fresh_leaves}
 use Rattle.choice.specs.Lists.{In}
 use Rattle.choice.specs.Request.{in_range}
-use Rattle.choice.specs.Steps.{fonts_left, first_number, choice}
+use Rattle.choice.specs.Steps.{Choice, fonts_left, first_number, choice}
 use Rattle.choice.specs.Candidates.{Candidate, candidate, as_font, candidates, of_both}
 use Rattle.choice.specs.Choosing.{choosing_among, choosing_from_two, refusal_of, font_of, which_of}
 use Rattle.choice.specs.Right.{Keyed, Without, With, Lawful}
 use Rattle.choice.specs.declared.Request.{Request}
-use Rattle.choice.specs.declared.Chosen.{Chosen}
-use Rattle.choice.specs.declared.Chosen.TheVariants.{Number, NotStore, OutOfRange, NoFont}
+use Rattle.std.specs.Prelude.{Ok, Err}
+use Rattle.refusals.specs.declared.Refused.TheVariants.{NotStore, OutOfRange}
+use Rattle.refusals.proofs.Numbers.{number_some}
 use Rattle.choice.proofs.Members.{in_left, in_right, in_either, font_in_lem, candidate_in, not_cartridge, not_soft, soft_in, cartridge_in}
 use Rattle.choice.proofs.Choice.{two_keyed, soft_of_same}
 use Rattle.choice.proofs.Right.{claim}
@@ -68,21 +69,18 @@ both_are_lem book cart x = (λ m. out x.soft refl m, λ h. back x.soft refl h)
     back false q h = in_right x (candidates true book) (candidates false cart) (candidate_in false cart x q h)
 
 -- ── the claim
-by_numbers : (a : Chosen) → refusal_of a ∷ font_of a ∷ which_of a ∷ [] ≡ first_numbers a
-by_numbers (Number true n) = refl
-by_numbers (Number false n) = refl
-by_numbers NotStore = refl
-by_numbers OutOfRange = refl
-by_numbers NoFont = refl
+by_numbers : (a : Choice) → refusal_of a ∷ font_of a ∷ which_of a ∷ [] ≡ first_numbers a
+by_numbers (Ok c) = refl
+by_numbers (Err k) = refl
 
 module _ (r : Request) (i : in_range r ≡ true) where
   two_by : (s t : List ℕ) (book cart : List Font) → Kept s book → Kept t cart → choosing_from_two s t r ≡ choice r (of_both book cart)
   unfolding choosing_from_two choosing_among
   two_by s t book cart k j = rw (k.0, j.0, i, k.1, j.1)
 
-  says : (s t : List ℕ) (a : Chosen) → choosing_from_two s t r ≡ a → AnswersFromTwo r s t a
+  says : (s t : List ℕ) (a : Choice) → choosing_from_two s t r ≡ a → AnswersFromTwo r s t a
   unfolding answering_from_two record_answer
-  says s t a e = ap (λ (x : Chosen). refusal_of x ∷ font_of x ∷ which_of x ∷ []) e ∙ by_numbers a
+  says s t a e = ap (λ (x : Choice). refusal_of x ∷ font_of x ∷ which_of x ∷ []) e ∙ by_numbers a
 
   place_is : (s t : List ℕ) → place_answered r s t ≡ chosen_place s t (choosing_from_two s t r)
   unfolding answering_from_two record_answer
@@ -138,8 +136,8 @@ demand3_from_two s t book cart b d calls others r i = chooses_two r i (ran calls
 -- ── the refusals
 module _ (s t : List ℕ) (r : Request) where
   -- by whether both are stores and the request is within range
-  abbrev chosen_by : Bool → Bool → Bool → Chosen
-  chosen_by a b c = cond (a && b) (cond c (choice r (of_both (fonts_of s) (fonts_of t))) OutOfRange) NotStore
+  abbrev chosen_by : Bool → Bool → Bool → Choice
+  chosen_by a b c = cond (a && b) (cond c (choice r (of_both (fonts_of s) (fonts_of t))) (Err OutOfRange)) (Err NotStore)
 
   named_or_none : (refusal_of (chosen_by true true true) ≡ 0) ⊎ (refusal_of (chosen_by true true true) ≡ 11)
   unfolding choice first_number
@@ -172,11 +170,9 @@ soft_by s r false c e = absurd (omega (arith, e))
 soft_by s r true false e = absurd (omega (arith, e))
 soft_by s r true true e = go (choice r (of_both (fonts_of s) (fonts_of s))) refl e
   where
-    go : (v : Chosen) → choice r (of_both (fonts_of s) (fonts_of s)) ≡ v → refusal_of v ≡ 0 → which_of v ≡ 1
-    go (Number p n) q h = rw (soft_of_same r (fonts_of s) p n q)
-    go NotStore q h = absurd (omega (arith, h))
-    go OutOfRange q h = absurd (omega (arith, h))
-    go NoFont q h = absurd (omega (arith, h))
+    go : (v : Choice) → choice r (of_both (fonts_of s) (fonts_of s)) ≡ v → refusal_of v ≡ 0 → which_of v ≡ 1
+    go (Ok c) q h = rw (soft_of_same r (fonts_of s) c.soft c.number q) refl
+    go (Err k) q h = absurd (omega (arith, h, number_some k))
 
 pub soft_of_one : SoftOfOne
 unfolding answering_from_two record_answer choosing_from_two choosing_among

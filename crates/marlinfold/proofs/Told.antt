@@ -21,8 +21,7 @@ use Rattle.store.proofs.Holds.{valid_decode}
 use Rattle.store.specs.Answer.{Telling, untold}
 use Rattle.store.specs.Calls.{characters_of, kept_of, data_of, onto, telling_font, telling_character}
 use Rattle.stream.specs.Written.{WriteOut, unwritten, written, writing_bytes, writing_font}
-use Rattle.profile.specs.Profile.{broken_in, unchecked, checked_as, meets, checking_profile, writing_profiled}
-use Rattle.profile.specs.declared.pass.RuleBroken.{RuleBroken}
+use Rattle.profile.specs.Profile.{RuleBroken, broken_in, unchecked, checked_as, meets, checking_profile, writing_profiled}
 use Rattle.profile.specs.declared.check.ProfileChecked.{ProfileChecked}
 use Rattle.profile.proofs.Profile.{found_by_numbers}
 use Rattle.marlinfold.specs.Calls.{of_writing}

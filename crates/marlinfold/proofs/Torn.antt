@@ -20,8 +20,8 @@ use Rattle.stream.specs.Command.{command_at}
 use Rattle.stream.specs.Reading.{Action, Spelled, spelled_from, first_target, Progress, none_counted, obey_all, read_from, end_answer, reading_of}
 use Rattle.stream.specs.declared.command.Command.{Command}
 use Rattle.stream.specs.declared.command.Command.TheVariants.{SetFont, SetCode, FontBlock, CharacterBlock, Broken, End}
-use Rattle.stream.specs.declared.reading.Ending.{Ending}
-use Rattle.stream.specs.declared.reading.Ending.TheVariants.{AtEnd, BrokenAt}
+use Rattle.stream.specs.Reading.{Ending}
+use Rattle.std.specs.Prelude.{None, Some}
 use Rattle.stream.proofs.Readings.{read_store, obeyed_made}
 use Rattle.stream.proofs.Counts.{counted}
 use Rattle.salvage.specs.Salvage.{restarts, restart_in, restart_from, Stretch, Salvage, past_tear, salvage_in, salvage_of, list_of, room_of, salvaged_by}
@@ -101,32 +101,32 @@ module _ (b : List ℕ) (at : ℕ) (s : List ℕ) (st : Store) (l : at ≤ lengt
   ends_later = ap (λ (x : Spelled). x.ending) (rest_read b at l)
 
   -- read to the end
-  read_whole : spelled_on.ending ≡ AtEnd → ((read_at b at s).refusal ≡ 0) × (done_at b at s ≡ carried.counts.done) × (refused_at b at s ≡ carried.counts.refused) × ((read_at b at s).store ≡ carried.bytes)
+  read_whole : spelled_on.ending ≡ None → ((read_at b at s).refusal ≡ 0) × (done_at b at s ≡ carried.counts.done) × (refused_at b at s ≡ carried.counts.refused) × ((read_at b at s).store ≡ carried.bytes)
   unfolding end_answer
   read_whole q = go (spelled_from (drop at b) 0 first_target).ending refl
     where
       go : (e : Ending) → (spelled_from (drop at b) 0 first_target).ending ≡ e
           → ((read_at b at s).refusal ≡ 0) × (done_at b at s ≡ carried.counts.done) × (refused_at b at s ≡ carried.counts.refused) × ((read_at b at s).store ≡ carried.bytes)
-      go AtEnd z = let r = read_is ∙ ap (λ (e : Ending). of_reading (reading_of (record { ending = e; progress = carried }))) z in (
+      go None z = let r = read_is ∙ ap (λ (e : Ending). of_reading (reading_of (record { ending = e; progress = carried }))) z in (
         ap (λ (o : Outcome). o.refusal) r,
         ap (λ (o : Outcome). get_or o.numbers 0 0) r,
         ap (λ (o : Outcome). get_or o.numbers 1 0) r,
         ap (λ (o : Outcome). o.store) r,
       )
-      go (BrokenAt p) z = let y : later at (BrokenAt p) ≡ AtEnd = ap (later at) (sym z) ∙ sym ends_later ∙ q in let x : ◌≡◌ {A = ℕ} 0 1 = cc in absurd (omega arith)
+      go (Some p) z = let y : later at (Some p) ≡ None = ap (later at) (sym z) ∙ sym ends_later ∙ q in let x : ◌≡◌ {A = ℕ} 0 1 = cc in absurd (omega arith)
 
   -- read up to a 13
-  read_torn : (p : ℕ) → spelled_on.ending ≡ BrokenAt p
+  read_torn : (p : ℕ) → spelled_on.ending ≡ Some p
       → ((read_at b at s).refusal ≡ 13) × (done_at b at s ≡ carried.counts.done) × (refused_at b at s ≡ carried.counts.refused) × ((read_at b at s).store ≡ carried.bytes) × (torn_at b at s ≡ p)
   unfolding end_answer
   read_torn p q = go (spelled_from (drop at b) 0 first_target).ending refl
     where
       go : (e : Ending) → (spelled_from (drop at b) 0 first_target).ending ≡ e
           → ((read_at b at s).refusal ≡ 13) × (done_at b at s ≡ carried.counts.done) × (refused_at b at s ≡ carried.counts.refused) × ((read_at b at s).store ≡ carried.bytes) × (torn_at b at s ≡ p)
-      go AtEnd z = let y : AtEnd ≡ BrokenAt p = ap (later at) (sym z) ∙ sym ends_later ∙ q in let x : ◌≡◌ {A = ℕ} 0 1 = cc in absurd (omega arith)
-      go (BrokenAt i) z =
+      go None z = let y : None ≡ Some p = ap (later at) (sym z) ∙ sym ends_later ∙ q in let x : ◌≡◌ {A = ℕ} 0 1 = cc in absurd (omega arith)
+      go (Some i) z =
           let r = read_is ∙ ap (λ (e : Ending). of_reading (reading_of (record { ending = e; progress = carried }))) z in
-          let y : BrokenAt (at + i) ≡ BrokenAt p = ap (later at) (sym z) ∙ sym ends_later ∙ q in
+          let y : Some (at + i) ≡ Some p = ap (later at) (sym z) ∙ sym ends_later ∙ q in
           let w : at + i ≡ p = cc in (
             ap (λ (o : Outcome). o.refusal) r,
             ap (λ (o : Outcome). get_or o.numbers 0 0) r,
@@ -159,13 +159,13 @@ module _ (b : List ℕ) (at : ℕ) (s l : List ℕ) (st : Store) (h : at ≤ len
   abbrev outcome_by : Salvage → Outcome
   outcome_by x = of_salvage (salvaged_by x l (obey_all x.actions (fresh s)))
 
-  ended : (spelled_from b at first_target).ending ≡ AtEnd → SalvagedFrom b at s l (outcome_by (record { actions = (spelled_from b at first_target).actions ++ []; stretches = []; full = false }))
+  ended : (spelled_from b at first_target).ending ≡ None → SalvagedFrom b at s l (outcome_by (record { actions = (spelled_from b at first_target).actions ++ []; stretches = []; full = false }))
   unfolding list_of
   ended q =
       let r = read_whole b at s st h d q in
       rw (append-nil (spelled_from b at first_target).actions, ← r.1, ← r.2, ← r.3) (to_the_end at s l r.0)
 
-  filled : (p : ℕ) → (spelled_from b at first_target).ending ≡ BrokenAt p → length l < 16
+  filled : (p : ℕ) → (spelled_from b at first_target).ending ≡ Some p → length l < 16
       → SalvagedFrom b at s l (outcome_by (record { actions = (spelled_from b at first_target).actions ++ []; stretches = []; full = true }))
   unfolding list_of
   filled p q f =
@@ -173,7 +173,7 @@ module _ (b : List ℕ) (at : ℕ) (s l : List ℕ) (st : Store) (h : at ≤ len
       rw (append-nil (spelled_from b at first_target).actions, ← r.3) (list_full at s l r.0 f)
 
   -- past a stretch up to q, and what comes after it
-  onwards : (p q : ℕ) → (spelled_from b at first_target).ending ≡ BrokenAt p → 16 ≤ length l → FirstRestart b (p + 1) q → (full : Bool) (ts : List Stretch) (done refused : ℕ) (u : List ℕ)
+  onwards : (p q : ℕ) → (spelled_from b at first_target).ending ≡ Some p → 16 ≤ length l → FirstRestart b (p + 1) q → (full : Bool) (ts : List Stretch) (done refused : ℕ) (u : List ℕ)
       → SalvagedFrom b q (read_at b at s).store (drop 16 l)
       (answered (cond full 12 0) (cond full 0 (length ts) ∷ cond full 0 done ∷ cond full 0 refused ∷ []) u (onto (list_of ts) (drop 16 l)))
       → SalvagedFrom b at s l
@@ -189,7 +189,7 @@ module _ (b : List ℕ) (at : ℕ) (s l : List ℕ) (st : Store) (h : at ≤ len
       rw (stretch_onto p q ts l, ← r.4) (tear_passed at s l _ (length ts) done refused u _ r.0 f a x)
 
   -- the whole of a turn, where what comes after it is known
-  one_turn : (k room p : ℕ) → (spelled_from b at first_target).ending ≡ BrokenAt p → 16 ≤ length l → p < length b
+  one_turn : (k room p : ℕ) → (spelled_from b at first_target).ending ≡ Some p → 16 ≤ length l → p < length b
       → let y : Salvage = salvage_in k b (restart_from b (p + 1)) room in
       let u : List ℕ = (read_at b at s).store in
       SalvagedFrom b (restart_from b (p + 1)) u (drop 16 l) (of_salvage (salvaged_by y (drop 16 l) (obey_all y.actions (fresh u))))
@@ -218,9 +218,9 @@ from_place (suc k) b at s l n h i =
         → SalvagedFrom b p u m (of_salvage (salvaged_by (salvage_in k b p (room_of (length m))) m (obey_all (salvage_in k b p (room_of (length m))).actions (fresh u)))))
         → SalvagedFrom b at s l
         (outcome_by b at s l st h d (record { actions = (spelled_from b at first_target).actions ++ (past_tear b (salvage_in k b) room e).actions; stretches = (past_tear b (salvage_in k b) room e).stretches; full = (past_tear b (salvage_in k b) room e).full }))
-    by_end AtEnd q w room z st d f = ended b at s l st h d q
-    by_end (BrokenAt p) q w zero z st d f = filled b at s l st h d p q (omega arith)
-    by_end (BrokenAt p) q w (suc room) z st d f =
+    by_end None q w room z st d f = ended b at s l st h d q
+    by_end (Some p) q w zero z st d f = filled b at s l st h d p q (omega arith)
+    by_end (Some p) q w (suc room) z st d f =
         let m : room_of (length (drop 16 l)) ≡ room = omega (arith, length-drop 16 l) in
         let c = first_restart b (p + 1) (omega (arith, w.1)) in
         one_turn b at s l st h d k room p q (omega arith) w.1
@@ -250,11 +250,11 @@ same_ending b at s t h i j = go (spelled_from b at first_target).ending refl
   where
     go : (e : Ending) → (spelled_from b at first_target).ending ≡ e
         → ((read_at b at s).refusal ≡ 0 → (read_at b at t).refusal ≡ 0) × ((read_at b at s).refusal ≡ 13 → ((read_at b at t).refusal ≡ 13) × (torn_at b at t ≡ torn_at b at s))
-    go AtEnd q =
+    go None q =
         let x = stored s i in
         let y = stored t j in
         (λ z. (read_whole b at t y.0 h y.1 q).0, λ z. absurd (omega (arith, (read_whole b at s x.0 h x.1 q).0)))
-    go (BrokenAt p) q =
+    go (Some p) q =
         let x = stored s i in
         let y = stored t j in
         let v = read_torn b at s x.0 h x.1 p q in
@@ -308,12 +308,12 @@ at_tear b at s l o (full_later i t m r u y e f a x) z h q g w =
     let p = when_whole b q (read_at b at s).store (drop 16 l) _ (subst (λ (c : ℕ). SalvagedFrom b c (read_at b at s).store (drop 16 l) (answered 12 (0 ∷ 0 ∷ 0 ∷ []) u y)) j x) w in
     absurd (omega (arith, ap (λ (c : Outcome). c.refusal) p))
 
-ends_whole : (b s : List ℕ) (st : Store) → decode s ≡ some st → (read_at b 0 s).refusal ≡ 0 → (spelled_from b 0 first_target).ending ≡ AtEnd
+ends_whole : (b s : List ℕ) (st : Store) → decode s ≡ some st → (read_at b 0 s).refusal ≡ 0 → (spelled_from b 0 first_target).ending ≡ None
 ends_whole b s st d e = go (spelled_from b 0 first_target).ending refl
   where
-    go : (x : Ending) → (spelled_from b 0 first_target).ending ≡ x → x ≡ AtEnd
-    go AtEnd q = refl
-    go (BrokenAt p) q = absurd (omega (arith, (read_torn b 0 s st (omega arith) d p q).0))
+    go : (x : Ending) → (spelled_from b 0 first_target).ending ≡ x → x ≡ None
+    go None q = refl
+    go (Some p) q = absurd (omega (arith, (read_torn b 0 s st (omega arith) d p q).0))
 
 pub torn_between : TornBetween
 torn_between b x c l s i e k g f n =

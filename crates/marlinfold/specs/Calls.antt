@@ -7,7 +7,7 @@ use Rattle.store.specs.Download.{downloading_character}
 use Rattle.store.specs.Drawing.{drawing_row, drawing_picture}
 use Rattle.choice.specs.Choosing.{choosing, refusal_of, font_of}
 use Rattle.choice.specs.declared.Request.{Request}
-use Rattle.choice.specs.declared.Chosen.{Chosen}
+use Rattle.choice.specs.Steps.{Choice}
 use Rattle.cartridge.specs.Cartridge.{answering_from_two}
 use Rattle.cartridge.specs.declared.RecordAnswer.{RecordAnswer}
 use Rattle.sheet.specs.Sheet.{Sheet, choosing_sheet}
@@ -98,7 +98,7 @@ abbrev pub of_download : After → Outcome
 of_download a = answered a.answer (a.bad.row ∷ a.bad.filled ∷ a.bad.run ∷ []) a.bytes []
 
 -- a call that is lent the store s to read alone: choosing answers the font number,
-abbrev pub of_choice : List ℕ → Chosen → Outcome
+abbrev pub of_choice : List ℕ → Choice → Outcome
 of_choice s a = answered (refusal_of a) (font_of a ∷ []) s []
 
 -- telling the number of characters or of data bytes,

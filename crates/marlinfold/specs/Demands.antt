@@ -1,6 +1,8 @@
 -- The demands, each one claim about the outcomes of calls. Document 01 in the other hand: its table of refusals for demand 1, its "Demand 3" for
 -- the third.
-use Rattle.std.specs.Prelude.{ℕ, ◌+◌, ◌*◌, ◌-◌, ◌<◌, ◌≤◌, ◌≡◌, ◌⊎◌, ◌↔◌, List, [], ◌∷◌, ◌++◌, Bool, true, false, cond, ◌||◌, eqb, length, take, drop, get_or, replicate}
+use Rattle.std.specs.Prelude.{ℕ, ◌+◌, ◌*◌, ◌-◌, ◌<◌, ◌≤◌, ◌≡◌, ◌⊎◌, ◌↔◌, List, [], ◌∷◌, ◌++◌, Bool, true, false, cond, ◌||◌, eqb, length, take, drop, get_or, replicate, Ok, Err}
+use Rattle.refusals.specs.Refusals.{refusal_number}
+use Rattle.choice.specs.Steps.{Choice, chosen as chosen_font}
 use Rattle.std.proofs.Math.Option.{Option, none, some}
 use Rattle.pictures.specs.Size.{row_size, picture_size}
 use Rattle.pictures.specs.Dots.{unpack}
@@ -19,12 +21,10 @@ use Rattle.choice.specs.Lists.{In}
 use Rattle.choice.specs.Candidates.{Candidate, as_font, candidates, of_both}
 use Rattle.choice.specs.Right.{Keyed, Unused, Right}
 use Rattle.choice.specs.declared.Request.{Request}
-use Rattle.choice.specs.declared.Chosen.{Chosen}
-use Rattle.choice.specs.declared.Chosen.TheVariants.{Number, NotStore, OutOfRange, NoFont}
 use Rattle.sheet.specs.declared.SheetAnswer.{SheetAnswer}
 use Rattle.stream.specs.Reading.{Action, number_set, download, Progress, Ended, first_target, spelled_from, none_counted, read_from}
 use Rattle.stream.specs.Downloads.{done_among, refused_among}
-use Rattle.stream.specs.declared.reading.Ending.TheVariants.{AtEnd, BrokenAt}
+use Rattle.std.specs.Prelude.{None, Some}
 use Rattle.stream.specs.RoundTrip.{only_font}
 use Rattle.salvage.specs.Salvage.{salvage_of, room_of, list_of}
 use Rattle.turning.specs.Turn.{WhitePadding}
@@ -130,7 +130,7 @@ pub data Refusal (s : List ℕ) : Call → Outcome → Type 0 where
       (n c : ℕ) (b : List ℕ) (row filled run : ℕ) (x : BadRunIn n c b s row filled run) → ChecksPassed n c b x.store
       → Refusal s (download_character n c b) (answered 8 (row ∷ filled ∷ run ∷ []) s [])
   -- 13, "commands before it stay done"; it "gives its place and the counts so far"
-  broken : (b : List ℕ) (at : ℕ) → is_store s ≡ true → (carried_out b s).ending ≡ BrokenAt at → Refusal s (read_stream b) (stopped_at at b s)
+  broken : (b : List ℕ) (at : ℕ) → is_store s ≡ true → (carried_out b s).ending ≡ Some at → Refusal s (read_stream b) (stopped_at at b s)
   -- 12, W-212: "if the list has no place for a stretch, with the stretches listed so far and every command before the unlisted one standing; for this
   -- call that is a third exception in demand 1"
   no_place :
@@ -209,7 +209,7 @@ pub data Removes (s : List ℕ) (n : ℕ) : Call → Type 0 where
   by_no_room : (c : ℕ) (b : List ℕ) → (outcome (download_character n c b) s).refusal ≡ 10 → Removes s n (download_character n c b)
 
 -- choosing on s answers a: it names a font, or refuses
-abbrev pub Answers : Request → List ℕ → Chosen → Type 0
+abbrev pub Answers : Request → List ℕ → Choice → Type 0
 Answers r s a = outcome (choose_font r) s ≡ of_choice s a
 
 -- what holds of a store and a book, for a request
@@ -219,16 +219,16 @@ pub record Chooses (r : Request) (s : List ℕ) (book : List Font) : Type 0 wher
   -- no two of the book's fonts have one number
   pub numbers : Keyed (candidates true book)
   -- "The choice is what choosing answers on the store as last left"
-  pub choice : Chosen
+  pub choice : Choice
   pub chosen : Answers r s choice
   -- one of the book's, beats every other, the only one that no other beats; refused with 11 exactly if none takes part
   pub right : Right r (candidates true book) choice
   -- one more call that removes a font that was not chosen leaves the choice standing: "it stands if it gives the same font, or 11 again"
-  pub removed : (n : ℕ) (c : Call) → Removes s n c → (choice ≡ Number true n → ⊥) → Answers r (leaves c s) choice
+  pub removed : (n : ℕ) (c : Call) → Removes s n c → (choice ≡ chosen_font true n → ⊥) → Answers r (leaves c s) choice
   -- one that accepts a font under an unused number leaves it standing or makes the new font the choice
   pub accepted :
       (n : ℕ) (b : List ℕ) → (outcome (download_font n b) s).refusal ≡ 0 → Unused true n (candidates true book)
-      → Answers r (leaves (download_font n b) s) choice ⊎ Answers r (leaves (download_font n b) s) (Number true n)
+      → Answers r (leaves (download_font n b) s) choice ⊎ Answers r (leaves (download_font n b) s) (chosen_font true n)
 
 -- demand 3: for every buffer that making fresh accepts, every list of calls on it from then on, and every request within range
 abbrev pub Demand3 : Type 0
@@ -245,15 +245,12 @@ ChoosingRefused =
 
 -- ── W-208: demand 3 for the choice from two stores, the soft store s and the cartridge t
 -- a choice by its first numbers: the refusal, the font, "which store that is (1 soft, 2 cartridge)"
-abbrev pub first_numbers : Chosen → List ℕ
-first_numbers (Number true n) = 0 ∷ n ∷ 1 ∷ []
-first_numbers (Number false n) = 0 ∷ n ∷ 2 ∷ []
-first_numbers NotStore = 1 ∷ 0 ∷ 0 ∷ []
-first_numbers OutOfRange = 2 ∷ 0 ∷ 0 ∷ []
-first_numbers NoFont = 11 ∷ 0 ∷ 0 ∷ []
+abbrev pub first_numbers : Choice → List ℕ
+first_numbers (Ok c) = 0 ∷ c.number ∷ cond c.soft 1 2 ∷ []
+first_numbers (Err r) = refusal_number r ∷ 0 ∷ 0 ∷ []
 
 -- choosing answers a, wherever the record of the font that it names stands
-abbrev pub AnswersFromTwo : Request → List ℕ → List ℕ → Chosen → Type 0
+abbrev pub AnswersFromTwo : Request → List ℕ → List ℕ → Choice → Type 0
 AnswersFromTwo r s t a = (outcome (choose_from_two true t r) s).refusal ∷ take 2 (outcome (choose_from_two true t r) s).numbers ≡ first_numbers a
 
 -- the place that it answers
@@ -266,24 +263,24 @@ pub record ChoosesFromTwo (r : Request) (s t : List ℕ) (soft_book cartridge_bo
   pub meant : (x : Candidate) → In x (of_both soft_book cartridge_book) ↔ In (as_font x) (cond x.soft soft_book cartridge_book)
   -- no two fonts of one book have one number
   pub numbers : Keyed (of_both soft_book cartridge_book)
-  pub choice : Chosen
+  pub choice : Choice
   pub chosen : AnswersFromTwo r s t choice
   -- one of both books', beats every other, the only one that no other beats; refused with 11 exactly if none takes part
   pub right : Right r (of_both soft_book cartridge_book) choice
   -- "The answer gives the chosen font's record itself": the record of the book's font stands whole at the place answered, in the store answered
   pub stands :
-      (c : Candidate) → In c (of_both soft_book cartridge_book) → choice ≡ Number c.soft c.number
+      (c : Candidate) → In c (of_both soft_book cartridge_book) → choice ≡ chosen_font c.soft c.number
       → FontStands (cond c.soft s t) (place_answered r s t) c.number c.kept
   -- one more call on either store that removes a font that was not chosen leaves the choice standing
-  pub soft_removed : (n : ℕ) (c : Call) → Removes s n c → (choice ≡ Number true n → ⊥) → AnswersFromTwo r (leaves c s) t choice
-  pub cartridge_removed : (n : ℕ) (c : Call) → Removes t n c → (choice ≡ Number false n → ⊥) → AnswersFromTwo r s (leaves c t) choice
+  pub soft_removed : (n : ℕ) (c : Call) → Removes s n c → (choice ≡ chosen_font true n → ⊥) → AnswersFromTwo r (leaves c s) t choice
+  pub cartridge_removed : (n : ℕ) (c : Call) → Removes t n c → (choice ≡ chosen_font false n → ⊥) → AnswersFromTwo r s (leaves c t) choice
   -- one that accepts a font under a number that is unused in that store leaves it standing or makes the new font the choice
   pub soft_accepted :
       (n : ℕ) (b : List ℕ) → (outcome (download_font n b) s).refusal ≡ 0 → Unused true n (of_both soft_book cartridge_book)
-      → AnswersFromTwo r (leaves (download_font n b) s) t choice ⊎ AnswersFromTwo r (leaves (download_font n b) s) t (Number true n)
+      → AnswersFromTwo r (leaves (download_font n b) s) t choice ⊎ AnswersFromTwo r (leaves (download_font n b) s) t (chosen_font true n)
   pub cartridge_accepted :
       (n : ℕ) (b : List ℕ) → (outcome (download_font n b) t).refusal ≡ 0 → Unused false n (of_both soft_book cartridge_book)
-      → AnswersFromTwo r s (leaves (download_font n b) t) choice ⊎ AnswersFromTwo r s (leaves (download_font n b) t) (Number false n)
+      → AnswersFromTwo r s (leaves (download_font n b) t) choice ⊎ AnswersFromTwo r s (leaves (download_font n b) t) (chosen_font false n)
 
 -- how a store's list of calls begins, and its book: made fresh, with an empty one; or "a dump that these calls didn't make starts its book with the
 -- fonts in its records"
@@ -386,8 +383,8 @@ abbrev pub BrokenExactly : Type 0
 BrokenExactly =
     (b s : List ℕ) → is_store s ≡ true
     → let o : Outcome = outcome (read_stream b) s in
-    ((at : ℕ) → ((spelled_from b 0 first_target).ending ≡ BrokenAt at) ↔ ((o.refusal ≡ 13) × (get_or o.numbers 2 0 ≡ at)))
-    × (((spelled_from b 0 first_target).ending ≡ AtEnd) ↔ ((o.refusal ≡ 0) × (get_or o.numbers 2 0 ≡ 0)))
+    ((at : ℕ) → ((spelled_from b 0 first_target).ending ≡ Some at) ↔ ((o.refusal ≡ 13) × (get_or o.numbers 2 0 ≡ at)))
+    × (((spelled_from b 0 first_target).ending ≡ None) ↔ ((o.refusal ≡ 0) × (get_or o.numbers 2 0 ≡ 0)))
 
 -- ── telling "answers the number of characters or of data bytes"
 abbrev pub NumbersTold : Type 0

@@ -1,9 +1,8 @@
 -- Document 01, "Trials on both sides": P1 to P12, and those of the later requests, one table and one claim.
-use Rattle.std.specs.Prelude.{ℕ, zero, suc, ◌+◌, ◌/◌, ◌%◌, ◌≡◌, List, [], ◌∷◌, ◌++◌, true, length, replicate}
-use Rattle.pictures.specs.Picture.{judge}
+use Rattle.std.specs.Prelude.{ℕ, zero, suc, ◌+◌, ◌/◌, ◌%◌, ◌≡◌, Some, Ok, Err, List, [], ◌∷◌, ◌++◌, true, length, replicate}
+use Rattle.pictures.specs.Picture.{Judged, judge}
 use Rattle.pictures.specs.Rows.{picture}
-use Rattle.pictures.specs.declared.picture.Judged.{Judged}
-use Rattle.pictures.specs.declared.picture.Judged.TheVariants.{Complete, PastWidth}
+use Rattle.pictures.specs.Runs.{past_width}
 use Rattle.form.specs.Num.{low_first}
 use Rattle.choice.specs.Request.{request_of}
 use Rattle.choice.specs.declared.Request.{Request}
@@ -276,14 +275,14 @@ table =
     ∷ gives_on (spine (4 ∷ 0 ∷ 14 ∷ 1 ∷ 0 ∷ 0 ∷ 0 ∷ 0 ∷ 0 ∷ 0 ∷ 0 ∷ 8 ∷ 0 ∷ 1 ∷ 0 ∷ 121 ∷ []) (255 ∷ [])) (check_profile 5) (breaks 7 65)
     ∷ gives_on (spine plain_letter (255 ∷ [])) (check_profile 5) (breaks 0 0)
     -- P10 width 10, height 3, data 1 2 3 5 0 0 10: rows 56 0, 56 0, 255 192.
-    ∷ draws 10 3 (1 ∷ 2 ∷ 3 ∷ 5 ∷ 0 ∷ 0 ∷ 10 ∷ []) (Complete 7) (56 ∷ 0 ∷ 56 ∷ 0 ∷ 255 ∷ 192 ∷ [])
+    ∷ draws 10 3 (1 ∷ 2 ∷ 3 ∷ 5 ∷ 0 ∷ 0 ∷ 10 ∷ []) (Ok (Some 7)) (56 ∷ 0 ∷ 56 ∷ 0 ∷ 255 ∷ 192 ∷ [])
     ∷ gives (A ∷ sending 10 3 (1 ∷ 2 ∷ 3 ∷ 5 ∷ 0 ∷ 0 ∷ 10 ∷ []) ∷ []) (draw_picture 5 65 (replicate 6 7)) (drawn (56 ∷ 0 ∷ 56 ∷ 0 ∷ 255 ∷ 192 ∷ []))
     -- P11 width 300, height 1, data 0 255 0 45: a white row, complete.
-    ∷ draws 300 1 (0 ∷ 255 ∷ 0 ∷ 45 ∷ []) (Complete 4) (replicate 38 0)
+    ∷ draws 300 1 (0 ∷ 255 ∷ 0 ∷ 45 ∷ []) (Ok (Some 4)) (replicate 38 0)
     ∷ gives (A ∷ sending 300 1 (0 ∷ 255 ∷ 0 ∷ 45 ∷ []) ∷ []) (draw_picture 5 65 (replicate 38 7)) (drawn (replicate 38 0))
     ∷ gives (A ∷ sending 300 1 (0 ∷ 255 ∷ 0 ∷ 45 ∷ []) ∷ []) sending_more none_open
     -- P12 width 10, data 0 4 7: 8. (In row 0, 4 dots filled, a run of 7; it names no height: 1.)
-    ∷ draws 10 1 (0 ∷ 4 ∷ 7 ∷ []) (PastWidth 0 4 7) (0 ∷ 0 ∷ [])
+    ∷ draws 10 1 (0 ∷ 4 ∷ 7 ∷ []) (Err (past_width 0 4 7)) (0 ∷ 0 ∷ [])
     ∷ gives (A ∷ []) (sending 10 1 (0 ∷ 4 ∷ 7 ∷ [])) (run_too_long 0 4 7)
     ∷ []
 

@@ -4,6 +4,10 @@
 ghost use Rattle.std.specs.Prelude.{◌≡◌, true, false, ℕ, List, ◌∷◌, []};
 ghost use Rattle.choice.specs.Request.{request_of};
 ghost use Rattle.choice.specs.Choosing.{refusal_of, font_of};
+ghost use Rattle.stream.specs.Reading.{end_answer};
+ghost use Rattle.stream.specs.Underway.{read_answer};
+ghost use Rattle.stream.specs.Written.{written_of};
+ghost use Rattle.salvage.specs.Onward.{with_both};
 ghost use Rattle.marlinfold.specs.Calls.{make_fresh, download_font, download_character, remove_font, remove_character, choose_font, tell_font, tell_character, draw_row, draw_picture, write_font, read_stream, choose_sheet, turn_picture, check_profile, write_profiled, choose_from_two, add_figures, salvage_stream, answer_numbers, answered, outcome};
 
 use cartridge::RecordAnswer;
@@ -11,17 +15,16 @@ use choice::{Chosen, Request};
 use collection::adding;
 use profile::check;
 use profile::check::ProfileChecked;
-use salvage::Salvaged;
+use refusals::Refused;
 use sheet::SheetAnswer;
-use store::download::Downloaded;
+use store::download::{BadRun, Downloaded};
 use store::telling::Told;
 use store::{characters, download, drawing, fonts};
-use stream::reading::StreamRead;
-use stream::write::Written;
+use stream::reading::{CommandCounts, Stopped};
 use stream::{reading, write};
 use turning::turn;
 
-// The chosen font's number, or the refusal.
+// The chosen font's number, or the refusal, in the order in which C is told them.
 #[repr(C)]
 #[derive(Clone, Copy)]
 pub struct FontChosen {
@@ -29,16 +32,45 @@ pub struct FontChosen {
     pub font: u32,
 }
 
+// The length of a font as it is written, or the refusal.
+#[repr(C)]
+#[derive(Clone, Copy)]
+pub struct Written {
+    pub refusal: u32,
+    pub length: u32,
+}
+
+// The commands done and refused, the place of a 13, and the run of the first refusal 8.
+#[repr(C)]
+#[derive(Clone, Copy)]
+pub struct StreamRead {
+    pub refusal: u32,
+    pub done: u64,
+    pub refused: u64,
+    pub place: u64,
+    pub bad: BadRun,
+}
+
+// The stretches listed, and the commands done and refused.
+#[repr(C)]
+#[derive(Clone, Copy)]
+pub struct Salvaged {
+    pub refusal: u32,
+    pub stretches: u64,
+    pub done: u64,
+    pub refused: u64,
+}
+
 pub fn mf_make_fresh(store: &mut [u8]) -> u32
     ensures { answered result [] store.new [] ≡ outcome make_fresh store.old }
 {
-    fonts::make_fresh(store)
+    refusals::answer(fonts::make_fresh(store))
 }
 
 pub fn mf_download_font(store: &mut [u8], block: &[u8], font: u32) -> u32
     ensures { answered result [] store.new [] ≡ outcome (download_font font block.now) store.old }
 {
-    fonts::download_font(store, block, font)
+    refusals::answer(fonts::download_font(store, block, font))
 }
 
 pub fn mf_download_character(store: &mut [u8], block: &[u8], font: u32, code: u32) -> Downloaded
@@ -50,16 +82,16 @@ pub fn mf_download_character(store: &mut [u8], block: &[u8], font: u32, code: u3
 pub fn mf_remove_font(store: &mut [u8], font: u32) -> u32
     ensures { answered result [] store.new [] ≡ outcome (remove_font font) store.old }
 {
-    fonts::remove_font(store, font)
+    refusals::answer(fonts::remove_font(store, font))
 }
 
 pub fn mf_remove_character(store: &mut [u8], font: u32, code: u32) -> u32
     ensures { answered result [] store.new [] ≡ outcome (remove_character font code) store.old }
 {
-    characters::remove_character(store, font, code)
+    refusals::answer(characters::remove_character(store, font, code))
 }
 
-fn font_chosen(a: Chosen) -> FontChosen
+fn font_chosen(a: Result<Chosen, Refused>) -> FontChosen
     ensures { (result.refusal ≡ refusal_of a) × (result.font ≡ font_of a) }
 {
     let e = sheet::answer_of(a);
@@ -139,41 +171,93 @@ pub fn mf_tell_character(store: &[u8], out: &mut [u8], font: u32, code: u32) -> 
 pub fn mf_draw_row(store: &[u8], out: &mut [u8], font: u32, code: u32, row: u32) -> u32
     ensures { answered result [] store.now out.new ≡ outcome (draw_row font code row out.old) store.now }
 {
-    drawing::draw_row(store, out, font, code, row)
+    refusals::answer(drawing::draw_row(store, out, font, code, row))
 }
 
 pub fn mf_draw_picture(store: &[u8], out: &mut [u8], font: u32, code: u32) -> u32
     ensures { answered result [] store.now out.new ≡ outcome (draw_picture font code out.old) store.now }
 {
-    drawing::draw_picture(store, out, font, code)
+    refusals::answer(drawing::draw_picture(store, out, font, code))
+}
+
+// A refusal answers 0 for every other number.
+fn font_written(r: Result<u32, Refused>) -> Written
+    ensures { (out : List ℕ) → written_of r out ≡ record { refusal = result.refusal; count = result.length; out = out } }
+{
+    match r {
+        Ok(length) => Written { refusal: 0, length },
+        Err(refusal) => Written {
+            refusal: u32::from(refusal),
+            length: 0,
+        },
+    }
 }
 
 pub fn mf_write_font(store: &[u8], out: &mut [u8], font: u32) -> Written
     ensures { answered result.refusal (result.length ∷ []) store.now out.new ≡ outcome (write_font font out.old) store.now }
 {
-    write::write_font(store, out, font)
+    font_written(write::write_font(store, out, font))
+}
+
+// How a reading ended: with a 13 at a place, or with the stream.
+fn stream_ended(x: Stopped) -> StreamRead
+    ensures { end_answer x.ending x.counts x.bad ≡ record { refusal = result.refusal; done = result.done; refused = result.refused; place = result.place; bad = result.bad } }
+{
+    let CommandCounts { done, refused } = x.counts;
+    match x.ending {
+        None => StreamRead {
+            refusal: 0,
+            done,
+            refused,
+            place: 0,
+            bad: x.bad,
+        },
+        Some(at) => StreamRead {
+            refusal: u32::from(Refused::StreamBroken),
+            done,
+            refused,
+            place: at as u64,
+            bad: x.bad,
+        },
+    }
+}
+
+// A refusal answers 0 for every other number, save 13.
+fn stream_read(r: Result<Stopped, Refused>) -> StreamRead
+    ensures { read_answer r ≡ record { refusal = result.refusal; done = result.done; refused = result.refused; place = result.place; bad = result.bad } }
+{
+    match r {
+        Ok(x) => stream_ended(x),
+        Err(refusal) => StreamRead {
+            refusal: u32::from(refusal),
+            done: 0,
+            refused: 0,
+            place: 0,
+            bad: BadRun {
+                row: 0,
+                filled: 0,
+                run: 0,
+            },
+        },
+    }
 }
 
 pub fn mf_read_stream(store: &mut [u8], stream: &[u8]) -> StreamRead
     ensures { answered result.refusal (result.done ∷ result.refused ∷ result.place ∷ result.bad.row ∷ result.bad.filled ∷ result.bad.run ∷ []) store.new [] ≡ outcome (read_stream stream.now) store.old }
 {
-    reading::read_stream(store, stream)
+    stream_read(reading::read_stream(store, stream))
 }
 
 // W-201. All that is decided here is decided by the two calls.
 pub fn mf_choose_sheet(store: &[u8], requests: &[Request], answers: &mut [SheetAnswer]) -> u32
     ensures { answered result [] store.now (answer_numbers answers.new) ≡ outcome (choose_sheet requests.now answers.old) store.now }
 {
-    let begin = sheet::begin_sheet(store, requests.len(), answers.len());
-    if begin.refusal != 0 {
-        return begin.refusal;
-    }
-    let from = begin.from;
-    let mut i: usize = 0;
-    while i < requests.len() {
-        let r = requests[i];
-        answers[i] = sheet::answer_request(store, from, r);
-        i = i + 1;
+    let from = match sheet::begin_sheet(store, requests.len(), answers.len()) {
+        Ok(from) => from,
+        Err(refusal) => return u32::from(refusal),
+    };
+    for (i, request) in requests.iter().enumerate() {
+        answers[i] = sheet::answer_request(store, from, *request);
     }
     0
 }
@@ -182,7 +266,7 @@ pub fn mf_choose_sheet(store: &[u8], requests: &[Request], answers: &mut [SheetA
 pub fn mf_turn_picture(picture: &[u8], out: &mut [u8], width: u32, height: u32, turn: u32) -> u32
     ensures { (s : List ℕ) → answered result [] s out.new ≡ outcome (turn_picture turn width height picture.now out.old) s }
 {
-    turn::turn_picture(picture, out, width, height, turn)
+    refusals::answer(turn::turn_picture(picture, out, width, height, turn))
 }
 
 // W-207
@@ -195,7 +279,7 @@ pub fn mf_check_profile(store: &[u8], font: u32) -> ProfileChecked
 pub fn mf_write_profiled(store: &[u8], out: &mut [u8], font: u32) -> Written
     ensures { answered result.refusal (result.length ∷ []) store.now out.new ≡ outcome (write_profiled font out.old) store.now }
 {
-    check::write_profiled(store, out, font)
+    font_written(check::write_profiled(store, out, font))
 }
 
 // W-208. One lifetime for both stores, which the borrow checker asks for where both go to one call.
@@ -236,9 +320,29 @@ pub fn mf_add_figures(store: &[u8], figures: &mut [u8]) -> u32
     adding::add_figures(store, figures)
 }
 
+// A refusal answers 0 for every other number.
+fn stream_salvaged(r: Result<salvage::SalvageCounts, Refused>) -> Salvaged
+    ensures { (s list : List ℕ) → with_both r s list ≡ record { refusal = result.refusal; stretches = result.stretches; done = result.done; refused = result.refused; store = s; out = list } }
+{
+    match r {
+        Ok(x) => Salvaged {
+            refusal: 0,
+            stretches: x.stretches,
+            done: x.counts.done,
+            refused: x.counts.refused,
+        },
+        Err(refusal) => Salvaged {
+            refusal: u32::from(refusal),
+            stretches: 0,
+            done: 0,
+            refused: 0,
+        },
+    }
+}
+
 // W-212
 pub fn mf_salvage_stream(store: &mut [u8], stream: &[u8], list: &mut [u8]) -> Salvaged
     ensures { answered result.refusal (result.stretches ∷ result.done ∷ result.refused ∷ []) store.new list.new ≡ outcome (salvage_stream stream.now list.old) store.old }
 {
-    salvage::salvage_stream(store, stream, list)
+    stream_salvaged(salvage::salvage_stream(store, stream, list))
 }

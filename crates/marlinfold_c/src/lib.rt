@@ -7,14 +7,11 @@ ghost use Rattle.marlinfold.specs.Calls.{make_fresh, download_font, download_cha
 
 use cartridge::RecordAnswer;
 use choice::Request;
-use marlinfold::FontChosen;
+use marlinfold::{FontChosen, Salvaged, StreamRead, Written};
 use profile::check::ProfileChecked;
-use salvage::Salvaged;
 use sheet::SheetAnswer;
 use store::download::Downloaded;
 use store::telling::Told;
-use stream::reading::StreamRead;
-use stream::write::Written;
 
 #[unsafe(no_mangle)]
 pub extern "C" fn mf_make_fresh(store: &mut [u8]) -> u32

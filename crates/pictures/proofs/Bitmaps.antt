@@ -1,5 +1,5 @@
 -- Laws of class 1 data: its bytes are those of the rows, but for the bits beyond the width. Assumes nothing.
-use Rattle.std.proofs.Common.{◌≡◌, ℕ, zero, suc, ◌+◌, ◌-◌, ◌*◌, ◌/◌, ◌%◌, ◌^◌, ◌<◌, ◌≤◌, Bool, true, false, eqb, List, [], ◌∷◌, ◌++◌, length, get_or, take, drop, set, sym, refl, ap, ◌∙◌, append_assoc, mul-le-mul_right, mod-lt, mod-eq_of_lt, mul_assoc, suc-mul, add-mul, one-mul, zero-add, zero-mul, add-one, arith, length-append, length-drop, get_or-drop, take-take, drop-drop, take_at, get_or-append-add, drop_at, pow_pos, pow-add, eqb-true}
+use Rattle.std.proofs.Common.{◌≡◌, ℕ, zero, suc, ◌+◌, ◌-◌, ◌*◌, ◌/◌, ◌%◌, ◌^◌, ◌<◌, ◌≤◌, Bool, true, false, eqb, List, [], ◌∷◌, ◌++◌, length, get_or, take, drop, set, sym, refl, ap, ◌∙◌, append_assoc, mul-le-mul_right, leb, leb-true, leb-false, length-take-le, drop_of_length-le, mod-lt, mod-eq_of_lt, mul_assoc, suc-mul, add-mul, one-mul, zero-add, zero-mul, add-one, arith, length-drop, get_or-drop, take-take, drop-drop, take_at, get_or-append-add, drop_at, pow_pos, pow-add, eqb-true}
 use native.Mathlib.Nat.{sub-zero, zero-sub, suc-sub-suc, zero-div, div-eq_of_lt, mul-add-div_right}
 use borrow.Author.Tests.{eqb-false}
 use borrow.Rule.Slice.PartMut.{put_mid}
@@ -87,12 +87,11 @@ masked x pad h l =
 
 -- ---- rows
 pub padded_none : (n : ℕ) → white n ≡ padded n []
-unfolding padded white
+unfolding padded
 padded_none zero = refl
 padded_none (suc n) = ap (λ (t : List ℕ). 0 ∷ t) (padded_none n)
 
 get_d_white : (n m : ℕ) → get_or (white n) m 0 ≡ 0
-unfolding white
 get_d_white zero m = refl
 get_d_white (suc n) zero = refl
 get_d_white (suc n) (suc m) = get_d_white n m
@@ -147,24 +146,32 @@ padded_short n m [] e = let z : m ≡ n = omega arith in rw z (padded_none n)
 padded_short zero m (x ∷ d) e = absurd (omega arith)
 padded_short (suc n) m (x ∷ d) e = ap (λ (t : List ℕ). x ∷ t) (padded_short n m d (omega arith))
 
--- the data from a place on fills the output
-pub copied_long : (from : ℕ) (d out : List ℕ) → from + length out ≤ length d → take (from + length out - from) (drop from d) ≡ padded (length out) (drop from d)
-copied_long from d out l =
-    let z : from + length out - from ≡ length out = omega arith in
-    let h : length out ≤ length (drop from d) = simp length-drop (omega arith) in
-    rw z (padded_long (length out) (drop from d) h)
+white_after : (m : ℕ) (d : List ℕ) → (0 < m → length d ≡ 0) → white m ≡ padded m d
+unfolding padded
+white_after zero d h = refl
+white_after (suc m) [] h = padded_none (suc m)
+white_after (suc m) (x ∷ d) h = absurd (omega (arith, h (omega arith)))
 
--- it ends within the output
-pub copied_short : (from n m : ℕ) (d out out' ys : List ℕ) → n ≡ length d - from → out' ≡ take n (drop from d) ++ drop n out
-    → ys ≡ white m → m ≡ length (take (length out' - n) (drop n out')) → n ≤ length out
-    → put_mid n (length out' - n) out' ys ≡ padded (length out) (drop from d)
-copied_short from n m d out out' ys e p y q l =
-    let s : List ℕ = drop from d in
-    let a : n ≡ length s = e ∙ sym (length-drop from d) in
-    let b : out' ≡ s ++ drop n out = p ∙ rw (e, tail_lent from d) in
-    let c : length out' ≡ length out = ap length b ∙ simp (length-append, length-drop) (omega (arith, length-drop from d)) in
-    let k : length s + m ≡ length out = omega (arith, q ∙ ap length (tail_lent n out') ∙ length-drop n out', length-drop from d) in
-    tail_back n out' ys ∙ rw (b, y, take_at s (drop n out) n (sym a)) (padded_short (length out) m s k)
+-- the first n bytes of the output are those of the data, and the others white
+pub copied : (n m : ℕ) (d out xs ys : List ℕ) → xs ≡ take n d → n ≤ length d → n ≤ length out → (n < length out → length d ≤ n)
+    → ys ≡ white m → m ≡ length (take (length (xs ++ drop n out) - n) (drop n (xs ++ drop n out)))
+    → put_mid n (length (xs ++ drop n out) - n) (xs ++ drop n out) ys ≡ padded (length out) d
+copied n m d out xs ys e l g h y q =
+    let k : length xs ≡ n = ap length e ∙ length-take-le n d l in
+    let r : m ≡ length (drop n out) = q ∙ ap length (tail_lent n (xs ++ drop n out)) ∙ ap length (drop_at xs (drop n out) n k) in
+    let s : length out ≡ n + m = omega (arith, length-drop n out) in
+    tail_back n (xs ++ drop n out) ys
+    ∙ rw (take_at xs (drop n out) n k, y, e, padded_long n d l, white_after m (drop n d) (λ z. omega (arith, length-drop n d, h (omega arith))), ← (padded_add n m d), s)
+
+-- a place behind the data's end is as good as its end
+pub drop_within : (n k : ℕ) (d : List ℕ) → (k ≤ length d → n ≡ k) → (length d ≤ k → n ≡ length d) → drop n d ≡ drop k d
+drop_within n k d f g = go (leb k (length d)) refl
+  where
+    go : (t : Bool) → leb k (length d) ≡ t → drop n d ≡ drop k d
+    go true e = ap (λ (i : ℕ). drop i d) (f (leb-true k (length d) e))
+    go false e =
+        let l : length d ≤ k = omega (arith, leb-false k (length d) e) in
+        rw (drop_of_length-le d {i = n} (omega (arith, g l)), drop_of_length-le d {i = k} l)
 
 set_append_add : (xs ys : List ℕ) (j v : ℕ) → set (xs ++ ys) (length xs + j) v ≡ xs ++ set ys j v
 set_append_add [] ys j v = rw zero-add

@@ -1,24 +1,23 @@
 -- The scan's answer and the rows drawn agree: data is complete exactly if it draws as many rows as the height. Assumes nothing.
-use Rattle.std.proofs.Common.{◌≡◌, ℕ, suc, ◌+◌, ◌<◌, ◌≤◌, Bool, true, false, cond, not, eqb, ltb, leb, List, [], ◌∷◌, ◌++◌, length, replicate, sym, refl, ◌∙◌, add-zero, zero-add, arith, length-append, le-leb, leb-false, leb-true}
+use Rattle.std.proofs.Common.{◌≡◌, ℕ, suc, ◌+◌, ◌<◌, ◌≤◌, Bool, true, false, cond, not, eqb, ltb, leb, Some, Result, Ok, Err, List, [], ◌∷◌, ◌++◌, length, replicate, sym, refl, ◌∙◌, add-zero, zero-add, arith, length-append, le-leb, leb-false, leb-true}
 use borrow.Author.Tests.{lt-leb}
 use lib.ListN.{length-replicate}
-use Rattle.pictures.specs.Runs.{fill_row, end_row, place_of, step_run, scan_from, start, on_step, on_fill}
+use Rattle.pictures.specs.Runs.{fill_row, end_row, place_of, step_run, scan_from, start, past_width, on_step, on_fill}
 use Rattle.pictures.specs.Rows.{rows_from, rows_drawn, RowPlace, at_count, in_row}
 use Rattle.pictures.specs.declared.runs.Place.TheVariants.{Count, Finished}
 use Rattle.pictures.specs.declared.runs.Reader.{Reader}
 use Rattle.pictures.specs.declared.runs.Filled.{Filled}
 use Rattle.pictures.specs.declared.runs.Filled.TheVariants.{Over, Whole, Part}
-use Rattle.pictures.specs.declared.runs.Stepped.TheVariants.{Next, Past}
+use Rattle.pictures.specs.declared.runs.PastWidth.{PastWidth}
 use Rattle.pictures.specs.declared.runs.Scanned.{Scanned}
-use Rattle.pictures.specs.declared.runs.Scanned.TheVariants.{Complete, Open, PastWidth}
+use Rattle.pictures.specs.declared.runs.Scanned.TheVariants.{Complete, Open}
 use Rattle.pictures.specs.Picture.{judge, judge_scan, CompleteRows}
-use Rattle.pictures.specs.declared.picture.Judged.TheVariants.{Complete as AllDrawn}
 use Rattle.pictures.proofs.Scanning.{scan_done}
 
-abbrev pub is_complete : Scanned → Bool
-is_complete (Complete k) = true
-is_complete (Open s) = false
-is_complete (PastWidth r f b) = false
+abbrev pub is_complete : Result Scanned PastWidth → Bool
+is_complete (Ok (Complete k)) = true
+is_complete (Ok (Open s)) = false
+is_complete (Err p) = false
 
 -- the reader's state at a place among the rows
 abbrev reader_at : ℕ → RowPlace → Reader
@@ -51,8 +50,8 @@ module _ (w h : ℕ) where
 
   -- one run
   run : (xs : List ℕ) → Agrees xs → (n row r b : ℕ) (ds : List Bool) (c : Bool) → row < h → (x : Filled) → fill_row w (length ds) b ≡ x
-      → is_complete (on_step (on_fill x (Past row (length ds) b) (Next (end_row h (record { row = row; repeat = r; at = place_of c (length ds) })))
-      (λ m. Next (record { row = row; repeat = r; at = place_of (not c) m }))) (λ t. scan_from w h (n + 1) t xs))
+      → is_complete (on_step (on_fill x (Err (past_width row (length ds) b)) (Ok (end_row h (record { row = row; repeat = r; at = place_of c (length ds) })))
+      (λ m. Ok (record { row = row; repeat = r; at = place_of (not c) m }))) (λ t. scan_from w h (n + 1) t xs))
       ≡ leb h (row + length (on_fill x [] (replicate (suc r) (ds ++ replicate b c) ++ rows_from w at_count xs) (λ _. rows_from w (in_row r (ds ++ replicate b c) (not c)) xs)))
   unfolding end_row
   run xs ih n row r b ds c l Over q = rw add-zero (sym (lt-leb h row l))
@@ -74,19 +73,19 @@ module _ (w h : ℕ) where
   complete_rows d l = agrees d 0 0 at_count l ∙ rw zero-add
 
   -- the rows of complete data
-  pub complete_height : (d : List ℕ) (k : ℕ) → 0 < h → scan_from w h 0 start d ≡ Complete k → h ≤ length (rows_from w at_count d)
+  pub complete_height : (d : List ℕ) (k : ℕ) → 0 < h → scan_from w h 0 start d ≡ Ok (Complete k) → h ≤ length (rows_from w at_count d)
   complete_height d k l e = leb-true h (length (rows_from w at_count d)) (sym (complete_rows d l) ∙ rw e)
 
 -- ── by how data is judged
-judged_complete : (v : Scanned) → is_complete v ≡ true → (n : ℕ) × (judge_scan v ≡ AllDrawn n)
-judged_complete (Complete k) e = (k, refl)
-judged_complete (Open s) e = let z : ◌≡◌ {A = ℕ} 0 1 = cc in absurd (omega arith)
-judged_complete (PastWidth r f b) e = let z : ◌≡◌ {A = ℕ} 0 1 = cc in absurd (omega arith)
+judged_complete : (v : Result Scanned PastWidth) → is_complete v ≡ true → (n : ℕ) × (judge_scan v ≡ Ok (Some n))
+judged_complete (Ok (Complete k)) e = (k, refl)
+judged_complete (Ok (Open s)) e = let z : ◌≡◌ {A = ℕ} 0 1 = cc in absurd (omega arith)
+judged_complete (Err p) e = let z : ◌≡◌ {A = ℕ} 0 1 = cc in absurd (omega arith)
 
-complete_judged : (v : Scanned) (n : ℕ) → judge_scan v ≡ AllDrawn n → is_complete v ≡ true
-complete_judged (Complete k) n e = refl
-complete_judged (Open s) n e = let z : ◌≡◌ {A = ℕ} 0 1 = cc in absurd (omega arith)
-complete_judged (PastWidth r f b) n e = let z : ◌≡◌ {A = ℕ} 0 1 = cc in absurd (omega arith)
+complete_judged : (v : Result Scanned PastWidth) (n : ℕ) → judge_scan v ≡ Ok (Some n) → is_complete v ≡ true
+complete_judged (Ok (Complete k)) n e = refl
+complete_judged (Ok (Open s)) n e = let z : ◌≡◌ {A = ℕ} 0 1 = cc in absurd (omega arith)
+complete_judged (Err p) n e = let z : ◌≡◌ {A = ℕ} 0 1 = cc in absurd (omega arith)
 
 pub complete_by_rows : CompleteRows
 unfolding judge

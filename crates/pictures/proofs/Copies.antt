@@ -1,20 +1,7 @@
 -- Laws of bytes copied within the output: a row that stands there again and again. Assumes nothing.
-use Rattle.std.proofs.Common.{◌≡◌, ℕ, zero, suc, ◌+◌, ◌-◌, ◌*◌, ◌<◌, ◌≤◌, List, ◌++◌, length, get_or, take, drop, set, sym, ap, ◌∙◌, append_assoc, append-nil, add-zero, suc-mul, add-mul, one-mul, zero-mul, add-one, arith, length-append, take-append-drop, length-take-le, get_or-take, drop-drop, take_at, drop_at}
-use lib.ListN.{get_or-append}
-use lib.Seq.{paste, paste-suc}
+use Rattle.std.proofs.Common.{◌≡◌, ℕ, zero, suc, ◌+◌, ◌-◌, ◌*◌, ◌≤◌, List, ◌++◌, length, take, drop, sym, ap, ◌∙◌, append_assoc, append-nil, add-zero, suc-mul, add-mul, one-mul, zero-mul, arith, length-append, take-append-drop, drop-drop, take_at, drop_at}
+use lib.Seq.{paste}
 use Rattle.pictures.specs.Drawing.{repeated}
-
-pub copy_more : (d : List ℕ) (to n j : ℕ) → n ≤ to → to + n ≤ length d → j < n
-    → set (paste d to d j) (to + j) (get_or (paste d to d j) j 0) ≡ paste d to d (j + 1)
-copy_more d to n j h l q =
-    let len : length (take to d) ≡ to = length-take-le to d (omega arith) in
-    let here : j < length (take to d) = omega arith in
-    let more : j < length (take to d ++ take j d) = simp length-append (omega arith) in
-    let v : get_or (paste d to d j) j 0 ≡ get_or d j 0 =
-    get_or-append (take to d ++ take j d) (drop (to + j) d) 0 j more
-    ∙ get_or-append (take to d) (take j d) 0 j here
-    ∙ get_or-take to d j 0 (omega arith) in
-    rw (v, add-one j) (paste-suc d to d j 0 (omega arith) (omega arith))
 
 module _ (xs : List ℕ) where
   pub length_repeated : (m : ℕ) → length (repeated m xs) ≡ m * length xs

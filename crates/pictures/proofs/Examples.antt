@@ -1,18 +1,17 @@
 -- Worked examples, which hold of the definitions by computing: source document 001's compressed character and source document 004's portrait
 -- 'y'. Assumes nothing.
-use Rattle.std.proofs.Common.{◌≡◌, ℕ, List, [], ◌∷◌, ◌++◌, length, replicate, refl}
+use Rattle.std.proofs.Common.{◌≡◌, ℕ, Some, Ok, List, [], ◌∷◌, ◌++◌, length, replicate, refl}
 use Rattle.pictures.specs.Dots.{bits, pack, dots_in, unpack}
 use Rattle.pictures.specs.Runs.{fill_row, end_row, step_run, scan_from, start}
 use Rattle.pictures.specs.Rows.{bitmap_row, rows_from, runs_row, row_dots, row_bytes, picture}
 use Rattle.pictures.specs.Picture.{judge}
 use Rattle.pictures.specs.declared.runs.Scanned.TheVariants.{Complete}
-use Rattle.pictures.specs.declared.picture.Judged.TheVariants.{Complete as Whole}
 
 -- source document 001's compressed character, 20 dots wide and 20 rows high
 unfoldable pub compressed : List ℕ
 compressed = 2 ∷ 0 ∷ 20 ∷ 0 ∷ 0 ∷ 2 ∷ 6 ∷ 4 ∷ 6 ∷ 2 ∷ 0 ∷ 0 ∷ 1 ∷ 7 ∷ 4 ∷ 7 ∷ 1 ∷ 12 ∷ 8 ∷ 4 ∷ 8 ∷ 1 ∷ 5 ∷ 10 ∷ 5 ∷ []
 
-pub compressed_scan : scan_from 20 20 0 start compressed ≡ Complete 25
+pub compressed_scan : scan_from 20 20 0 start compressed ≡ Ok (Complete 25)
 unfolding compressed scan_from step_run end_row fill_row
 compressed_scan = refl
 
@@ -110,6 +109,6 @@ pub portrait_picture : picture 1 27 portrait 32 ≡ portrait_drawn
 unfolding portrait portrait_drawn picture row_bytes row_dots bitmap_row unpack dots_in pack bits
 portrait_picture = refl
 
-pub portrait_complete : judge 1 27 32 portrait ≡ Whole 128
+pub portrait_complete : judge 1 27 32 portrait ≡ Ok (Some 128)
 unfolding portrait judge
 portrait_complete = refl

@@ -1,5 +1,4 @@
 pub mod Tests
-pub mod Lists
 pub mod Scanning
 pub mod Passing
 pub mod Packing

@@ -1,10 +1,11 @@
 -- Laws of `read_line` and `rows_from`: a row that is read, and the rows that it and the data behind it draw. Assumes nothing.
-use Rattle.std.proofs.Common.{◌≡◌, ℕ, suc, ◌+◌, ◌<◌, ◌≤◌, Bool, false, not, List, [], ◌∷◌, ◌++◌, length, get_or, drop, replicate, sym, refl, ap, ◌∙◌, append_assoc, add-one, arith, length-drop, drop_of_length-le, drop-cons, drop-drop, get_or-append-add}
+use Rattle.std.proofs.Common.{◌≡◌, ℕ, suc, ◌+◌, ◌<◌, ◌≤◌, Bool, true, false, eqb, eqb-true, not, Some, None, List, [], ◌∷◌, ◌++◌, length, get_or, drop, replicate, sym, refl, ap, ◌∙◌, append_assoc, add-one, arith, length-drop, drop_of_length-le, drop-cons, drop-drop, get_or-append-add}
+use borrow.Author.Tests.{eqb-false}
+use Rattle.std.specs.Bool.{then_some}
 use lib.ListN.{length-replicate, get_or-replicate, get_or-append}
 use Rattle.pictures.specs.Runs.{fill_row, on_fill}
 use Rattle.pictures.specs.Rows.{rows_from, runs_row, RowPlace, at_count, in_row}
 use Rattle.pictures.specs.Drawing.{Read, no_row, whole, read_line, line_from, line_of, dots_of}
-use Rattle.pictures.specs.declared.compressed.Line.TheVariants.{Ends, Unfinished}
 use Rattle.pictures.specs.declared.runs.Filled.{Filled}
 use Rattle.pictures.specs.declared.runs.Filled.TheVariants.{Over, Whole, Part}
 use Rattle.pictures.proofs.Passing.{fill_part, fill_whole, fill_over}
@@ -31,6 +32,14 @@ module _ (w : ℕ) where
     pub line_part : (f : ℕ) → length ds ≡ f → f + get_or src n 0 < w
         → read_line w ds c n (drop n src) ≡ read_line w (ds ++ replicate (get_or src n 0) c) (not c) (n + 1) (drop (n + 1) src)
     line_part f l e = line_turn ∙ rw (l, fill_part w f (get_or src n 0) e)
+
+    -- a run that fills what the row lacks, or passes it
+    pub line_last : (l : ℕ) → length ds + l ≡ w → l ≤ get_or src n 0 → then_some (eqb l (get_or src n 0)) (n + 1) ≡ line_of (read_line w ds c n (drop n src))
+    line_last l e g = go (eqb l (get_or src n 0)) refl
+      where
+        go : (t : Bool) → eqb l (get_or src n 0) ≡ t → then_some t (n + 1) ≡ line_of (read_line w ds c n (drop n src))
+        go true q = ap line_of (sym (line_whole (length ds) refl (omega (arith, eqb-true _ _ q))))
+        go false q = ap line_of (sym (line_over (length ds) refl (omega (arith, eqb-false _ _ q))))
 
 -- ---- a row that is read, and the rows that it and the data behind it draw
 abbrev rows_of : ℕ → ℕ → List ℕ → Read → List (List Bool)
@@ -60,6 +69,14 @@ row_of w b src no_row j h = refl
 row_of w b src (whole ds k) j h =
     let l : j < length (replicate (suc b) ds) = simp length-replicate (omega arith) in
     get_or-append (replicate (suc b) ds) (rows_from w at_count (drop k src)) [] j l ∙ get_or-replicate (suc b) j ds [] (omega arith)
+
+whole_of : (q : Read) (k : ℕ) → Some k ≡ line_of q → (ds : List Bool) × (q ≡ whole ds k)
+whole_of no_row k e = let z : ◌≡◌ {A = ℕ} 0 1 = cc in absurd (omega arith)
+whole_of (whole ds j) k e = let z : j ≡ k = cc in (ds, rw z)
+
+none_of : (q : Read) → None ≡ line_of q → q ≡ no_row
+none_of no_row e = refl
+none_of (whole ds j) e = let z : ◌≡◌ {A = ℕ} 0 1 = cc in absurd (omega arith)
 
 module _ (w : ℕ) (src : List ℕ) where
   -- no row starts at the end
@@ -92,6 +109,33 @@ module _ (w : ℕ) (src : List ℕ) where
     pub rows_none : (j : ℕ) → line_from w src (at + 1) ≡ no_row → runs_row w (drop at src) j ≡ []
     unfolding runs_row
     rows_none j e = rw (rows_at, e)
+
+-- the rows of data that begins with the repeat count b, and the runs xs after it
+module _ (w b : ℕ) (d xs : List ℕ) (q : d ≡ b ∷ xs) where
+  rows_first : rows_from w at_count d ≡ rows_of w b xs (line_from w xs 0)
+  unfolding rows_from line_from
+  rows_first = rw q (rows_from_lem w b xs xs [] false 0 refl)
+
+  -- the row that the runs begin with, and its repeats
+  pub first_here : (j : ℕ) → j ≤ b → runs_row w d j ≡ dots_of (line_from w xs 0)
+  unfolding runs_row
+  first_here j l = rw rows_first (row_of w b xs (line_from w xs 0) j l)
+
+  -- the rows below it
+  pub first_below : (k j : ℕ) → Some k ≡ line_of (line_from w xs 0) → runs_row w d (b + 1 + j) ≡ runs_row w (drop k xs) j
+  unfolding runs_row
+  first_below k j e =
+      let p = whole_of (line_from w xs 0) k e in
+      let rest : List (List Bool) = rows_from w at_count (drop k xs) in
+      let r : get_or (replicate (suc b) p.0 ++ rest) (suc b + j) [] ≡ get_or rest j [] =
+      rw (length-replicate b p.0) at (get_or-append-add (replicate (suc b) p.0) rest j []) in
+      let z : b + 1 + j ≡ suc b + j = omega arith in
+      rw (rows_first, p.1, z) r
+
+  -- no row is drawn from one that is not whole
+  pub first_none : (j : ℕ) → None ≡ line_of (line_from w xs 0) → runs_row w d j ≡ []
+  unfolding runs_row
+  first_none j e = rw (rows_first, none_of (line_from w xs 0) e)
 
 prefix_by : (w : ℕ) (xs ys : List ℕ) (r : ℕ) (ds : List Bool) (x : Filled) (l m : List (List Bool))
     → (zs : List (List Bool)) × (rows_from w at_count (xs ++ ys) ≡ rows_from w at_count xs ++ zs) → (zs : List (List Bool)) × (l ≡ m ++ zs)
@@ -128,24 +172,16 @@ line_later w [] ds es c n k e = let z : ◌≡◌ {A = ℕ} 0 1 = cc in absurd (
 line_later w (b ∷ xs) ds es c n k e =
     later_by (fill_row w (length ds) b) (ds ++ replicate b c) es n k (length xs) _ e (λ q. line_later w xs (ds ++ replicate b c) es (not c) (n + 1) k q)
 
-whole_of : (q : Read) (k : ℕ) → Ends k ≡ line_of q → (ds : List Bool) × (q ≡ whole ds k)
-whole_of no_row k e = let z : ◌≡◌ {A = ℕ} 0 1 = cc in absurd (omega arith)
-whole_of (whole ds j) k e = let z : j ≡ k = cc in (ds, rw z)
-
-none_of : (q : Read) → Unfinished ≡ line_of q → q ≡ no_row
-none_of no_row e = refl
-none_of (whole ds j) e = let z : ◌≡◌ {A = ℕ} 0 1 = cc in absurd (omega arith)
-
 -- by the answer of a function that reads the row
 module _ (w : ℕ) (src : List ℕ) (n : ℕ) where
-  pub line_ends : (k : ℕ) → Ends k ≡ line_of (line_from w src n) → (ds : List Bool) × (line_from w src n ≡ whole ds k)
+  pub line_ends : (k : ℕ) → Some k ≡ line_of (line_from w src n) → (ds : List Bool) × (line_from w src n ≡ whole ds k)
   line_ends k e = whole_of (line_from w src n) k e
 
-  pub line_unfinished : Unfinished ≡ line_of (line_from w src n) → line_from w src n ≡ no_row
+  pub line_unfinished : None ≡ line_of (line_from w src n) → line_from w src n ≡ no_row
   line_unfinished e = none_of (line_from w src n) e
 
   -- a row ends within the data, behind its start
-  pub line_within : (k : ℕ) → n ≤ length src → Ends k ≡ line_of (line_from w src n) → (n < k) × (k ≤ length src)
+  pub line_within : (k : ℕ) → n ≤ length src → Some k ≡ line_of (line_from w src n) → (n < k) × (k ≤ length src)
   unfolding line_from
   line_within k l e =
       let p = whole_of (read_line w [] false n (drop n src)) k e in

@@ -1,9 +1,11 @@
 -- Laws of `pack`: what a run of black dots does to the bytes of a row. Assumes nothing.
-use Rattle.std.proofs.Common.{◌≡◌, ℕ, zero, suc, ◌+◌, ◌-◌, ◌*◌, ◌/◌, ◌%◌, ◌^◌, ◌<◌, ◌≤◌, Bool, true, false, List, [], ◌∷◌, ◌++◌, length, get_or, drop, set, replicate, sym, refl, ap, ◌∙◌, zero-add, arith, length-append, length-drop, drop_of_length-le, pow_pos, pow_mono, pow-add}
+use Rattle.std.proofs.Common.{◌≡◌, ℕ, zero, suc, ◌+◌, ◌-◌, ◌*◌, ◌/◌, ◌%◌, ◌^◌, ◌<◌, ◌≤◌, Bool, true, false, List, [], ◌∷◌, ◌++◌, length, get_or, drop, set, replicate, sym, refl, ap, ◌∙◌, zero-add, arith, length-append, length-drop, drop_of_length-le, append_assoc, append-nil, take_all, drop-drop, pow_pos, pow_mono, pow-add}
 use native.Mathlib.Nat.{sub-zero, zero-sub, suc-sub-suc}
-use lib.ListN.{length-replicate}
-use lib.Seq.{drop-append-le}
+use borrow.Rule.Slice.PartMut.{put_mid}
+use lib.ListN.{length-replicate, replicate-append-replicate}
+use lib.Seq.{drop-append-le, paste, paste-zero}
 use lib.Pow.{shl-shr}
+use Rattle.std.proofs.lemmas.List.Edits.{fill_from_more}
 use Rattle.pictures.specs.Dots.{bit, bits, pack}
 use Rattle.pictures.specs.Drawing.{darker, white}
 
@@ -79,16 +81,33 @@ pub pack_byte : (n q : ℕ) (ds : List Bool) → length ds ≡ q * 8 → q < n �
 pack_byte n q ds e l =
     rw (white_byte n q ds (omega arith)) at (pack_black n q ds 0 8 255 (omega arith) (omega arith) l refl)
 
--- no dots are white bytes
-pub pack_none : (n : ℕ) → pack n [] ≡ white n
-unfolding pack white
-pack_none zero = refl
-pack_none (suc n) = rw (bits_none, pack_none n)
-
 pub length_pack : (n : ℕ) (ds : List Bool) → length (pack n ds) ≡ n
 unfolding pack
 length_pack zero ds = refl
 length_pack (suc n) ds = ap suc (length_pack n (drop 8 ds))
+
+black_bytes : (n m q : ℕ) (ds : List Bool) → length ds ≡ q * 8 → q + m ≤ n → paste (pack n ds) q (replicate m 255) m ≡ pack n (ds ++ replicate (m * 8) true)
+black_bytes n zero q ds e l = sym (paste-zero (pack n ds) q []) ∙ rw append-nil
+black_bytes n (suc m) q ds e l =
+    let len : length (ds ++ replicate (m * 8) true) ≡ (q + m) * 8 = simp (length-append, length-replicate) (omega arith) in
+    let z : m * 8 + 8 ≡ suc m * 8 = omega arith in
+    let i : m + 1 ≡ suc m = omega arith in
+    let more : pack n ((ds ++ replicate (m * 8) true) ++ replicate 8 true) ≡ pack n (ds ++ replicate (suc m * 8) true) = rw (append_assoc, replicate-append-replicate, z) in
+    rw i at (sym (fill_from_more (pack n ds) q m 255 (omega (arith, length_pack n ds))))
+    ∙ ap (λ (t : List ℕ). set t (q + m) 255) (black_bytes n m q ds e (omega arith))
+    ∙ pack_byte n (q + m) (ds ++ replicate (m * 8) true) len (omega arith) ∙ more
+
+-- whole bytes made black, which follow the dots of a row
+pub bytes_black : (n m q : ℕ) (ds : List Bool) (row ys : List ℕ) → row ≡ pack n ds → ys ≡ replicate m 255 → length ds ≡ q * 8 → q + m ≤ n
+    → put_mid q m row ys ≡ pack n (ds ++ replicate (m * 8) true)
+bytes_black n m q ds row ys p y e l =
+    rw (p, y) (rw (take_all {A = ℕ} m (replicate m 255) (omega (arith, length-replicate {A = ℕ} m 255)), ← (drop-drop m q (pack n ds)), append_assoc) at (black_bytes n m q ds e l))
+
+-- no dots are white bytes
+pub pack_none : (n : ℕ) → pack n [] ≡ white n
+unfolding pack
+pack_none zero = refl
+pack_none (suc n) = rw (bits_none, pack_none n)
 
 pub size : (n : ℕ) (ds : List Bool) (row : List ℕ) → row ≡ pack n ds → length row ≡ n
 size n ds row p = ap length p ∙ length_pack n ds

@@ -1,8 +1,10 @@
 -- A scan that passes over rows and runs: laws of `Passes` and `PassesRuns`. Assumes nothing.
-use Rattle.std.proofs.Common.{◌≡◌, ℕ, ◌+◌, ◌-◌, ◌<◌, ◌≤◌, Bool, true, false, not, ◌||◌, leb, List, length, get_or, drop, refl, ◌∙◌, arith, le-ltb, lt-ltb, eq-eqb, ne_eqb, le-leb, leb-true}
+use Rattle.std.proofs.Common.{◌≡◌, ℕ, ◌+◌, ◌-◌, ◌<◌, ◌≤◌, Bool, true, false, not, ◌||◌, leb, Ok, Err, List, length, get_or, drop, refl, ◌∙◌, arith, le-ltb, lt-ltb, eq-eqb, ne_eqb, le-leb, leb-true, zero, suc, [], ◌∷◌, ◌++◌, sum, take, sym, ap, add-zero, length-drop, length-take-le, take-append-drop, drop-drop, get_or-drop}
+use Rattle.std.proofs.lemmas.List.Sums.{sum_by-cons}
+use native.Mathlib.Nat.{sub-zero}
 use borrow.Author.Tests.{lt-leb}
 use Rattle.pictures.specs.Runs.{start, place_of, fill_row, end_row, run_in, step_at, step_run, is_finished, scan_from}
-use Rattle.pictures.specs.Passing.{is_at_run, is_in_row, is_black, filled_at, at_run, count_row, stopped_in, finished_at, pair_at, four_at, eight_at, Passes, PassesRuns}
+use Rattle.pictures.specs.Passing.{is_at_run, is_in_row, is_black, filled_at, at_run, count_row, stopped_in, finished_at, pair_at, Passes, PassesRuns}
 use Rattle.pictures.specs.declared.runs.Place.{Place}
 use Rattle.pictures.specs.declared.runs.Place.TheVariants.{Count, White, Black, Finished}
 use Rattle.pictures.specs.declared.runs.Reader.{Reader}
@@ -10,8 +12,8 @@ use Rattle.pictures.specs.declared.runs.Filled.TheVariants.{Over, Whole, Part}
 use Rattle.pictures.specs.declared.runs.Passed.{Passed}
 use Rattle.pictures.specs.declared.runs.Inside.{Inside}
 use Rattle.pictures.proofs.Tests.{both}
-use Rattle.pictures.specs.declared.runs.Stepped.TheVariants.{Next, Past}
-use Rattle.pictures.specs.declared.runs.Scanned.TheVariants.{Complete, PastWidth}
+use Rattle.pictures.specs.declared.runs.Scanned.TheVariants.{Complete}
+use Rattle.pictures.specs.declared.runs.PastWidth.{PastWidth}
 use Rattle.pictures.proofs.Scanning.{scan_next, scan_done, scan_past}
 
 -- ---- what a run does to a row
@@ -32,28 +34,22 @@ pub at_run_unfinished : (c : Bool) (f : ℕ) → is_finished (place_of c f) ≡ 
 at_run_unfinished true f = refl
 at_run_unfinished false f = refl
 
-step_part : (w h : ℕ) (s : Reader) (c : Bool) (f b : ℕ) → f + b < w → step_run w h (at_run s c f) b ≡ Next (at_run s (not c) (f + b))
+step_part : (w h : ℕ) (s : Reader) (c : Bool) (f b : ℕ) → f + b < w → step_run w h (at_run s c f) b ≡ Ok (at_run s (not c) (f + b))
 unfolding step_run
 step_part w h s true f b l = rw (fill_part w f b l)
 step_part w h s false f b l = rw (fill_part w f b l)
 
 step_whole : (w h : ℕ) (s : Reader) (c : Bool) (f b : ℕ) → f + b ≡ w → s.row + 1 + s.repeat < h
-    → step_run w h (at_run s c f) b ≡ Next (record { row = s.row + 1 + s.repeat; repeat = 0; at = Count })
+    → step_run w h (at_run s c f) b ≡ Ok (record { row = s.row + 1 + s.repeat; repeat = 0; at = Count })
 unfolding step_run end_row
 step_whole w h s true f b e l = rw (fill_whole w f b e, lt-leb _ _ l)
 step_whole w h s false f b e l = rw (fill_whole w f b e, lt-leb _ _ l)
 
 step_last : (w h : ℕ) (s : Reader) (c : Bool) (f b : ℕ) → f + b ≡ w → h ≤ s.row + 1 + s.repeat
-    → step_run w h (at_run s c f) b ≡ Next (record { row = h; repeat = 0; at = Finished })
+    → step_run w h (at_run s c f) b ≡ Ok (record { row = h; repeat = 0; at = Finished })
 unfolding step_run end_row
 step_last w h s true f b e l = rw (fill_whole w f b e, le-leb _ _ l)
 step_last w h s false f b e l = rw (fill_whole w f b e, le-leb _ _ l)
-
-place_again : (p : Place) → is_at_run p ≡ true → place_of (is_black p) (filled_at p) ≡ p
-place_again Count e = let z : ◌≡◌ {A = ℕ} 0 1 = cc in absurd (omega arith)
-place_again (White f) e = refl
-place_again (Black f) e = refl
-place_again Finished e = let z : ◌≡◌ {A = ℕ} 0 1 = cc in absurd (omega arith)
 
 pub in_row : (w : ℕ) (p : Place) → is_in_row w p ≡ true → filled_at p ≤ w
 in_row w p e = leb-true _ _ (both (is_at_run p) (leb (filled_at p) w) e).1
@@ -73,7 +69,7 @@ module _ (w h : ℕ) (s : Reader) (b : ℕ) where
   by_run (Black f) e = refl
   by_run Finished e = let z : ◌≡◌ {A = ℕ} 0 1 = cc in absurd (omega arith)
 
-  by_finished : (p : Place) → is_finished p ≡ true → step_at w h s b p ≡ Next s
+  by_finished : (p : Place) → is_finished p ≡ true → step_at w h s b p ≡ Ok s
   by_finished Count e = let z : ◌≡◌ {A = ℕ} 0 1 = cc in absurd (omega arith)
   by_finished (White f) e = let z : ◌≡◌ {A = ℕ} 0 1 = cc in absurd (omega arith)
   by_finished (Black f) e = let z : ◌≡◌ {A = ℕ} 0 1 = cc in absurd (omega arith)
@@ -83,11 +79,11 @@ module _ (w h : ℕ) (s : Reader) (b : ℕ) where
   unfolding step_run
   step_run_lem e = by_run s.at e
 
-  pub step_finished : is_finished s.at ≡ true → step_run w h s b ≡ Next s
+  pub step_finished : is_finished s.at ≡ true → step_run w h s b ≡ Ok s
   unfolding step_run
   step_finished e = by_finished s.at e
 
-  pub step_count : is_at_run s.at ≡ false → is_finished s.at ≡ false → step_run w h s b ≡ Next (count_row s b)
+  pub step_count : is_at_run s.at ≡ false → is_finished s.at ≡ false → step_run w h s b ≡ Ok (count_row s b)
   unfolding step_run
   step_count e q = rw (count_again s.at (rw (e, q)))
 
@@ -113,25 +109,18 @@ module _ (w h : ℕ) (src : List ℕ) where
       }
 
   -- over a byte that the reader goes on behind
-  passes_step : (n : ℕ) (s t : Reader) → n + 1 < length src → is_finished s.at ≡ false → step_run w h s (get_or src n 0) ≡ Next t
+  passes_step : (n : ℕ) (s t : Reader) → n + 1 < length src → is_finished s.at ≡ false → step_run w h s (get_or src n 0) ≡ Ok t
       → Passes w h src n s (record { reader = t; at = n + 1 })
   passes_step n s t l e r =
       record { ahead = omega arith; bounded = omega arith; within = λ _. l; scan = λ m. scan_next w h m n s src (omega arith) e t r }
 
   -- over a repeat count
-  pub passes_count : (n : ℕ) (s : Reader) → (is_at_run s.at || is_finished s.at) ≡ false → n + 1 < length src
+  pub passes_count : (n : ℕ) (s : Reader) → is_at_run s.at ≡ false → is_finished s.at ≡ false → n + 1 < length src
       → Passes w h src n s (record { reader = count_row s (get_or src n 0); at = n + 1 })
   unfolding step_run
-  passes_count n s e l =
-      let q : s.at ≡ Count = count_again s.at e in
+  passes_count n s e f l =
+      let q : s.at ≡ Count = count_again s.at (rw (e, f)) in
       passes_step n s (count_row s (get_or src n 0)) l (rw q) (rw q)
-
-  -- the run that the state s is at, where the row lacks l dots
-  pub passes_begin : (n l : ℕ) (s : Reader) (c : Bool) → is_in_row w s.at ≡ true → c ≡ is_black s.at → l + filled_at s.at ≡ w → n < length src
-      → Passes w h src n s (record { reader = at_run s c (w - l); at = n })
-  passes_begin n l s c e p q t =
-      let f : w - l ≡ filled_at s.at = omega arith in
-      rw (p, f, place_again s.at (both (is_at_run s.at) (leb (filled_at s.at) w) e).0) (passes_none n s t)
 
   -- over the end of a row that another one follows, and that one's count
   passes_end : (n : ℕ) (s : Reader) (c : Bool) (f : ℕ) → f + get_or src n 0 ≡ w → s.row + 1 + s.repeat < h → n + 2 < length src
@@ -143,7 +132,7 @@ module _ (w h : ℕ) (src : List ℕ) where
       rw i at
       (passes_then n (at_run s c f) (record { reader = t; at = n + 1 }) _
       (passes_step n (at_run s c f) t (omega arith) (at_run_unfinished c f) (step_whole w h s c f (get_or src n 0) e b))
-      (passes_count (n + 1) t refl (omega arith)))
+      (passes_count (n + 1) t refl refl (omega arith)))
 
   -- over the run that ends the last row, or another row and the next one's count
   module _ (i : Inside) (s : Reader) (e : get_or src i.at 0 ≡ i.left) (q : i.left ≤ w) where
@@ -166,16 +155,16 @@ module _ (w h : ℕ) (src : List ℕ) where
 
 -- ---- a scan's turn behind what it passed over
 module _ (w h : ℕ) (src : List ℕ) (n : ℕ) (s : Reader) (p : Passed) (x : Passes w h src n s p) (m : ℕ) where
-  pub passed_done : is_finished p.reader.at ≡ true → scan_from w h (m + n) s (drop n src) ≡ Complete (m + p.at)
+  pub passed_done : is_finished p.reader.at ≡ true → scan_from w h (m + n) s (drop n src) ≡ Ok (Complete (m + p.at))
   passed_done e = x.scan m ∙ scan_done w h (m + p.at) p.reader (drop p.at src) e
 
   module _ (e : is_finished p.reader.at ≡ false) where
-    pub passed_next : (t : Reader) → step_run w h p.reader (get_or src p.at 0) ≡ Next t
+    pub passed_next : (t : Reader) → step_run w h p.reader (get_or src p.at 0) ≡ Ok t
         → scan_from w h (m + n) s (drop n src) ≡ scan_from w h (m + (p.at + 1)) t (drop (p.at + 1) src)
     passed_next t q = x.scan m ∙ scan_next w h m p.at p.reader src (x.within e) e t q
 
-    pub passed_past : (r f b : ℕ) → step_run w h p.reader (get_or src p.at 0) ≡ Past r f b → scan_from w h (m + n) s (drop n src) ≡ PastWidth r f b
-    passed_past r f b q = x.scan m ∙ scan_past w h m p.at p.reader src (x.within e) e r f b q
+    pub passed_past : (q : PastWidth) → step_run w h p.reader (get_or src p.at 0) ≡ Err q → scan_from w h (m + n) s (drop n src) ≡ Err q
+    passed_past q r = x.scan m ∙ scan_past w h m p.at p.reader src (x.within e) e q r
 
 -- ---- passing over runs that leave their row unfinished: one, and several at once, by their sum
 module _ (src : List ℕ) where
@@ -210,25 +199,35 @@ module _ (src : List ℕ) where
       (runs_then (inside n l c) (inside (n + 1) (l - a) (not c)) (inside (n + 1 + 1) (l - a - b) (not (not c)))
       (runs_one n l c (omega arith) (omega arith)) (runs_one (n + 1) (l - a) (not c) (omega arith) (omega arith)))
 
-  runs_four : (n l : ℕ) (c : Bool) → n + 4 < length src → four_at src n < l → PassesRuns src (inside n l c) (inside (n + 4) (l - four_at src n) c)
-  runs_four n l c t q =
-      let a = pair_at src n in
-      let b = pair_at src (n + 2) in
-      let i : n + 2 + 2 ≡ n + 4 = omega arith in
-      let j : l - a - b ≡ l - (a + b) = omega arith in
-      rw (i, j) at
-      (runs_then (inside n l c) (inside (n + 2) (l - a) c) (inside (n + 2 + 2) (l - a - b) c)
-      (runs_two n l c (omega arith) (omega arith)) (runs_two (n + 2) (l - a) c (omega arith) (omega arith)))
+  -- the colour after so many runs
+  abbrev flipped : ℕ → Bool → Bool
+  flipped zero c = c
+  flipped (suc k) c = flipped k (not c)
 
-  pub runs_eight : (n l : ℕ) (c : Bool) → n + 8 < length src → eight_at src n < l → PassesRuns src (inside n l c) (inside (n + 8) (l - eight_at src n) c)
-  runs_eight n l c t q =
-      let a = four_at src n in
-      let b = four_at src (n + 4) in
-      let i : n + 4 + 4 ≡ n + 8 = omega arith in
-      let j : l - a - b ≡ l - (a + b) = omega arith in
+  eight_flipped : (c : Bool) → flipped 8 c ≡ c
+  eight_flipped true = refl
+  eight_flipped false = refl
+
+  -- the runs xs, which leave the row unfinished, all at once
+  runs_all : (xs rest : List ℕ) (n l : ℕ) (c : Bool) → drop n src ≡ xs ++ rest → n + length xs < length src → sum xs < l
+      → PassesRuns src (inside n l c) (inside (n + length xs) (l - sum xs) (flipped (length xs) c))
+  runs_all [] rest n l c e t q = rw (add-zero, sub-zero) (runs_none (inside n l c) (omega arith))
+  runs_all (x ∷ xs) rest n l c e t q =
+      let m : sum (x ∷ xs) ≡ x + sum xs = sum_by-cons (λ y. y) x xs in
+      let h : get_or src n 0 ≡ x = sym (get_or-drop n src 0 0 ∙ rw add-zero) ∙ ap (λ (d : List ℕ). get_or d 0 0) e in
+      let d : drop (n + 1) src ≡ xs ++ rest = sym (drop-drop 1 n src) ∙ ap (drop 1) e in
+      let i : n + 1 + length xs ≡ n + length (x ∷ xs) = omega arith in
+      let j : l - get_or src n 0 - sum xs ≡ l - sum (x ∷ xs) = omega arith in
       rw (i, j) at
-      (runs_then (inside n l c) (inside (n + 4) (l - a) c) (inside (n + 4 + 4) (l - a - b) c)
-      (runs_four n l c (omega arith) (omega arith)) (runs_four (n + 4) (l - a) c (omega arith) (omega arith)))
+      (runs_then (inside n l c) (inside (n + 1) (l - get_or src n 0) (not c)) _
+      (runs_one n l c (omega arith) (omega arith)) (runs_all xs rest (n + 1) (l - get_or src n 0) (not c) d (omega arith) (omega arith)))
+
+  pub runs_eight : (n l : ℕ) (c : Bool) → n + 8 < length src → sum (take 8 (drop n src)) < l
+      → PassesRuns src (inside n l c) (inside (n + 8) (l - sum (take 8 (drop n src))) c)
+  runs_eight n l c t q =
+      let xs : List ℕ = take 8 (drop n src) in
+      let k : length xs ≡ 8 = length-take-le 8 (drop n src) (simp length-drop (omega arith)) in
+      rw (k, eight_flipped c) at (runs_all xs (drop 8 (drop n src)) n l c (sym (take-append-drop 8 (drop n src))) (omega arith) q)
 
   -- a byte is left at the run that is gone on from
   pub runs_within : (i j : Inside) → PassesRuns src i j → j.at < length src

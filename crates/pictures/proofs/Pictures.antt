@@ -34,11 +34,10 @@ pub white_as : {m n : ℕ} {row : List ℕ} → row ≡ white m → m ≡ n → 
 white_as p q = p ∙ rw q
 
 white_add : (m n : ℕ) → white m ++ white n ≡ white (m + n)
-unfolding white
 white_add m n = replicate-append-replicate m n 0
 
 repeated_white : (m n : ℕ) → repeated m (white n) ≡ white (m * n)
-unfolding repeated white
+unfolding repeated
 repeated_white zero n = rw zero-mul
 repeated_white (suc m) n = rw (repeated_white m n, suc-mul) (white_add (m * n) n)
 
@@ -84,12 +83,6 @@ module _ (k w : ℕ) (d : List ℕ) where
         let a : m ≡ length out - top * row_size w = q ∙ ap length (tail_lent o out) ∙ length-drop o out ∙ rw u in
         let s : m ≡ (h - top) * row_size w = omega (arith, add-mul top (h - top) (row_size w), ap (λ (x : ℕ). x * row_size w) z) in
         rw (u, tail_back (top * row_size w) out ys, p, y, s, ← (picture_white (h - top) top e), z)
-
-    -- there are no rows below
-    pub picture_all : (h : ℕ) → top ≤ h → h ≤ top → length out ≡ picture_size w h → out ≡ picture k w d h
-    picture_all h l g len =
-        let e : top ≡ h = omega arith in
-        sym (take_all (top * row_size w) out (omega (arith, ap (λ (x : ℕ). x * row_size w) e))) ∙ p ∙ rw e
 
 -- every class but 1 is drawn as class 2
 pub picture_runs : (k w : ℕ) (d : List ℕ) → (k ≡ 1 → ⊥) → (h : ℕ) → picture 2 w d h ≡ picture k w d h

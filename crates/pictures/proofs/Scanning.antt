@@ -1,20 +1,19 @@
 -- Laws of `scan_from`: what one turn of a scan does, and a scan of joined data. Assumes nothing.
-use Rattle.std.proofs.Common.{◌≡◌, ℕ, suc, ◌+◌, ◌<◌, ◌≤◌, Bool, true, false, List, [], ◌∷◌, ◌++◌, length, get_or, drop, refl, ap, ◌∙◌, add-zero, add_assoc, zero-add, add-one, arith, drop_of_length-le, drop-cons}
+use Rattle.std.proofs.Common.{◌≡◌, ℕ, suc, ◌+◌, ◌<◌, ◌≤◌, Bool, true, false, Result, Ok, Err, List, [], ◌∷◌, ◌++◌, length, get_or, drop, refl, ap, ◌∙◌, add-zero, add_assoc, zero-add, add-one, arith, drop_of_length-le, drop-cons}
 use Rattle.pictures.specs.Runs.{step_run, scan_from, is_finished, on_step}
 use Rattle.pictures.specs.declared.runs.Reader.{Reader}
 use Rattle.pictures.specs.declared.runs.Scanned.{Scanned}
-use Rattle.pictures.specs.declared.runs.Scanned.TheVariants.{Complete, Open, PastWidth}
-use Rattle.pictures.specs.declared.runs.Stepped.{Stepped}
-use Rattle.pictures.specs.declared.runs.Stepped.TheVariants.{Next, Past}
+use Rattle.pictures.specs.declared.runs.Scanned.TheVariants.{Complete, Open}
+use Rattle.pictures.specs.declared.runs.PastWidth.{PastWidth}
 
 -- the scan of xs after a scan that gave r and used n bytes
-abbrev pub scanned_then : ℕ → ℕ → ℕ → Scanned → List ℕ → Scanned
-scanned_then w h n (Complete k) xs = Complete k
-scanned_then w h n (Open s) xs = scan_from w h n s xs
-scanned_then w h n (PastWidth row f b) xs = PastWidth row f b
+abbrev pub scanned_then : ℕ → ℕ → ℕ → Result Scanned PastWidth → List ℕ → Result Scanned PastWidth
+scanned_then w h n (Ok (Complete k)) xs = Ok (Complete k)
+scanned_then w h n (Ok (Open s)) xs = scan_from w h n s xs
+scanned_then w h n (Err p) xs = Err p
 
 module _ (w h : ℕ) where
-  pub scan_done : (n : ℕ) (s : Reader) (xs : List ℕ) → is_finished s.at ≡ true → scan_from w h n s xs ≡ Complete n
+  pub scan_done : (n : ℕ) (s : Reader) (xs : List ℕ) → is_finished s.at ≡ true → scan_from w h n s xs ≡ Ok (Complete n)
   unfolding scan_from
   scan_done n s [] e = rw e
   scan_done n s (b ∷ xs) e = rw e
@@ -30,17 +29,17 @@ module _ (w h : ℕ) where
 
   -- m bytes were used before the slice src, and n of it
   module _ (m n : ℕ) (s : Reader) (src : List ℕ) (l : n < length src) (e : is_finished s.at ≡ false) where
-    pub scan_next : (t : Reader) → step_run w h s (get_or src n 0) ≡ Next t
+    pub scan_next : (t : Reader) → step_run w h s (get_or src n 0) ≡ Ok t
         → scan_from w h (m + n) s (drop n src) ≡ scan_from w h (m + (n + 1)) t (drop (n + 1) src)
     scan_next t q = scan_turn (m + n) n s src l e ∙ rw (q, add_assoc m n 1)
 
-    pub scan_past : (r f b : ℕ) → step_run w h s (get_or src n 0) ≡ Past r f b → scan_from w h (m + n) s (drop n src) ≡ PastWidth r f b
-    scan_past r f b q = scan_turn (m + n) n s src l e ∙ rw q
+    pub scan_past : (p : PastWidth) → step_run w h s (get_or src n 0) ≡ Err p → scan_from w h (m + n) s (drop n src) ≡ Err p
+    scan_past p q = scan_turn (m + n) n s src l e ∙ rw q
 
-  on_step_then : (m : ℕ) (ys : List ℕ) (r : Stepped) (k k' : Reader → Scanned) → ((t : Reader) → k t ≡ scanned_then w h m (k' t) ys)
+  on_step_then : (m : ℕ) (ys : List ℕ) (r : Result Reader PastWidth) (k k' : Reader → Result Scanned PastWidth) → ((t : Reader) → k t ≡ scanned_then w h m (k' t) ys)
       → on_step r k ≡ scanned_then w h m (on_step r k') ys
-  on_step_then m ys (Next t) k k' e = e t
-  on_step_then m ys (Past r f b) k k' e = refl
+  on_step_then m ys (Ok t) k k' e = e t
+  on_step_then m ys (Err p) k k' e = refl
 
   joined_by : (xs : List ℕ) (f : Bool) (n : ℕ) (s : Reader) (ys : List ℕ) → is_finished s.at ≡ f
       → scan_from w h n s (xs ++ ys) ≡ scanned_then w h (n + length xs) (scan_from w h n s xs) ys
@@ -57,5 +56,5 @@ module _ (w h : ℕ) where
   scan_joined n s xs ys = joined_by xs (is_finished s.at) n s ys refl
 
   -- the same where the first part's scan is known
-  pub joined_as : (s : Reader) (xs ys : List ℕ) (r : Scanned) → scan_from w h 0 s xs ≡ r → scan_from w h 0 s (xs ++ ys) ≡ scanned_then w h (length xs) r ys
+  pub joined_as : (s : Reader) (xs ys : List ℕ) (r : Result Scanned PastWidth) → scan_from w h 0 s xs ≡ r → scan_from w h 0 s (xs ++ ys) ≡ scanned_then w h (length xs) r ys
   joined_as s xs ys r e = scan_joined 0 s xs ys ∙ rw (e, zero-add)

@@ -1,9 +1,7 @@
 -- For the code alone: how it draws, and what its inner functions promise each other. No public contract names anything of this file.
-use Rattle.std.specs.Prelude.{ℕ, zero, suc, ◌+◌, ◌-◌, ◌*◌, ◌%◌, Bool, false, not, List, [], ◌∷◌, ◌++◌, length, drop, replicate}
+use Rattle.std.specs.Prelude.{ℕ, zero, suc, ◌+◌, ◌-◌, ◌*◌, ◌%◌, Bool, false, not, List, [], ◌∷◌, ◌++◌, length, drop, replicate, Option, Some, None}
 use Rattle.pictures.specs.Dots.{pack}
 use Rattle.pictures.specs.Runs.{fill_row, on_fill}
-use Rattle.pictures.specs.declared.compressed.Line.{Line}
-use Rattle.pictures.specs.declared.compressed.Line.TheVariants.{Ends, Unfinished}
 
 -- a byte x with the value of black dots added that were white in it
 abbrev pub darker : ℕ → ℕ → ℕ
@@ -14,7 +12,7 @@ abbrev pub padding_bits : ℕ → ℕ
 padding_bits w = 8 - ((w + 7) % 8 + 1)
 
 -- n white bytes
-unfoldable pub white : ℕ → List ℕ
+abbrev pub white : ℕ → List ℕ
 white n = replicate n 0
 
 -- the first n bytes of d, and white ones for those that are missing
@@ -28,7 +26,7 @@ unfoldable pub repeated : ℕ → List ℕ → List ℕ
 repeated zero xs = []
 repeated (suc m) xs = repeated m xs ++ xs
 
--- a row that was read: its dots, and the place behind it; or it is not whole
+-- a row that was read: its dots, and the place after it; or it is not whole
 pub data Read : Type 0 where
   no_row : Read
   whole : List Bool → ℕ → Read
@@ -49,9 +47,10 @@ abbrev pub dots_of : Read → List Bool
 dots_of no_row = []
 dots_of (whole ds k) = ds
 
-abbrev pub line_of : Read → Line
-line_of no_row = Unfinished
-line_of (whole ds k) = Ends k
+-- the place after the row, if it is whole
+abbrev pub line_of : Read → Option ℕ
+line_of no_row = None
+line_of (whole ds k) = Some k
 
 -- what is drawn of a row of n bytes and its repeats, m times in all, in a part of the output; where the row is not whole the part is white
 abbrev pub drawn_of : ℕ → ℕ → Read → List ℕ → List ℕ

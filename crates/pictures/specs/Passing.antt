@@ -38,15 +38,12 @@ at_run s c f = record { row = s.row; repeat = s.repeat; at = place_of c f }
 abbrev pub count_row : Reader → ℕ → Reader
 count_row s b = record { row = s.row; repeat = b; at = White 0 }
 
--- the sum of the eight bytes from place n of src on
+-- the sums of the two and of the four bytes from place n of src on
 abbrev pub pair_at : List ℕ → ℕ → ℕ
 pair_at src n = slice_index src n + slice_index src (n + 1)
 
 abbrev pub four_at : List ℕ → ℕ → ℕ
 four_at src n = pair_at src n + pair_at src (n + 2)
-
-abbrev pub eight_at : List ℕ → ℕ → ℕ
-eight_at src n = four_at src n + four_at src (n + 4)
 
 -- a scan that stops at the run i of a row of w dots, or whose picture of h rows is complete with the bytes before place n
 abbrev pub stopped_in : ℕ → ℕ → ℕ → Inside → Passed

@@ -1,24 +1,25 @@
 -- Document 01, picture data of either class: when it is complete, and what is kept of it.
-use Rattle.std.specs.Prelude.{◌≡◌, ℕ, ◌+◌, ◌<◌, ◌≤◌, cond, ◌↔◌, List, [], ◌∷◌, ◌++◌, length, take, ◌==◌, ◌≢◌, nat_le}
+use Rattle.std.specs.Prelude.{◌≡◌, ℕ, ◌+◌, ◌<◌, ◌≤◌, cond, ◌↔◌, Option, Some, None, Result, Ok, Err, List, [], ◌∷◌, ◌++◌, length, take, ◌==◌, ◌≢◌, nat_le}
 use Rattle.pictures.specs.Size.{bitmap_class, runs_class, picture_size, data_limit}
-use Rattle.pictures.specs.Runs.{scan_from, start}
+use Rattle.pictures.specs.Runs.{scan_from, start, past_width, used_of}
 use Rattle.pictures.specs.Rows.{rows_drawn, picture}
+use Rattle.pictures.specs.declared.runs.PastWidth.{PastWidth}
 use Rattle.pictures.specs.declared.runs.Scanned.{Scanned}
-use Rattle.pictures.specs.declared.runs.Scanned.TheVariants.{Complete as ScanComplete, Open, PastWidth as ScanPast}
-use Rattle.pictures.specs.declared.picture.Judged.{Judged}
-use Rattle.pictures.specs.declared.picture.Judged.TheVariants.{Complete, Incomplete, PastWidth}
 use Rattle.pictures.specs.declared.picture.Held.{Held}
 use Rattle.pictures.specs.declared.picture.Held.TheVariants.{Whole, Unfinished, Foreign}
 
+-- complete with the bytes that the picture takes, incomplete, or with a run past the width
+abbrev pub Judged : Type 0
+Judged = Result (Option ℕ) PastWidth
+
 -- "Class 1 is complete at its byte count"
 abbrev pub judge_bitmap : ℕ → ℕ → ℕ → Judged
-judge_bitmap w h len = cond (nat_le (picture_size w h) len) (Complete (picture_size w h)) Incomplete
+judge_bitmap w h len = cond (nat_le (picture_size w h) len) (Ok (Some (picture_size w h))) (Ok None)
 
 -- "class 2 when all rows are drawn"; a run past the width before that
-abbrev pub judge_scan : Scanned → Judged
-judge_scan (ScanComplete k) = Complete k
-judge_scan (Open s) = Incomplete
-judge_scan (ScanPast row f b) = PastWidth row f b
+abbrev pub judge_scan : Result Scanned PastWidth → Judged
+judge_scan (Ok s) = Ok (used_of s)
+judge_scan (Err p) = Err p
 
 -- data of class k for a picture w dots wide and h rows high: complete with the bytes that it takes, incomplete, or with a run past the width
 unfoldable pub judge : ℕ → ℕ → ℕ → List ℕ → Judged
@@ -45,21 +46,21 @@ pub data PastRun (w : ℕ) : ℕ → List ℕ → ℕ → ℕ → ℕ → Type 0
 abbrev pub PastByRows : Type 0
 PastByRows =
     (w h : ℕ) (d : List ℕ) (row filled run : ℕ) → 0 < w → 0 < h
-    → (judge runs_class w h d ≡ PastWidth row filled run) ↔ (PastRun w 0 d row filled run × (row < h))
+    → (judge runs_class w h d ≡ Err (past_width row filled run)) ↔ (PastRun w 0 d row filled run × (row < h))
 
 abbrev pub kept_by : Judged → List ℕ → List ℕ
-kept_by (Complete n) d = take n d
-kept_by Incomplete d = d
-kept_by (PastWidth row f b) d = []
+kept_by (Ok (Some n)) d = take n d
+kept_by (Ok None) d = d
+kept_by (Err p) d = []
 
 -- "Data beyond a complete picture is dropped." (Nothing is kept of data with a run past the width.)
 unfoldable pub kept_data : ℕ → ℕ → ℕ → List ℕ → List ℕ
 kept_data k w h d = kept_by (judge k w h d) d
 
 abbrev pub held_by : Judged → ℕ → Held
-held_by (Complete n) len = cond (n == len) Whole Foreign
-held_by Incomplete len = Unfinished
-held_by (PastWidth row f b) len = Foreign
+held_by (Ok (Some n)) len = cond (n == len) Whole Foreign
+held_by (Ok None) len = Unfinished
+held_by (Err p) len = Foreign
 
 -- what stands in a store as a character's data: a complete picture with nothing behind it, an incomplete one, or what no acceptance leaves
 unfoldable pub held : ℕ → ℕ → ℕ → List ℕ → Held
@@ -67,10 +68,10 @@ held k w h d = cond (nat_le (length d) data_limit) (held_by (judge k w h d) (len
 
 -- ── laws of them. "class 2 when all rows are drawn": data is complete exactly if the rows that it draws are at least the picture's
 abbrev pub CompleteRows : Type 0
-CompleteRows = (w h : ℕ) (d : List ℕ) → 0 < h → ((n : ℕ) × (judge runs_class w h d ≡ Complete n)) ↔ (h ≤ rows_drawn w d)
+CompleteRows = (w h : ℕ) (d : List ℕ) → 0 < h → ((n : ℕ) × (judge runs_class w h d ≡ Ok (Some n))) ↔ (h ≤ rows_drawn w d)
 
 -- what is kept draws the same picture
 abbrev pub KeptDrawsSame : Type 0
 KeptDrawsSame =
-    (k w h : ℕ) (d : List ℕ) → ((row filled run : ℕ) → judge k w h d ≢ PastWidth row filled run)
+    (k w h : ℕ) (d : List ℕ) → ((row filled run : ℕ) → judge k w h d ≢ Err (past_width row filled run))
     → picture k w (kept_data k w h d) h ≡ picture k w d h

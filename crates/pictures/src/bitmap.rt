@@ -1,5 +1,5 @@
 // Class 1 pictures: the data is the picture's bytes.
-ghost use Rattle.std.specs.Prelude.{◌≡◌, ℕ, ◌<◌, List, length, drop, slice_index};
+ghost use Rattle.std.specs.Prelude.{◌≡◌, ℕ, ◌<◌, List, length, slice_index};
 ghost use Rattle.pictures.specs.Size.{bitmap_class, row_size, picture_size};
 ghost use Rattle.pictures.specs.Dots.{pack};
 ghost use Rattle.pictures.specs.Rows.{bitmap_row, picture};
@@ -7,22 +7,13 @@ ghost use Rattle.pictures.specs.Drawing.{padded};
 
 use crate::{dots, size};
 
-// Copies the data from a place on as far as it goes, and white bytes behind it.
-fn copy_padded(bytes: &[u8], from: usize, out: &mut [u8])
-    ensures { out.new ≡ padded (length out.old) (drop from bytes.now) }
+// Copies data as far as it goes, and white bytes after it.
+fn copy_padded(bytes: &[u8], out: &mut [u8])
+    ensures { out.new ≡ padded (length out.old) bytes.now }
 {
-    if bytes.len() <= from {
-        dots::clear(out);
-        return;
-    }
-    if out.len() <= bytes.len() - from {
-        let to = from + out.len();
-        out.copy_from_slice(&bytes[from..to]);
-        return;
-    }
-    let n = bytes.len() - from;
-    out[..n].copy_from_slice(&bytes[from..]);
-    dots::clear(&mut out[n..]);
+    let n = bytes.len().min(out.len());
+    out[..n].copy_from_slice(&bytes[..n]);
+    out[n..].fill(0);
 }
 
 // Draws one row.
@@ -31,9 +22,9 @@ pub(crate) fn draw_bitmap_row(width: u16, bytes: &[u8], row: u16, out: &mut [u8]
     ensures { out.new ≡ pack (row_size width) (bitmap_row width bytes.now row) }
 {
     let n = out.len();
-    copy_padded(bytes, (row as usize) * n, out);
-    let last = n - 1;
-    out[last] = out[last] & dots::kept_bits(width);
+    let from = (usize::from(row) * n).min(bytes.len());
+    copy_padded(&bytes[from..], out);
+    out[n - 1] &= dots::kept_bits(width);
 }
 
 // Makes the bits beyond the width white in each row of a copy of the data.
@@ -44,13 +35,8 @@ fn clip_rows(width: u16, height: u16, out: &mut [u8])
 {
     let n = size::row_size(width);
     let kept = dots::kept_bits(width);
-    let mut at: usize = 0;
-    let mut row: u16 = 0;
-    while row < height {
-        let last = at + n - 1;
-        out[last] = out[last] & kept;
-        at += n;
-        row += 1;
+    for row in 0..usize::from(height) {
+        out[row * n + (n - 1)] &= kept;
     }
 }
 
@@ -59,7 +45,7 @@ pub(crate) fn draw_bitmap(width: u16, height: u16, bytes: &[u8], out: &mut [u8])
     requires { (0 < width) × (length out.old ≡ picture_size width height) }
     ensures { out.new ≡ picture bitmap_class width bytes.now height }
 {
-    copy_padded(bytes, 0, out);
+    copy_padded(bytes, out);
     if width % 8 == 0 {
         return;
     }

@@ -1,20 +1,7 @@
 // The bytes of a row of dots.
 ghost use Rattle.std.specs.Prelude.{◌≡◌, ℕ, ◌+◌, ◌-◌, ◌*◌, ◌^◌, ◌<◌, ◌≤◌, Bool, true, List, ◌++◌, length, replicate, slice_index, slice_set};
 ghost use Rattle.pictures.specs.Dots.{pack};
-ghost use Rattle.pictures.specs.Drawing.{darker, padding_bits, white};
-
-use std::num;
-
-// Makes bytes white.
-pub(crate) fn clear(out: &mut [u8])
-    ensures { out.new ≡ white (length out.old) }
-{
-    let mut i = 0;
-    while i < out.len() {
-        out[i] = 0;
-        i += 1;
-    }
-}
+ghost use Rattle.pictures.specs.Drawing.{darker, padding_bits};
 
 // The black dots from a place of a byte on.
 fn dots_from(place: usize) -> u8
@@ -28,7 +15,7 @@ fn dots_from(place: usize) -> u8
 pub(crate) fn kept_bits(width: u16) -> u8
     ensures { result ≡ 256 - 2 ^ padding_bits width }
 {
-    255 - dots_from(((width as usize) + 7) % 8 + 1)
+    255 - dots_from((usize::from(width) + 7) % 8 + 1)
 }
 
 // Adds black dots that were white to a byte. A sum does what an or of bits would, and is arithmetic.
@@ -36,7 +23,7 @@ fn darken(row: &mut [u8], i: usize, dots: u8)
     requires { i < length row.old }
     ensures { row.new ≡ slice_set row.old i (darker (slice_index row.old i) dots) }
 {
-    row[i] = num::wrapping_add_u8(row[i], dots);
+    row[i] = row[i].wrapping_add(dots);
 }
 
 // Makes whole bytes black, which follow the dots of a row.
@@ -45,11 +32,7 @@ fn blacken_bytes(row: &mut [u8], from: usize, to: usize)
     ensures { (n : ℕ) (ds : List Bool) → length ds ≡ from * 8 → row.old ≡ pack n ds
         → row.new ≡ pack n (ds ++ replicate ((to - from) * 8) true) }
 {
-    let mut i = from;
-    while i < to {
-        row[i] = 255;
-        i += 1;
-    }
+    row[from..to].fill(255);
 }
 
 // Makes a run black, which follows the dots of a row: part of a byte, whole bytes, part of a byte.
@@ -61,10 +44,11 @@ fn blacken(row: &mut [u8], from: u16, count: u8)
     if count == 0 {
         return;
     }
-    let end = (from as usize) + (count as usize);
-    let first = (from as usize) / 8;
+    let start = usize::from(from);
+    let end = start + usize::from(count);
+    let first = start / 8;
     let last = end / 8;
-    let head = dots_from((from as usize) % 8);
+    let head = dots_from(start % 8);
     let tail = dots_from(end % 8);
     if first == last {
         darken(row, first, head - tail);

@@ -1,21 +1,13 @@
 // Picture data of either class: when it is complete, what is kept of it, and drawing it.
 ghost use Rattle.std.specs.Prelude.{◌≡◌, ◌+◌, ◌<◌, ◌++◌, length};
 ghost use Rattle.pictures.specs.Size.{row_size, picture_size};
-ghost use Rattle.pictures.specs.Picture.{judge, judge_bitmap, judge_scan, held, held_by};
+ghost use Rattle.pictures.specs.Picture.{judge, judge_bitmap, held, held_by};
 ghost use Rattle.pictures.specs.Rows.{row_bytes, picture};
 
-use crate::runs::Scanned;
+use crate::runs::PastWidth;
 use crate::{bitmap, compressed, runs, size};
 
-// Complete with the bytes that the picture takes, incomplete, or with a run past the width: its row, the dots filled and the run.
-#[derive(Clone, Copy)]
-pub enum Judged {
-    Complete(usize),
-    Incomplete,
-    PastWidth { row: u16, filled: u16, run: u8 },
-}
-
-// A character's data in a store: a whole picture, an unfinished one, or what no acceptance leaves.
+// A character's data in a store: a whole picture, an unfinished one, or what no acceptance leaves; three cases, and none is a failure.
 #[derive(Clone, Copy)]
 pub enum Held {
     Whole,
@@ -23,58 +15,53 @@ pub enum Held {
     Foreign,
 }
 
-fn judge_bitmap(len: usize, width: u16, height: u16) -> Judged
-    ensures { result ≡ judge_bitmap width height len }
+// The bytes that a picture takes, if there are so many.
+fn judge_bitmap(len: usize, width: u16, height: u16) -> Option<usize>
+    ensures { Ok result ≡ judge_bitmap width height len }
 {
     let size = size::picture_size(width, height);
-    if size <= len {
-        Judged::Complete(size)
-    } else {
-        Judged::Incomplete
-    }
+    (size <= len).then_some(size)
 }
 
-fn judge_scan(s: Scanned) -> Judged
-    ensures { result ≡ judge_scan s }
-{
-    match s {
-        Scanned::Complete(used) => Judged::Complete(used),
-        Scanned::Open(_) => Judged::Incomplete,
-        Scanned::PastWidth { row, filled, run } => Judged::PastWidth { row, filled, run },
-    }
-}
-
-// Data in two parts, as if they were joined: what a store keeps of a character, and what a block brings.
-pub fn judge_joined(class: u8, width: u16, height: u16, kept: &[u8], more: &[u8]) -> Judged
+// Data in two parts, as if they were joined: what a store keeps of a character, and what a block brings. Complete with the bytes that the
+// picture takes, or incomplete.
+pub fn judge_joined(
+    class: u8,
+    width: u16,
+    height: u16,
+    kept: &[u8],
+    more: &[u8],
+) -> Result<Option<usize>, PastWidth>
     ensures { result ≡ judge class width height (kept.now ++ more.now) }
 {
     if class == size::BITMAP {
-        return judge_bitmap(kept.len() + more.len(), width, height);
+        return Ok(judge_bitmap(kept.len() + more.len(), width, height));
     }
-    judge_scan(runs::scan_joined(kept, more, width, height))
+    Ok(runs::scan_joined(kept, more, width, height)?.used())
 }
 
 // The data of a first block.
-pub fn judge_first(class: u8, width: u16, height: u16, bytes: &[u8]) -> Judged
+pub fn judge_first(
+    class: u8,
+    width: u16,
+    height: u16,
+    bytes: &[u8],
+) -> Result<Option<usize>, PastWidth>
     ensures { result ≡ judge class width height bytes.now }
 {
     if class == size::BITMAP {
-        return judge_bitmap(bytes.len(), width, height);
+        return Ok(judge_bitmap(bytes.len(), width, height));
     }
-    judge_scan(runs::scan(bytes, width, height))
+    Ok(runs::scan(bytes, width, height)?.used())
 }
 
-fn held_by(j: Judged, len: usize) -> Held
-    ensures { result ≡ held_by j len }
+fn held_by(judged: Result<Option<usize>, PastWidth>, len: usize) -> Held
+    ensures { result ≡ held_by judged len }
 {
-    match j {
-        Judged::Complete(n) => if n == len { Held::Whole } else { Held::Foreign },
-        Judged::Incomplete => Held::Unfinished,
-        Judged::PastWidth {
-            row: _,
-            filled: _,
-            run: _,
-        } => Held::Foreign,
+    match judged {
+        Ok(Some(n)) if n == len => Held::Whole,
+        Ok(None) => Held::Unfinished,
+        _ => Held::Foreign,
     }
 }
 

@@ -1,7 +1,7 @@
 // Class 2 picture data: the reader's state, its step, and scanning data from a state.
-ghost use Rattle.std.specs.Prelude.{◌≡◌, ℕ, ◌+◌, ◌-◌, ◌^◌, ◌<◌, ◌≤◌, [], ◌++◌, length};
-ghost use Rattle.pictures.specs.Runs.{fill_row, end_row, place_of, run_in, step_run, is_finished, scan_from, start};
-ghost use Rattle.pictures.specs.Passing.{is_at_run, is_in_row, is_black, filled_at, at_run, count_row, stopped_in, finished_at, pair_at, four_at, eight_at, Passes, PassesRuns};
+ghost use Rattle.std.specs.Prelude.{◌≡◌, ℕ, ◌+◌, ◌-◌, ◌^◌, ◌<◌, ◌≤◌, [], ◌++◌, length, sum};
+ghost use Rattle.pictures.specs.Runs.{fill_row, end_row, place_of, run_in, step_run, is_finished, scan_from, start, used_of};
+ghost use Rattle.pictures.specs.Passing.{is_at_run, is_in_row, is_black, filled_at, at_run, count_row, stopped_in, finished_at, Passes, PassesRuns};
 
 // From this width on, eight runs at a time are tried: in a narrower row they seldom leave it unfinished.
 const WIDE: u16 = 64;
@@ -23,7 +23,7 @@ pub struct Reader {
     pub at: Place,
 }
 
-// What a run leaves of a row.
+// What a run leaves of a row: an enum, since these are three cases and none is a failure.
 #[derive(Clone, Copy)]
 pub enum Filled {
     Over,
@@ -31,19 +31,19 @@ pub enum Filled {
     Part(u16),
 }
 
-// The next state, or a run past the width with its row, the dots filled and the run.
+// A run past the width: its row, the dots filled before it, and the run.
 #[derive(Clone, Copy)]
-pub enum Stepped {
-    Next(Reader),
-    Past { row: u16, filled: u16, run: u8 },
+pub struct PastWidth {
+    pub row: u16,
+    pub filled: u16,
+    pub run: u8,
 }
 
-// Complete with the bytes used, open with the state, or a run past the width.
+// How far data goes: complete with the bytes used, or open with the state.
 #[derive(Clone, Copy)]
 pub enum Scanned {
     Complete(usize),
     Open(Reader),
-    PastWidth { row: u16, filled: u16, run: u8 },
 }
 
 // Where a scan goes on: the state and the place in the data.
@@ -65,52 +65,22 @@ pub struct Inside {
 pub fn fill(width: u16, filled: u16, run: u8) -> Filled
     ensures { result ≡ fill_row width filled run }
 {
-    let end = (filled as u32) + (run as u32);
-    if (width as u32) < end {
+    let end = u32::from(filled) + u32::from(run);
+    if u32::from(width) < end {
         return Filled::Over;
     }
-    if end == (width as u32) {
+    if end == u32::from(width) {
         return Filled::Whole;
     }
     Filled::Part(end as u16)
 }
 
-fn wide(x: u8) -> u32
-    ensures { (result ≡ x) × (result ≤ 255) }
+// The dots of at most eight runs.
+fn sum_of(runs: &[u8]) -> u32
+    requires { length runs.now ≤ 8 }
+    ensures { result ≡ sum runs.now }
 {
-    x as u32
-}
-
-// The sums of two, four and eight bytes from a place on.
-fn sum_of_two(src: &[u8], at: usize) -> u32
-    requires { at + 2 ≤ length src.now }
-    ensures { (result ≡ pair_at src.now at) × (result ≤ 510) }
-{
-    wide(src[at]) + wide(src[at + 1])
-}
-
-fn sum_of_four(src: &[u8], at: usize) -> u32
-    requires { at + 4 ≤ length src.now }
-    ensures { (result ≡ four_at src.now at) × (result ≤ 1020) }
-{
-    sum_of_two(src, at) + sum_of_two(src, at + 2)
-}
-
-fn sum_of_eight(src: &[u8], at: usize) -> u32
-    requires { at + 8 ≤ length src.now }
-    ensures { (result ≡ eight_at src.now at) × (result ≤ 2040) }
-{
-    sum_of_four(src, at) + sum_of_four(src, at + 4)
-}
-
-// The places before it have n bytes from there on, and one more.
-fn before_last(len: usize, n: usize) -> usize
-    ensures { result ≡ len - n }
-{
-    if len < n {
-        return 0;
-    }
-    len - n
+    runs.iter().map(|run| u32::from(*run)).sum()
 }
 
 // The place in a row of the next run's colour.
@@ -134,36 +104,28 @@ fn finished(height: u16, at: usize) -> Passed
             repeat: 0,
             at: Place::Finished,
         },
-        at: at,
+        at,
     }
 }
 
 impl Inside {
-    // Over eight runs at a time that leave the row unfinished: their sum alone tells, several times as fast as run by run.
+    // Over eight runs at a time that leave the row unfinished: their sum alone tells, several times as fast as run by run. A loop by an index, here
+    // and over pairs: chunks of the slice took up to 1.4 times as long.
     fn pass_eights(self, src: &[u8]) -> Inside
         requires { self.at < length src.now }
         ensures { PassesRuns src.now self result }
     {
-        let last = before_last(src.len(), 8);
-        let mut at = self.at;
-        let mut left = self.left;
-        while at < last {
-            let sum = sum_of_eight(src, at);
-            if left <= sum {
-                return Inside {
-                    at: at,
-                    left: left,
-                    black: self.black,
-                };
+        let last = src.len().saturating_sub(8);
+        let mut i = self;
+        while i.at < last {
+            let sum = sum_of(&src[i.at..i.at + 8]);
+            if i.left <= sum {
+                return i;
             }
-            left -= sum;
-            at += 8;
+            i.left -= sum;
+            i.at += 8;
         }
-        Inside {
-            at: at,
-            left: left,
-            black: self.black,
-        }
+        i
     }
 
     // Over one run, if it leaves the row unfinished and is not the last byte.
@@ -171,16 +133,15 @@ impl Inside {
         requires { self.at < length src.now }
         ensures { PassesRuns src.now self result }
     {
-        let at = self.at;
-        if src.len() - at < 2 {
+        if src.len() - self.at < 2 {
             return self;
         }
-        let run = wide(src[at]);
+        let run = u32::from(src[self.at]);
         if self.left <= run {
             return self;
         }
         Inside {
-            at: at + 1,
+            at: self.at + 1,
             left: self.left - run,
             black: !self.black,
         }
@@ -191,35 +152,25 @@ impl Inside {
         requires { self.at < length src.now }
         ensures { PassesRuns src.now self result }
     {
-        let last = before_last(src.len(), 2);
-        let mut at = self.at;
-        let mut left = self.left;
-        while at < last {
-            let first = wide(src[at]);
-            if left <= first {
+        let last = src.len().saturating_sub(2);
+        let mut i = self;
+        while i.at < last {
+            let first = u32::from(src[i.at]);
+            if i.left <= first {
+                return i;
+            }
+            let second = u32::from(src[i.at + 1]);
+            if i.left - first <= second {
                 return Inside {
-                    at: at,
-                    left: left,
-                    black: self.black,
+                    at: i.at + 1,
+                    left: i.left - first,
+                    black: !i.black,
                 };
             }
-            let second = wide(src[at + 1]);
-            if left - first <= second {
-                return Inside {
-                    at: at + 1,
-                    left: left - first,
-                    black: !self.black,
-                };
-            }
-            left -= first + second;
-            at += 2;
+            i.left -= first + second;
+            i.at += 2;
         }
-        let stop = Inside {
-            at: at,
-            left: left,
-            black: self.black,
-        };
-        stop.pass_one(src)
+        i.pass_one(src)
     }
 
     // Over the runs that leave the row unfinished.
@@ -230,20 +181,19 @@ impl Inside {
         if width < WIDE {
             return self.pass_pairs(src);
         }
-        let e = self.pass_eights(src);
-        e.pass_pairs(src)
+        self.pass_eights(src).pass_pairs(src)
     }
 
     // A scan that stops at the run, in a row with so many repeats.
-    fn stopped(self, row: u32, repeat: u32, width: u16) -> Passed
-        requires { (self.left ≤ width) × (row ≤ 65535) × (repeat ≤ 255) }
+    fn stopped(self, row: u16, repeat: u8, width: u16) -> Passed
+        requires { self.left ≤ width }
         ensures { result ≡ stopped_in width row repeat self }
     {
-        let filled = (width as u32) - self.left;
+        let filled = u32::from(width) - self.left;
         Passed {
             reader: Reader {
-                row: row as u16,
-                repeat: repeat as u8,
+                row,
+                repeat,
                 at: place_of(self.black, filled as u16),
             },
             at: self.at,
@@ -255,44 +205,27 @@ impl Place {
     fn is_finished(self) -> bool
         ensures { result ≡ is_finished self }
     {
-        match self {
-            Place::Count => false,
-            Place::White(_) => false,
-            Place::Black(_) => false,
-            Place::Finished => true,
-        }
+        matches!(self, Place::Finished)
     }
 
     fn is_at_run(self) -> bool
         ensures { result ≡ is_at_run self }
     {
-        match self {
-            Place::Count => false,
-            Place::White(_) => true,
-            Place::Black(_) => true,
-            Place::Finished => false,
-        }
+        matches!(self, Place::White(_) | Place::Black(_))
     }
 
     fn is_black(self) -> bool
         ensures { result ≡ is_black self }
     {
-        match self {
-            Place::Count => false,
-            Place::White(_) => false,
-            Place::Black(_) => true,
-            Place::Finished => false,
-        }
+        matches!(self, Place::Black(_))
     }
 
     fn filled(self) -> u16
         ensures { result ≡ filled_at self }
     {
         match self {
-            Place::Count => 0,
-            Place::White(f) => f,
-            Place::Black(f) => f,
-            Place::Finished => 0,
+            Place::White(f) | Place::Black(f) => f,
+            _ => 0,
         }
     }
 
@@ -300,7 +233,19 @@ impl Place {
     fn is_in_row(self, width: u16) -> bool
         ensures { result ≡ is_in_row width self }
     {
-        self.is_at_run() & (self.filled() <= width)
+        self.is_at_run() && self.filled() <= width
+    }
+}
+
+impl Scanned {
+    // The bytes used, if the picture is complete.
+    pub(crate) fn used(self) -> Option<usize>
+        ensures { result ≡ used_of self }
+    {
+        match self {
+            Scanned::Complete(used) => Some(used),
+            Scanned::Open(_) => None,
+        }
     }
 }
 
@@ -331,8 +276,8 @@ impl Reader {
     fn end_row(self, height: u16) -> Reader
         ensures { result ≡ end_row height self }
     {
-        let next = (self.row as u32) + 1 + (self.repeat as u32);
-        if (height as u32) <= next {
+        let next = u32::from(self.row) + 1 + u32::from(self.repeat);
+        if u32::from(height) <= next {
             Reader {
                 row: height,
                 repeat: 0,
@@ -348,17 +293,24 @@ impl Reader {
     }
 
     // A run, black or not, where some dots of its row are filled: the next one has the other colour.
-    fn run_in(self, width: u16, height: u16, run: u8, black: bool, filled: u16) -> Stepped
+    fn run_in(
+        self,
+        width: u16,
+        height: u16,
+        run: u8,
+        black: bool,
+        filled: u16,
+    ) -> Result<Reader, PastWidth>
         ensures { result ≡ run_in width height self run black filled }
     {
         match fill(width, filled, run) {
-            Filled::Over => Stepped::Past {
+            Filled::Over => Err(PastWidth {
                 row: self.row,
-                filled: filled,
-                run: run,
-            },
-            Filled::Whole => Stepped::Next(self.end_row(height)),
-            Filled::Part(n) => Stepped::Next(self.at_run(!black, n)),
+                filled,
+                run,
+            }),
+            Filled::Whole => Ok(self.end_row(height)),
+            Filled::Part(n) => Ok(self.at_run(!black, n)),
         }
     }
 
@@ -374,17 +326,16 @@ impl Reader {
     }
 
     // One byte of data: whether a run ends the row, or passes it, does not depend on its colour.
-    pub fn step(self, width: u16, height: u16, byte: u8) -> Stepped
+    pub fn step(self, width: u16, height: u16, byte: u8) -> Result<Reader, PastWidth>
         ensures { result ≡ step_run width height self byte }
     {
-        let place = self.at;
-        if place.is_at_run() {
-            return self.run_in(width, height, byte, place.is_black(), place.filled());
+        if self.at.is_at_run() {
+            return self.run_in(width, height, byte, self.at.is_black(), self.at.filled());
         }
-        if place.is_finished() {
-            return Stepped::Next(self);
+        if self.at.is_finished() {
+            return Ok(self);
         }
-        Stepped::Next(self.count(byte))
+        Ok(self.count(byte))
     }
 
     // Over a repeat count, unless it is the last byte.
@@ -392,8 +343,7 @@ impl Reader {
         requires { from < length src.now }
         ensures { ((w h : ℕ) → Passes w h src.now from self result) × (result.at < length src.now) }
     {
-        let place = self.at;
-        if place.is_at_run() | place.is_finished() {
+        if self.at.is_at_run() || self.at.is_finished() {
             return Passed {
                 reader: self,
                 at: from,
@@ -411,32 +361,33 @@ impl Reader {
         }
     }
 
-    // From a run of its row on, over whole rows and the runs that leave a row unfinished. The state is taken apart once and put together once, not for each row.
+    // From a run of its row on (a loop, since each turn takes a row, its end and a count), over whole rows and the runs that leave a row unfinished. The state is taken apart once and put together once, not for each row,
+    // and its numbers are whole words meanwhile, which are faster than halves.
     fn pass_from(self, begin: Inside, src: &[u8], width: u16, height: u16) -> Passed
         requires { (begin.at < length src.now) × (begin.left ≤ width) }
         ensures { Passes width height src.now begin.at (at_run self begin.black (width - begin.left)) result }
     {
-        let mut row = self.row as u32;
-        let mut repeat = self.repeat as u32;
+        let mut row = u32::from(self.row);
+        let mut repeat = u32::from(self.repeat);
         let mut i = begin;
         loop {
             let stop = i.pass_runs(src, width);
             let at = stop.at;
-            if wide(src[at]) != stop.left {
-                return stop.stopped(row, repeat, width);
+            if u32::from(src[at]) != stop.left {
+                return stop.stopped(row as u16, repeat as u8, width);
             }
             let below = row + 1 + repeat;
-            if (height as u32) <= below {
+            if u32::from(height) <= below {
                 return finished(height, at + 1);
             }
             if src.len() - at < 3 {
-                return stop.stopped(row, repeat, width);
+                return stop.stopped(row as u16, repeat as u8, width);
             }
             row = below;
-            repeat = wide(src[at + 1]);
+            repeat = u32::from(src[at + 1]);
             i = Inside {
                 at: at + 2,
-                left: width as u32,
+                left: u32::from(width),
                 black: false,
             };
         }
@@ -447,8 +398,7 @@ impl Reader {
         requires { from < length src.now }
         ensures { Passes width height src.now from self result }
     {
-        let place = self.at;
-        if !place.is_in_row(width) {
+        if !self.at.is_in_row(width) {
             return Passed {
                 reader: self,
                 at: from,
@@ -456,8 +406,8 @@ impl Reader {
         }
         let begin = Inside {
             at: from,
-            left: (width - place.filled()) as u32,
-            black: place.is_black(),
+            left: u32::from(width - self.at.filled()),
+            black: self.at.is_black(),
         };
         self.pass_from(begin, src, width, height)
     }
@@ -467,17 +417,15 @@ impl Reader {
         requires { from < length src.now }
         ensures { Passes width height src.now from self result }
     {
-        let c = self.pass_count(src, from);
-        let counted = c.reader;
-        counted.pass_rows(src, c.at, width, height)
+        let counted = self.pass_count(src, from);
+        counted.reader.pass_rows(src, counted.at, width, height)
     }
 
     // The data after all of it is read, where so many bytes were used.
     fn answer(self, used: usize) -> Scanned
-        ensures { (w h : ℕ) → result ≡ scan_from w h used self [] }
+        ensures { (w h : ℕ) → Ok result ≡ scan_from w h used self [] }
     {
-        let at = self.at;
-        if at.is_finished() {
+        if self.at.is_finished() {
             Scanned::Complete(used)
         } else {
             Scanned::Open(self)
@@ -485,8 +433,14 @@ impl Reader {
     }
 }
 
-// The data from a state that an earlier part of used bytes left.
-pub fn scan_from(from: Reader, used: usize, src: &[u8], width: u16, height: u16) -> Scanned
+// The data from a state that an earlier part of used bytes left. By its place, not by a slice of the rest, since the place is the answer too.
+pub fn scan_from(
+    from: Reader,
+    used: usize,
+    src: &[u8],
+    width: u16,
+    height: u16,
+) -> Result<Scanned, PastWidth>
     requires { used + length src.now < 2 ^ 64 }
     ensures { result ≡ scan_from width height used from src.now }
 {
@@ -494,38 +448,27 @@ pub fn scan_from(from: Reader, used: usize, src: &[u8], width: u16, height: u16)
     let mut i = 0;
     while i < src.len() {
         let p = s.pass(src, i, width, height);
-        let at = p.at;
-        let passed = p.reader;
-        let place = passed.at;
-        if place.is_finished() {
-            return Scanned::Complete(used + at);
+        if p.reader.at.is_finished() {
+            return Ok(Scanned::Complete(used + p.at));
         }
-        match passed.step(width, height, src[at]) {
-            Stepped::Next(n) => {
-                s = n;
-            }
-            Stepped::Past { row, filled, run } => {
-                return Scanned::PastWidth { row, filled, run };
-            }
-        }
-        i = at + 1;
+        s = p.reader.step(width, height, src[p.at])?;
+        i = p.at + 1;
     }
-    s.answer(used + i)
+    Ok(s.answer(used + i))
 }
 
-pub fn scan(src: &[u8], width: u16, height: u16) -> Scanned
+pub fn scan(src: &[u8], width: u16, height: u16) -> Result<Scanned, PastWidth>
     ensures { result ≡ scan_from width height 0 start src.now }
 {
     scan_from(Reader::start(), 0, src, width, height)
 }
 
 // The data in two parts, as if they were joined.
-pub fn scan_joined(kept: &[u8], more: &[u8], width: u16, height: u16) -> Scanned
+pub fn scan_joined(kept: &[u8], more: &[u8], width: u16, height: u16) -> Result<Scanned, PastWidth>
     ensures { result ≡ scan_from width height 0 start (kept.now ++ more.now) }
 {
-    match scan(kept, width, height) {
-        Scanned::Complete(used) => Scanned::Complete(used),
+    match scan(kept, width, height)? {
+        Scanned::Complete(used) => Ok(Scanned::Complete(used)),
         Scanned::Open(s) => scan_from(s, kept.len(), more, width, height),
-        Scanned::PastWidth { row, filled, run } => Scanned::PastWidth { row, filled, run },
     }
 }

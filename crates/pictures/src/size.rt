@@ -24,12 +24,12 @@ pub fn bytes_across(dots: usize) -> usize
 pub fn row_size(width: u16) -> usize
     ensures { result ≡ row_size width }
 {
-    bytes_across(width as usize)
+    bytes_across(usize::from(width))
 }
 
 // The bytes of a picture.
 pub fn picture_size(width: u16, height: u16) -> usize
     ensures { result ≡ picture_size width height }
 {
-    (height as usize) * row_size(width)
+    usize::from(height) * row_size(width)
 }

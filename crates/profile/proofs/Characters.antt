@@ -1,11 +1,12 @@
 -- Laws of a character as the code looks at it, and of the run of records. Assumes nothing.
 use Prim.Native.Nat.{ℕ, suc, ◌+◌, ◌-◌, ◌≤◌, ◌<◌}
 use mathlib.Core.Path.{◌≡◌, refl, sym, ap, ◌∙◌}
-use mathlib.Core.List.{List}
-use mathlib.Core.Bool.{Bool, true, false, cond}
+use mathlib.Core.List.{List, [], ◌∷◌}
+use mathlib.Core.Bool.{Bool, true, false, cond, false≢true}
 use native.Mathlib.Omega.{arith}
 use borrow.Author.Tests.{leb-true, leb-false, lt-ltb, le-ltb, le-leb, ltb-true, ltb-false}
 use lib.Dec.{leb, ltb}
+use Rattle.std.proofs.Common.{Option, Some, None, is_some}
 use lib.IntN.{pos, negsuc, ◌+ℤ◌}
 use lib.Signed.{le_z}
 use lib.ListN.{length, take, drop, length-take, length-drop}
@@ -16,11 +17,11 @@ use Rattle.blocks.proofs.Signed.{leb_iff, negative_by}
 use Rattle.pictures.specs.Picture.{held}
 use Rattle.pictures.specs.declared.picture.Held.{Held}
 use Rattle.form.specs.Model.{Rec, held_of}
-use Rattle.form.specs.Records.{MetAt, Between, font_from, FontMet, character_from, CharacterMet}
-use Rattle.form.proofs.FontRecords.{between_none, between_next}
-use Rattle.profile.specs.Profile.{is_whole, right_inside}
-use Rattle.profile.specs.Pass.{broken_by, next_wanted, behind_character, behind_record, passed_over, nothing_found}
-use Rattle.profile.specs.declared.pass.Findings.{Findings}
+use Rattle.profile.specs.Profile.{RuleBroken, is_whole, right_inside, none_broken}
+use Rattle.profile.specs.declared.rules.ProfileRule.{ProfileRule}
+use Rattle.profile.specs.declared.rules.ProfileRule.TheVariants.{TypeZero, FixedSpacing, CodesComplete, LeftInside, RightInside, HeightInside, PitchAdvance}
+use Rattle.profile.specs.declared.pass.BrokenRule.{BrokenRule}
+use Rattle.profile.specs.Pass.{FoundSoFar, rule_number, as_told, numbers_or_8, first_broken_of, broken_by, next_wanted, behind_character, behind_record, passed_over, nothing_found}
 
 -- ── rule 5, where the left offset is not negative, and where it is
 from_zero : (l w m : ℕ) → l < 65536 → negative 16 l ≡ false → leb (l + w) m ≡ le_z (signed 16 l +ℤ pos w) (pos m)
@@ -77,43 +78,53 @@ pub whole_by : (k d : List ℕ) (a w y : ℕ) → a ≡ class k → w ≡ width 
 whole_by k d a w y p q r v e = let i : held_of k d ≡ v = rw (← p, ← q, ← r) (sym e) in ap is_whole i
 
 -- ── behind a character
-module _ (h : List ℕ) (p : Findings) (c : ℕ) (k d : List ℕ) (w r : ℕ) (e : w ≡ next_wanted p.wanted c (is_whole (held_of k d))) (i : r ≡ broken_by h k) where
-  pub noted_lower : r < p.rule → record { wanted = w; rule = r; code = c } ≡ behind_character h p c k d
+module _ (h : List ℕ) (p : FoundSoFar) (c : ℕ) (k d : List ℕ) (w r : ℕ) (e : w ≡ next_wanted p.wanted c (is_whole (held_of k d))) (i : r ≡ broken_by h k) where
+  pub noted_is : (x : RuleBroken) → x ≡ first_broken_of (record { rule = p.rule; code = p.code }) r c → record { wanted = w; rule = x.rule; code = x.code } ≡ behind_character h p c k d
   unfolding behind_character
-  noted_lower l = rw (← e, ← i, lt-ltb r p.rule l)
+  noted_is x q = rw (q, ← e, ← i) (go (ltb r p.rule))
+    where
+      go : (t : Bool) → let y : RuleBroken = cond t (record { rule = r; code = c }) (record { rule = p.rule; code = p.code }) in
+          ◌≡◌ {A = FoundSoFar} (record { wanted = w; rule = y.rule; code = y.code }) (record { wanted = w; rule = cond t r p.rule; code = cond t c p.code })
+      go true = refl
+      go false = refl
 
-  pub noted_same : p.rule ≤ r → record { wanted = w; rule = p.rule; code = p.code } ≡ behind_character h p c k d
-  unfolding behind_character
-  noted_same l = rw (← e, ← i, le-ltb r p.rule l)
+-- ── the first broken rule of a run, as it is told
+number_bound : (r : ProfileRule) → leb (rule_number r) 7 ≡ true
+number_bound TypeZero = refl
+number_bound FixedSpacing = refl
+number_bound CodesComplete = refl
+number_bound LeftInside = refl
+number_bound RightInside = refl
+number_bound HeightInside = refl
+number_bound PitchAdvance = refl
 
--- ── behind a record that is met
--- what stands from one place up to another, as the slice that the code lends
-pub same_part : (s : List ℕ) (a n : ℕ) → take (a + n - a) (drop a s) ≡ take n (drop a s)
-same_part s a n = let e : a + n - a ≡ n = omega arith in rw e
+pub told_is : (o : Option BrokenRule) → as_told o ≡ cond (leb (numbers_or_8 o).rule 7) (record { rule = (numbers_or_8 o).rule; code = (numbers_or_8 o).code }) none_broken
+told_is None = refl
+told_is (Some b) = rw (number_bound b.rule) refl
 
-pub font_behind : (s : List ℕ) (at n kept next : ℕ) → FontMet s at n kept next → (h : List ℕ) (p : Findings) → (r : Rec) × MetAt s at r next × (p ≡ behind_record h p r)
-unfolding behind_record
-font_behind s at n kept next m h p = (font_from s n kept, m.met, refl)
+pub told_some : (o : Option BrokenRule) → is_some o ≡ true → (as_told o).rule ≡ 0 → ⊥
+told_some None e z = absurd (false≢true e)
+told_some (Some b) e z = go b.rule z
+  where
+    go : (r : ProfileRule) → rule_number r ≡ 0 → ⊥
+    go TypeZero z = omega (arith, z)
+    go FixedSpacing z = omega (arith, z)
+    go CodesComplete z = omega (arith, z)
+    go LeftInside z = omega (arith, z)
+    go RightInside z = omega (arith, z)
+    go HeightInside z = omega (arith, z)
+    go PitchAdvance z = omega (arith, z)
 
-module _ (s : List ℕ) (at n c kept bytes next : ℕ) (m : CharacterMet s at n c kept bytes next) where
-  pub descriptor_long : descriptor_bytes ≤ length (take (kept + descriptor_bytes - kept) (drop kept s))
-  descriptor_long = simp (length-take, length-drop) (omega (arith, m.join, m.last, m.met.within))
-
-  pub character_behind : (h : List ℕ) (p x : Findings) → x ≡ behind_character h p c (take (kept + descriptor_bytes - kept) (drop kept s)) (take (next - bytes) (drop bytes s)) → (r : Rec) × MetAt s at r next × (x ≡ behind_record h p r)
-  unfolding behind_record
-  character_behind h p x e = (character_from s n c kept bytes next, m.met, e ∙ ap (λ (k : List ℕ). behind_character h p c k (take (next - bytes) (drop bytes s))) (same_part s kept descriptor_bytes))
+pub told_none : (o : Option BrokenRule) → is_some o ≡ false → (as_told o).rule ≡ 0
+told_none None e = refl
+told_none (Some b) e = absurd (false≢true (sym e))
 
 -- ── a run of records: what is left of it gives the whole's findings
-abbrev pub Passing : List ℕ → List ℕ → ℕ → ℕ → ℕ → Findings → Type 0
-Passing s h lo hi at p = (rs : List Rec) → Between s lo hi rs → (ts : List Rec) × Between s at hi ts × (passed_over ts h p ≡ passed_over rs h nothing_found)
+module _ (h : List ℕ) (p all : FoundSoFar) (left : List Rec) (i : passed_over left h p ≡ all) where
+  pub pass_next : (more : List Rec) (r : Rec) → left ≡ r ∷ more → (q : FoundSoFar) → q ≡ behind_record h p r → passed_over more h q ≡ all
+  unfolding passed_over
+  pass_next more r e q g = ap (passed_over more h) g ∙ sym (ap (λ (l : List Rec). passed_over l h p) e) ∙ i
 
-pub pass_next : (s h : List ℕ) (lo hi at next : ℕ) (p q : Findings) (r : Rec) → Passing s h lo hi at p → at < hi → MetAt s at r next → q ≡ behind_record h p r → Passing s h lo hi next q
-unfolding passed_over
-pass_next s h lo hi at next p q r f l m e rs b =
-    let t = f rs b in
-    let x = between_next s at hi t.0 t.1 r next l m in
-    (x.rest, x.more, ap (passed_over x.rest h) e ∙ sym (ap (λ (l : List Rec). passed_over l h p) x.is) ∙ t.2)
-
-pub pass_ended : (s h : List ℕ) (lo hi at : ℕ) (p : Findings) → Passing s h lo hi at p → hi ≤ at → (rs : List Rec) → Between s lo hi rs → p ≡ passed_over rs h nothing_found
-unfolding passed_over
-pass_ended s h lo hi at p f l rs b = let t = f rs b in sym (ap (λ (ts : List Rec). passed_over ts h p) (between_none s at hi t.0 t.1 l)) ∙ t.2
+  pub pass_ended : left ≡ [] → p ≡ all
+  unfolding passed_over
+  pass_ended e = sym (ap (λ (l : List Rec). passed_over l h p) e) ∙ i

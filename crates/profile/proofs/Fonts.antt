@@ -4,41 +4,19 @@ use mathlib.Core.Path.{◌≡◌, sym, ap, ◌∙◌}
 use mathlib.Core.List.{List}
 use native.Mathlib.Omega.{arith}
 use borrow.Author.Tests.{eq-eqb, ne_eqb}
-use lib.ListN.{length, take, drop, length-take, length-drop}
+use lib.ListN.{length}
 use Rattle.blocks.specs.Header.{header_bytes}
 use Rattle.form.specs.Model.{Rec, font, total}
-use Rattle.form.specs.Records.{records_of, Between, font_from, FontMet, character_from, CharacterMet}
+use Rattle.form.specs.Records.{records_of, Between}
 use Rattle.form.specs.declared.walk.Places.{Places}
 use Rattle.form.proofs.Seeks.{KeptFont, font_call}
 use Rattle.form.proofs.RecordBytes.{size_pos}
-use Rattle.form.proofs.FontRecords.{between_next, font_records}
+use Rattle.form.proofs.FontRecords.{font_records}
 use Rattle.stream.specs.Written.{WriteOut, unwritten, written_run, written, writing_bytes}
 use Rattle.stream.proofs.RoundTrip.{kept_of_lem}
-use Rattle.profile.specs.Profile.{none_broken, broken_in, unchecked, checked_as, checking_profile, writing_profiled}
+use Rattle.profile.specs.Profile.{RuleBroken, none_broken, broken_in, unchecked, checked_as, checking_profile, writing_profiled}
 use Rattle.profile.specs.Pass.{broken_with, broken_among}
-use Rattle.profile.specs.declared.pass.RuleBroken.{RuleBroken}
 use Rattle.profile.proofs.Passes.{among_is}
-use Rattle.profile.proofs.Characters.{same_part}
-
--- ── the first of its records
-module _ (s : List ℕ) (lo hi : ℕ) (l : lo < hi) where
-  module _ (n kept next : ℕ) (m : FontMet s lo n kept next) where
-    pub header_long : header_bytes ≤ length (take (kept + header_bytes - kept) (drop kept s))
-    header_long = simp (length-take, length-drop) (omega (arith, m.room))
-
-    pub behind_font : (rs : List Rec) → Between s lo hi rs → (ts : List Rec) × Between s next hi ts
-    behind_font rs b = let x = between_next s lo hi rs b (font_from s n kept) next l m.met in (x.rest, x.more)
-
-    pub among_font : (x : RuleBroken) → ((ts : List Rec) → Between s next hi ts → x ≡ broken_with (take (kept + header_bytes - kept) (drop kept s)) ts)
-        → (rs : List Rec) → Between s lo hi rs → x ≡ broken_among rs
-    unfolding broken_among
-    among_font x f rs b =
-        let y = between_next s lo hi rs b (font_from s n kept) next l m.met in
-        f y.rest y.more ∙ ap (λ (k : List ℕ). broken_with k y.rest) (same_part s kept header_bytes) ∙ sym (ap broken_among y.is)
-
-  pub among_character : (n c kept bytes next : ℕ) → CharacterMet s lo n c kept bytes next → (rs : List Rec) → Between s lo hi rs → none_broken ≡ broken_among rs
-  unfolding broken_among
-  among_character n c kept bytes next m rs b = let y = between_next s lo hi rs b (character_from s n c kept bytes next) next l m.met in sym (ap broken_among y.is)
 
 -- ── the calls
 module _ (n : ℕ) (s : List ℕ) (w : Places) (x : KeptFont n 0 s w) where

@@ -20,8 +20,7 @@ use Rattle.form.proofs.Lookup.{find_here, find_other, find_behind}
 use Rattle.form.proofs.FontRecords.{of_in, of_out}
 use Rattle.stream.proofs.RoundTrip.{kept_of_lem}
 use Rattle.profile.specs.Profile.{rule_at, first_required, last_required, is_whole, complete, left_inside, right_inside, height_inside, advances_by_pitch, of_each, character_rules, rules, has_character, none_broken, first_broken, broken_in}
-use Rattle.profile.specs.Pass.{broken_by, next_wanted, behind_character, behind_record, passed_over, nothing_found, found_broken, broken_with, broken_among}
-use Rattle.profile.specs.declared.pass.Findings.{Findings}
+use Rattle.profile.specs.Pass.{FoundSoFar, broken_by, next_wanted, behind_character, behind_record, passed_over, nothing_found, found_broken, broken_with, broken_among}
 use Rattle.profile.proofs.Search.{rule_holds, rule_breaks, rules_hold, rules_break}
 
 -- ── the rules of one character
@@ -79,7 +78,7 @@ module _ (n : ℕ) (h : List ℕ) where
     breaks : Test j h e (at rs e) ≡ false
     before : (c : ℕ) → c < e → Test j h c (at rs c) ≡ true
 
-  record Finds (rs : List Rec) (p q : Findings) : Type 0 where
+  record Finds (rs : List Rec) (p q : FoundSoFar) : Type 0 where
     low : q.rule ≤ p.rule
     holds : (j : ℕ) → 4 + j < q.rule → (c : ℕ) → c ≤ last_code → Test j h c (at rs c) ≡ true
     first : ((q.rule ≡ p.rule) × (q.code ≡ p.code)) ⊎ First rs p.rule q.rule q.code
@@ -87,7 +86,7 @@ module _ (n : ℕ) (h : List ℕ) where
     held : (c : ℕ) → p.wanted ≤ c → c < q.wanted → c ≤ last_code → complete (at rs c) ≡ true
     lacks : q.wanted ≤ last_required → complete (at rs q.wanted) ≡ false
 
-  finds_none : (p : Findings) → Finds [] p p
+  finds_none : (p : FoundSoFar) → Finds [] p p
   unfolding find_record
   finds_none p =
       record {
@@ -111,7 +110,7 @@ module _ (n : ℕ) (h : List ℕ) where
         before = λ c l. rw (s c (omega (arith, l, f.last))) (f.before c l);
       }
 
-  same_finds : (rs ts : List Rec) → ((c : ℕ) → c ≤ last_code → at ts c ≡ at rs c) → (p q : Findings) → Finds rs p q → Finds ts p q
+  same_finds : (rs ts : List Rec) → ((c : ℕ) → c ≤ last_code → at ts c ≡ at rs c) → (p q : FoundSoFar) → Finds rs p q → Finds ts p q
   same_finds rs ts s p q f =
       record {
         low = f.low;
@@ -139,7 +138,7 @@ module _ (n : ℕ) (h : List ℕ) where
     unfolding number place
     other c e = find_other (key_of n (c + 1)) met rs (λ x. e (omega (arith, x)))
 
-    module _ (p p' q : Findings) (f : Finds rs p' q) where
+    module _ (p p' q : FoundSoFar) (f : Finds rs p' q) where
       -- rules that the character keeps
       more_holds : p'.rule ≤ broken_by h k → (j : ℕ) → 4 + j < q.rule → (c : ℕ) → c ≤ last_code → Test j h c (at (met ∷ rs) c) ≡ true
       more_holds l j m c z = go (eqb b c) refl
@@ -226,10 +225,10 @@ module _ (n : ℕ) (h : List ℕ) where
 
     -- ── behind it
     -- the rule and the code are the character's, or stay
-    abbrev Noted : Findings → Findings → Type 0
+    abbrev Noted : FoundSoFar → FoundSoFar → Type 0
     Noted p p' = ((broken_by h k < p.rule) × (p'.rule ≡ broken_by h k) × (p'.code ≡ b)) ⊎ ((p.rule ≤ broken_by h k) × (p'.rule ≡ p.rule) × (p'.code ≡ p.code))
 
-    noted : (p : Findings) → Noted p (behind_character h p b k d)
+    noted : (p : FoundSoFar) → Noted p (behind_character h p b k d)
     unfolding behind_character
     noted p = go (ltb (broken_by h k) p.rule) refl
       where
@@ -237,11 +236,11 @@ module _ (n : ℕ) (h : List ℕ) where
         go true e = unfold behind_character in inl (ltb-true _ _ e, rw e, rw e)
         go false e = unfold behind_character in inr (ltb-false _ _ e, rw e, rw e)
 
-    wanted_is : (p : Findings) → next_wanted p.wanted b (is_whole (held_of k d)) ≡ (behind_character h p b k d).wanted
+    wanted_is : (p : FoundSoFar) → next_wanted p.wanted b (is_whole (held_of k d)) ≡ (behind_character h p b k d).wanted
     unfolding behind_character
     wanted_is p = refl
 
-    first_met : (p p' q : Findings) → p.rule ≤ 8 → Noted p p' → Finds rs p' q → ((q.rule ≡ p.rule) × (q.code ≡ p.code)) ⊎ First (met ∷ rs) p.rule q.rule q.code
+    first_met : (p p' q : FoundSoFar) → p.rule ≤ 8 → Noted p p' → Finds rs p' q → ((q.rule ≡ p.rule) × (q.code ≡ p.code)) ⊎ First (met ∷ rs) p.rule q.rule q.code
     first_met p p' q l x f = go x f.first
       where
         go : Noted p p' → ((q.rule ≡ p'.rule) × (q.code ≡ p'.code)) ⊎ First rs p'.rule q.rule q.code → ((q.rule ≡ p.rule) × (q.code ≡ p.code)) ⊎ First (met ∷ rs) p.rule q.rule q.code
@@ -250,11 +249,11 @@ module _ (n : ℕ) (h : List ℕ) where
         go (inr x) (inl y) = inl (y.0 ∙ x.1, y.1 ∙ x.2)
         go (inr x) (inr y) = inr (more_first p p' q f (omega (arith, x.0, x.1)) (omega (arith, x.1)) y)
 
-    noted_low : (p p' : Findings) → Noted p p' → (p'.rule ≤ broken_by h k) × (p'.rule ≤ p.rule)
+    noted_low : (p p' : FoundSoFar) → Noted p p' → (p'.rule ≤ broken_by h k) × (p'.rule ≤ p.rule)
     noted_low p p' (inl x) = (omega (arith, x.1), omega (arith, x.0, x.1))
     noted_low p p' (inr x) = (omega (arith, x.0, x.1), omega (arith, x.1))
 
-    behind_met : (p p' q : Findings) → p.rule ≤ 8 → Noted p p' → next_wanted p.wanted b (is_whole (held_of k d)) ≡ p'.wanted → Finds rs p' q → Finds (met ∷ rs) p q
+    behind_met : (p p' q : FoundSoFar) → p.rule ≤ 8 → Noted p p' → next_wanted p.wanted b (is_whole (held_of k d)) ≡ p'.wanted → Finds rs p' q → Finds (met ∷ rs) p q
     behind_met p p' q l x e f =
         let y = noted_low p p' x in
         let w = more_wants p.wanted p'.wanted q.wanted e f.least f.held f.lacks in
@@ -268,28 +267,28 @@ module _ (n : ℕ) (h : List ℕ) where
         }
 
   -- ── a whole run
-  abbrev after : List Rec → Findings → Findings
+  abbrev after : List Rec → FoundSoFar → FoundSoFar
   after rs p = passed_over (records_of n rs) h p
 
-  skipped : (r : Rec) (rs : List Rec) (p : Findings) → ((c : ℕ) → c ≤ last_code → at (r ∷ rs) c ≡ at rs c) → after (r ∷ rs) p ≡ after rs p → Finds rs p (after rs p) → Finds (r ∷ rs) p (after (r ∷ rs) p)
+  skipped : (r : Rec) (rs : List Rec) (p : FoundSoFar) → ((c : ℕ) → c ≤ last_code → at (r ∷ rs) c ≡ at rs c) → after (r ∷ rs) p ≡ after rs p → Finds rs p (after rs p) → Finds (r ∷ rs) p (after (r ∷ rs) p)
   skipped r rs p s e f = rw e (same_finds rs (r ∷ rs) s p (after rs p) f)
 
-  passed_font : (t : Bool) (m : ℕ) (g : List ℕ) (rs : List Rec) (p : Findings) → passed_over (cond t (font m g ∷ rs) rs) h p ≡ passed_over rs h p
+  passed_font : (t : Bool) (m : ℕ) (g : List ℕ) (rs : List Rec) (p : FoundSoFar) → passed_over (cond t (font m g ∷ rs) rs) h p ≡ passed_over rs h p
   unfolding passed_over behind_record
   passed_font true m g rs p = refl
   passed_font false m g rs p = refl
 
-  font_step : (m : ℕ) (g : List ℕ) (rs : List Rec) (p : Findings) → Finds rs p (after rs p) → Finds (font m g ∷ rs) p (after (font m g ∷ rs) p)
+  font_step : (m : ℕ) (g : List ℕ) (rs : List Rec) (p : FoundSoFar) → Finds rs p (after rs p) → Finds (font m g ∷ rs) p (after (font m g ∷ rs) p)
   unfolding records_of keep number place
   font_step m g rs p f =
       skipped (font m g) rs p (λ c l. find_other (key_of n (c + 1)) (font m g) rs (λ e. omega (arith, e, l))) (passed_font (eqb m n) m g (records_of n rs) p) f
 
-  passed_character : (b : ℕ) (k d : List ℕ) (rs : List Rec) (p : Findings) → after (character n b k d ∷ rs) p ≡ after rs (behind_character h p b k d)
+  passed_character : (b : ℕ) (k d : List ℕ) (rs : List Rec) (p : FoundSoFar) → after (character n b k d ∷ rs) p ≡ after rs (behind_character h p b k d)
   unfolding passed_over behind_record number
   passed_character b k d rs p = ap (λ (l : List Rec). passed_over l h p) (of_in n (character n b k d) rs refl)
 
   -- a character of this font, or of another
-  own_step : (b : ℕ) (k d : List ℕ) (rs : List Rec) (j : ℕ) (u : Owner) → Sorted j u (character n b k d) rs → ((p : Findings) → p.rule ≤ 8 → Finds rs p (after rs p)) → (p : Findings) → p.rule ≤ 8 → Finds (character n b k d ∷ rs) p (after (character n b k d ∷ rs) p)
+  own_step : (b : ℕ) (k d : List ℕ) (rs : List Rec) (j : ℕ) (u : Owner) → Sorted j u (character n b k d) rs → ((p : FoundSoFar) → p.rule ≤ 8 → Finds rs p (after rs p)) → (p : FoundSoFar) → p.rule ≤ 8 → Finds (character n b k d ∷ rs) p (after (character n b k d ∷ rs) p)
   unfolding number place
   own_step b k d rs j u w ih p l =
       let low : b ≤ last_code = (allowed_char u n b k d w.ok).code in
@@ -298,19 +297,19 @@ module _ (n : ℕ) (h : List ℕ) where
       let p' = behind_character h p b k d in
       rw (passed_character b k d rs p) (behind_met b k d rs low none-behind p p' (after rs p') l x (wanted_is b k d rs low none-behind p) (ih p' (omega (arith, (noted_low b k d rs low none-behind p p' x).1))))
 
-  other_step : (m b : ℕ) (k d : List ℕ) (rs : List Rec) → b ≤ last_code → (m ≡ n → ⊥) → (p : Findings) → Finds rs p (after rs p) → Finds (character m b k d ∷ rs) p (after (character m b k d ∷ rs) p)
+  other_step : (m b : ℕ) (k d : List ℕ) (rs : List Rec) → b ≤ last_code → (m ≡ n → ⊥) → (p : FoundSoFar) → Finds rs p (after rs p) → Finds (character m b k d ∷ rs) p (after (character m b k d ∷ rs) p)
   unfolding number place
   other_step m b k d rs l e p f =
       skipped (character m b k d) rs p (λ c x. find_other (key_of n (c + 1)) (character m b k d) rs (λ y. e (omega (arith, y, l, x)))) (ap (λ (l : List Rec). passed_over l h p) (of_out n (character m b k d) rs e)) f
 
-  finds : (rs : List Rec) (k : ℕ) (u : Owner) → sorted k u rs ≡ true → (p : Findings) → p.rule ≤ 8 → Finds rs p (after rs p)
+  finds : (rs : List Rec) (k : ℕ) (u : Owner) → sorted k u rs ≡ true → (p : FoundSoFar) → p.rule ≤ 8 → Finds rs p (after rs p)
   finds [] k u o p l = unfold records_of keep passed_over in finds_none p
   finds (font m g ∷ rs) k u o p l = font_step m g rs p (finds rs (key (font m g) + 1) (owner_after u (font m g)) (sorted_inv k u (font m g) rs o).rest p l)
   finds (character m b g d ∷ rs) k u o p l =
       let w = sorted_inv k u (character m b g d) rs o in
       go (eqb m n) refl w (finds rs (key (character m b g d) + 1) (owner_after u (character m b g d)) w.rest)
     where
-      go : (t : Bool) → eqb m n ≡ t → Sorted k u (character m b g d) rs → ((p : Findings) → p.rule ≤ 8 → Finds rs p (after rs p)) → Finds (character m b g d ∷ rs) p (after (character m b g d ∷ rs) p)
+      go : (t : Bool) → eqb m n ≡ t → Sorted k u (character m b g d) rs → ((p : FoundSoFar) → p.rule ≤ 8 → Finds rs p (after rs p)) → Finds (character m b g d ∷ rs) p (after (character m b g d ∷ rs) p)
       go true e w ih =
           let i = eqb-true m n e in
           let w' : Sorted k u (character n b g d) rs = subst (λ (x : ℕ). Sorted k u (character x b g d) rs) i w in
@@ -318,7 +317,7 @@ module _ (n : ℕ) (h : List ℕ) where
       go false e w ih = other_step m b g d rs (allowed_char u m b g d w.ok).code (eqb-false m n e) p (ih p l)
 
   -- ── the whole answer
-  module _ (rs : List Rec) (q : Findings) (f : Finds rs nothing_found q) where
+  module _ (rs : List Rec) (q : FoundSoFar) (f : Finds rs nothing_found q) where
     -- rule 3 where a code is still wanted, and where none is
     required_below : (c : ℕ) → c < q.wanted → c ≤ last_code → has_character h c (at rs c) ≡ true
     required_below c l m = go (leb first_required c) refl

@@ -21,9 +21,8 @@ use Rattle.form.specs.Checks.{on_store, checked, finding, on_font}
 use Rattle.form.specs.Order.{find_record, character_at}
 use Rattle.store.specs.Calls.{kept_of, data_of}
 use Rattle.stream.specs.Written.{WriteOut, unwritten, writing_font}
-use Rattle.profile.specs.declared.pass.RuleBroken.{RuleBroken}
 use Rattle.profile.specs.declared.check.ProfileChecked.{ProfileChecked}
-use Rattle.profile.specs.Profile.{unchecked, checked_as, checking_profile, meets, writing_profiled, is_whole, complete, left_inside, right_inside, height_inside, advances_by_pitch, of_each, rules, broken_in, none_broken, rule_at, BreaksFirst, Breaks, other_type, proportional, absent, incomplete, left_of_cell, right_of_cell, right_from_left, above_cell, other_advance, BrokenFirst, NoneBroken, FoundByNumbers}
+use Rattle.profile.specs.Profile.{RuleBroken, unchecked, checked_as, checking_profile, meets, writing_profiled, is_whole, complete, left_inside, right_inside, height_inside, advances_by_pitch, of_each, rules, broken_in, none_broken, rule_at, BreaksFirst, Breaks, other_type, proportional, absent, incomplete, left_of_cell, right_of_cell, right_from_left, above_cell, other_advance, BrokenFirst, NoneBroken, FoundByNumbers}
 use Rattle.profile.proofs.Characters.{right_low, right_high, negative_range}
 use Rattle.profile.proofs.Search.{rules_hold, breaks_first, all_held}
 

@@ -9,8 +9,7 @@ use borrow.Author.Tests.{eqb-true, eqb-false}
 use lib.Dec.{eqb}
 use Rattle.form.specs.Layout.{last_code}
 use Rattle.form.specs.Model.{Rec}
-use Rattle.profile.specs.declared.pass.RuleBroken.{RuleBroken}
-use Rattle.profile.specs.Profile.{Rule, rule_at, lowest_breaking, none_broken, broken_or, first_broken, BreaksFirst}
+use Rattle.profile.specs.Profile.{RuleBroken, Rule, rule_at, lowest_breaking, none_broken, broken_or, first_broken, BreaksFirst}
 
 -- ── one rule over the codes
 -- a test that holds at each of n codes from c on

@@ -14,7 +14,6 @@ use Rattle.form.specs.Order.{character_at}
 use Rattle.form.specs.Checks.{checked, on_font}
 use Rattle.store.specs.Calls.{kept_of, data_of}
 use Rattle.stream.specs.Written.{WriteOut, unwritten, written, writing_bytes}
-use Rattle.profile.specs.declared.pass.RuleBroken.{RuleBroken}
 use Rattle.profile.specs.declared.check.ProfileChecked.{ProfileChecked}
 
 -- what a rule asks at code c of a font with the header h, where o is the character of that code, if one is kept
@@ -85,6 +84,11 @@ rules = of_type_zero ∷ fixed_spaced ∷ has_character ∷ character_rules
 unfoldable pub lowest_breaking : (ℕ → Bool) → ℕ → ℕ → Option ℕ
 lowest_breaking t c zero = none
 lowest_breaking t c (suc n) = cond (t c) (lowest_breaking t (c + 1) n) (some c)
+
+-- a rule by its number, and a code that breaks it
+pub record RuleBroken : Type 0 where
+  pub rule : ℕ
+  pub code : ℕ
 
 -- "'meets the profile' (rule 0, code 0)"
 abbrev pub none_broken : RuleBroken

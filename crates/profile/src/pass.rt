@@ -4,49 +4,34 @@ ghost use Rattle.blocks.specs.Header.{header_bytes};
 ghost use Rattle.blocks.specs.Character.{descriptor_bytes};
 ghost use Rattle.form.specs.Layout.{last_code};
 ghost use Rattle.form.specs.Model.{Rec, held_of};
-ghost use Rattle.form.specs.Records.{records_at, RecordPlace, MetAt, Between};
-ghost use Rattle.profile.specs.Profile.{is_whole, none_broken};
-ghost use Rattle.profile.specs.Pass.{next_wanted, behind_character, behind_record, passed_over, nothing_found, found_broken, broken_with, broken_among};
+ghost use Rattle.form.specs.Records.{Between};
+ghost use Rattle.form.specs.RecordsLeft.{record_of, records_left, RecordKept, RunsOn};
+ghost use Rattle.profile.specs.Profile.{is_whole};
+ghost use Rattle.profile.specs.Pass.{as_told, numbers_or_8, found_numbers, number_or_8, next_wanted, first_broken_of, behind_character, behind_record, passed_over, nothing_found, found_broken, broken_with, broken_among};
 
 use crate::rules;
+use crate::rules::ProfileRule;
 use blocks::{character, header};
-use form::records;
-use form::records::Met;
+use form::records::{Record, Records};
 
 // The codes that a font must have.
 const FIRST_REQUIRED: u32 = 32;
 
 const LAST_REQUIRED: u32 = 127;
 
-const LAST_RULE: u32 = 7;
-
-// The first broken rule and the lowest code that breaks it; 0 and 0, if none is broken.
-#[derive(Clone, Copy)]
-pub struct RuleBroken {
-    pub rule: u32,
+// A broken rule, and the lowest code that breaks it.
+#[derive(Clone, Copy, Debug, PartialEq, Eq)]
+pub struct BrokenRule {
+    pub rule: ProfileRule,
     pub code: u32,
 }
 
-// What a pass has found: the lowest required code that has no complete character yet (or one above them, if all have), and of the rules 4 to 7 the first broken one with the
-// lowest code that breaks it.
+// What a pass has found: the lowest required code that has no complete character yet (or one above them, if all have), and of the rules on a character's kept bytes
+// the first that is broken.
 #[derive(Clone, Copy)]
 pub struct Findings {
     pub wanted: u32,
-    pub rule: u32,
-    pub code: u32,
-}
-
-// The findings behind a record, and the place behind it.
-#[derive(Clone, Copy)]
-struct RecordPassed {
-    findings: Findings,
-    next: usize,
-}
-
-fn none_broken() -> RuleBroken
-    ensures { result ≡ none_broken }
-{
-    RuleBroken { rule: 0, code: 0 }
+    pub broken: Option<BrokenRule>,
 }
 
 // Data is looked at where the code is the one that is wanted, and required.
@@ -64,125 +49,108 @@ fn next_wanted(wanted: u32, code: u32, k: &[u8], d: &[u8]) -> u32
     }
 }
 
-// Behind a character with the kept bytes k and the data d.
+// The first broken rule after a character that breaks this one: codes rise, so that of two characters that break a rule the earlier has the lower code.
+fn first_broken_of(
+    so_far: Option<BrokenRule>,
+    rule: Option<ProfileRule>,
+    code: u32,
+) -> Option<BrokenRule>
+    ensures { numbers_or_8 result ≡ first_broken_of (numbers_or_8 so_far) (number_or_8 rule) code }
+{
+    match (so_far, rule) {
+        (Some(b), Some(r)) => {
+            if r < b.rule {
+                Some(BrokenRule { rule: r, code })
+            } else {
+                so_far
+            }
+        }
+        (None, Some(r)) => Some(BrokenRule { rule: r, code }),
+        (_, None) => so_far,
+    }
+}
+
+// After a character with the kept bytes k and the data d.
 fn behind_character(h: &[u8], p: Findings, code: u32, k: &[u8], d: &[u8]) -> Findings
     requires { (header_bytes ≤ length h.now) × (code ≤ last_code) × (descriptor_bytes ≤ length k.now) }
-    ensures { result ≡ behind_character h.now p code k.now d.now }
+    ensures { found_numbers result ≡ behind_character h.now (found_numbers p) code k.now d.now }
 {
-    let wanted = next_wanted(p.wanted, code, k, d);
-    let rule = rules::broken_by(h, k);
-    if rule < p.rule {
-        return Findings { wanted, rule, code };
-    }
     Findings {
-        wanted,
-        rule: p.rule,
-        code: p.code,
+        wanted: next_wanted(p.wanted, code, k, d),
+        broken: first_broken_of(p.broken, rules::broken_by(h, k), code),
     }
 }
 
-// Behind the record at a place of the run.
-fn pass_record(s: &[u8], h: &[u8], at: usize, p: Findings) -> RecordPassed
-    requires { RecordPlace s.now at × (records_at s.now at ≡ [] → ⊥) × (header_bytes ≤ length h.now) }
-    ensures { (r : Rec) × MetAt s.now at r result.next × (result.findings ≡ behind_record h.now p r) }
+// After a record.
+fn pass_record(h: &[u8], p: Findings, r: Record<'_>) -> Findings
+    requires { RecordKept r × (header_bytes ≤ length h.now) }
+    ensures { found_numbers result ≡ behind_record h.now (found_numbers p) (record_of r.entry) }
 {
-    match records::next_record(s, at) {
-        Met::Font {
-            number: _,
-            kept: _,
-            next,
-        } => RecordPassed { findings: p, next },
-        Met::Character {
-            number: _,
-            code,
-            kept,
-            bytes,
-            next,
-        } => {
-            let end = kept + character::KEPT;
-            let findings = behind_character(h, p, code, &s[kept..end], &s[bytes..next]);
-            RecordPassed { findings, next }
+    match r {
+        Record::Font { .. } => p,
+        Record::Character { code, bytes, .. } => {
+            let (kept, data) = bytes.split_at(character::KEPT);
+            behind_character(h, p, code, kept, data)
         }
-        Met::End => RecordPassed {
-            findings: p,
-            next: at,
-        },
     }
 }
 
-// The records from one place up to another, of a font with the header h.
-fn pass_records(s: &[u8], h: &[u8], lo: usize, hi: usize) -> Findings
-    requires { ((rs : List Rec) × Between s.now lo hi rs) × (header_bytes ≤ length h.now) }
-    ensures { (rs : List Rec) → Between s.now lo hi rs → result ≡ passed_over rs h.now nothing_found }
+// The records of a font with the header h.
+fn pass_records(h: &[u8], records: Records<'_>) -> Findings
+    requires { RunsOn records × (header_bytes ≤ length h.now) }
+    ensures { found_numbers result ≡ passed_over (records_left records.entry) h.now nothing_found }
 {
     let mut p = Findings {
         wanted: FIRST_REQUIRED,
-        rule: rules::NO_RULE,
-        code: 0,
+        broken: None,
     };
-    let mut at = lo;
-    while at < hi {
-        let x = pass_record(s, h, at, p);
-        p = x.findings;
-        at = x.next;
+    for record in records {
+        p = pass_record(h, p, record);
     }
     p
 }
 
-// The first broken rule of those from 3 on.
-fn found_broken(p: Findings) -> RuleBroken
-    ensures { result ≡ found_broken p }
+// The first broken rule of those that look at characters.
+fn found_broken(p: Findings) -> Option<BrokenRule>
+    ensures { as_told result ≡ found_broken (found_numbers p) }
 {
     if p.wanted <= LAST_REQUIRED {
-        return RuleBroken {
-            rule: 3,
+        return Some(BrokenRule {
+            rule: ProfileRule::CodesComplete,
             code: p.wanted,
-        };
+        });
     }
-    if p.rule <= LAST_RULE {
-        return RuleBroken {
-            rule: p.rule,
-            code: p.code,
-        };
-    }
-    none_broken()
+    p.broken
 }
 
-// A font with the header h, whose characters stand from one place up to another.
-fn broken_with(s: &[u8], h: &[u8], lo: usize, hi: usize) -> RuleBroken
-    requires { ((rs : List Rec) × Between s.now lo hi rs) × (header_bytes ≤ length h.now) }
-    ensures { (rs : List Rec) → Between s.now lo hi rs → result ≡ broken_with h.now rs }
+// A font with the header h, whose characters are these records.
+fn broken_with(h: &[u8], records: Records<'_>) -> Option<BrokenRule>
+    requires { RunsOn records × (header_bytes ≤ length h.now) }
+    ensures { as_told result ≡ broken_with h.now (records_left records.entry) }
 {
     if header::font_type(h) != 0 {
-        return RuleBroken { rule: 1, code: 0 };
+        return Some(BrokenRule {
+            rule: ProfileRule::TypeZero,
+            code: 0,
+        });
     }
     if header::spacing(h) != 0 {
-        return RuleBroken { rule: 2, code: 0 };
+        return Some(BrokenRule {
+            rule: ProfileRule::FixedSpacing,
+            code: 0,
+        });
     }
-    found_broken(pass_records(s, h, lo, hi))
+    found_broken(pass_records(h, records))
 }
 
 // A font whose records stand from one place up to another.
-pub(crate) fn broken_among(s: &[u8], lo: usize, hi: usize) -> RuleBroken
+pub(crate) fn broken_among(s: &[u8], lo: usize, hi: usize) -> Option<BrokenRule>
     requires { ((rs : List Rec) × Between s.now lo hi rs) × (lo < hi) }
-    ensures { (rs : List Rec) → Between s.now lo hi rs → result ≡ broken_among rs }
+    ensures { (rs : List Rec) → Between s.now lo hi rs → as_told result ≡ broken_among rs }
 {
-    match records::next_record(s, lo) {
-        Met::Font {
-            number: _,
-            kept,
-            next,
-        } => {
-            let end = kept + header::KEPT;
-            broken_with(s, &s[kept..end], next, hi)
-        }
-        Met::Character {
-            number: _,
-            code: _,
-            kept: _,
-            bytes: _,
-            next: _,
-        } => none_broken(),
-        Met::End => none_broken(),
+    let mut records = Records::between(s, lo, hi);
+    match records.next()? {
+        Record::Font { kept, .. } => broken_with(kept, records),
+        Record::Character { .. } => None,
     }
 }

@@ -16,8 +16,8 @@ use Rattle.stream.specs.Reading.{font_block, character_block, number_set, downlo
 use Rattle.stream.specs.declared.command.Command.{Command}
 use Rattle.stream.specs.declared.command.Command.TheVariants.{SetFont, SetCode, FontBlock, CharacterBlock, Broken, End}
 use Rattle.stream.specs.declared.command.NumberRead.{NumberRead}
-use Rattle.stream.specs.declared.reading.Ending.{Ending}
-use Rattle.stream.specs.declared.reading.Ending.TheVariants.{AtEnd, BrokenAt}
+use Rattle.stream.specs.Reading.{Ending}
+use Rattle.std.specs.Prelude.{None, Some}
 use Rattle.stream.specs.declared.reading.Target.{Target}
 use Rattle.stream.proofs.Commands.{command_at_ends, command_past}
 
@@ -211,13 +211,13 @@ at_not_end b at l =
 
 -- ── a stream that is whole, and bytes behind it that break it at once
 abbrev IsEnd : Ending → Type 0
-IsEnd AtEnd = Unit {0}
-IsEnd (BrokenAt p) = ⊥
+IsEnd None = Unit {0}
+IsEnd (Some p) = ⊥
 
 abbrev torn : ℕ → Spelled → Spelled
-torn n s = record { actions = s.actions; ending = BrokenAt n }
+torn n s = record { actions = s.actions; ending = Some n }
 
-whole_by : (b : List ℕ) (f : ℕ → Target → Spelled) (at : ℕ) (t : Target) (x : Command) → NotEnd x → (onward b f at t x).ending ≡ AtEnd → Whole x
+whole_by : (b : List ℕ) (f : ℕ → Target → Spelled) (at : ℕ) (t : Target) (x : Command) → NotEnd x → (onward b f at t x).ending ≡ None → Whole x
 unfolding onward
 whole_by b f at t (SetFont n e) w q = tt
 whole_by b f at t (SetCode n e) w q = tt
@@ -231,8 +231,8 @@ part_front b r a e l h =
     let n : e - a ≤ length (drop a b) = omega (arith, length-drop a b) in
     ap (take (e - a)) (drop-append-le a b r (omega arith)) ∙ take-append-le (e - a) (drop a b) r n
 
-front_step : (b r : List ℕ) (f g : ℕ → Target → Spelled) (at : ℕ) (t : Target) (x : Command) → CommandEnds at (length b) x → Whole x → (onward b f at t x).ending ≡ AtEnd
-    → ((e : ℕ) (u : Target) → at < e → e ≤ length b → (f e u).ending ≡ AtEnd → g e u ≡ torn (length b) (f e u)) → onward (b ++ r) g at t x ≡ torn (length b) (onward b f at t x)
+front_step : (b r : List ℕ) (f g : ℕ → Target → Spelled) (at : ℕ) (t : Target) (x : Command) → CommandEnds at (length b) x → Whole x → (onward b f at t x).ending ≡ None
+    → ((e : ℕ) (u : Target) → at < e → e ≤ length b → (f e u).ending ≡ None → g e u ≡ torn (length b) (f e u)) → onward (b ++ r) g at t x ≡ torn (length b) (onward b f at t x)
 unfolding onward CommandEnds
 front_step b r f g at t (SetFont n e) h w q i = ap (spell (number_set (range_answer 32767 n))) (i e (with_number n t) h.0 h.1 q)
 front_step b r f g at t (SetCode n e) h w q i = ap (spell (number_set (range_answer 255 n))) (i e (with_code n t) h.0 h.1 q)
@@ -251,14 +251,14 @@ front_end b r f g at t e q =
     ∙ sym (ap (λ (x : Command). torn (length b) (onward b f at t x)) (command_past b at (omega (arith, e))))
 
 front_in : (k m : ℕ) (b r : List ℕ) (at : ℕ) (t : Target) → length b - at < k → length b - at < m → at ≤ length b → command_at (b ++ r) (length b) ≡ Broken
-    → (spelled_in k b at t).ending ≡ AtEnd → spelled_in m (b ++ r) at t ≡ torn (length b) (spelled_in k b at t)
+    → (spelled_in k b at t).ending ≡ None → spelled_in m (b ++ r) at t ≡ torn (length b) (spelled_in k b at t)
 unfolding spelled_in
 front_in zero m b r at t p q l c e = absurd (omega arith)
 front_in (suc k) zero b r at t p q l c e = absurd (omega arith)
 front_in (suc k) (suc m) b r at t p q l c e = go (less_or at (length b)) (λ a u i j n. front_in k m b r a u (omega arith) (omega arith) j c n)
   where
     go : (at < length b) ⊎ (length b ≤ at)
-        → ((a : ℕ) (u : Target) → at < a → a ≤ length b → (spelled_in k b a u).ending ≡ AtEnd → spelled_in m (b ++ r) a u ≡ torn (length b) (spelled_in k b a u))
+        → ((a : ℕ) (u : Target) → at < a → a ≤ length b → (spelled_in k b a u).ending ≡ None → spelled_in m (b ++ r) a u ≡ torn (length b) (spelled_in k b a u))
         → onward (b ++ r) (spelled_in m (b ++ r)) at t (command_at (b ++ r) at) ≡ torn (length b) (onward b (spelled_in k b) at t (command_at b at))
     go (inr h) i = let z : at ≡ length b = omega (arith, h, l) in front_end b r (spelled_in k b) (spelled_in m (b ++ r)) at t z c
     go (inl h) i =
@@ -266,8 +266,8 @@ front_in (suc k) (suc m) b r at t p q l c e = go (less_or at (length b)) (λ a u
         ap (λ (x : Command). onward (b ++ r) (spelled_in m (b ++ r)) at t x) (at_front b r at l w)
         ∙ front_step b r (spelled_in k b) (spelled_in m (b ++ r)) at t (command_at b at) (command_at_ends b at) w e i
 
-pub read_before : (b r : List ℕ) (t : Target) → command_at (b ++ r) (length b) ≡ Broken → (spelled_from b 0 t).ending ≡ AtEnd
-    → spelled_from (b ++ r) 0 t ≡ record { actions = (spelled_from b 0 t).actions; ending = BrokenAt (length b) }
+pub read_before : (b r : List ℕ) (t : Target) → command_at (b ++ r) (length b) ≡ Broken → (spelled_from b 0 t).ending ≡ None
+    → spelled_from (b ++ r) 0 t ≡ record { actions = (spelled_from b 0 t).actions; ending = Some (length b) }
 unfolding spelled_from
 read_before b r t c e =
     let n : length b - 0 < suc (length b - 0) = omega arith in

@@ -16,14 +16,13 @@ use Rattle.stream.specs.Underway.{read_on, Underway, ended_of, EndsWithin}
 use Rattle.stream.specs.declared.command.Command.{Command}
 use Rattle.stream.specs.declared.command.Command.TheVariants.{SetFont, SetCode, FontBlock, CharacterBlock, Broken, End}
 use Rattle.stream.specs.declared.reading.CommandCounts.{CommandCounts}
-use Rattle.stream.specs.declared.reading.Ending.{Ending}
-use Rattle.stream.specs.declared.reading.Ending.TheVariants.{AtEnd, BrokenAt}
+use Rattle.stream.specs.Reading.{Ending}
+use Rattle.std.specs.Prelude.{None, Some}
 use Rattle.stream.specs.declared.reading.State.{State}
 use Rattle.stream.specs.declared.reading.Target.{Target}
 use Rattle.stream.proofs.Commands.{command_at_ends, command_past}
-use Rattle.salvage.specs.Salvage.{restart_from, Stretch, Salvage, read_then, skip_then, past_tear, salvage_in, salvage_of, list_of, room_of, Salvaging, salvaged_by, salvaging}
-use Rattle.salvage.specs.Onward.{salvage_from, salvaged_on, going_on, with_both, started_at, stretch_of}
-use Rattle.salvage.specs.declared.Salvaged.{Salvaged}
+use Rattle.salvage.specs.Salvage.{restart_from, Stretch, Salvage, read_then, skip_then, past_tear, salvage_in, salvage_of, list_of, room_of, salvaged_by, salvaging}
+use Rattle.salvage.specs.Onward.{salvage_from, salvaged_on, going_on, started_at, stretch_of}
 use Rattle.form.specs.Num.{low_first}
 use Rattle.form.specs.Cursor.{Points}
 use Rattle.form.specs.Model.{Store, decode}
@@ -38,8 +37,8 @@ use Rattle.salvage.proofs.Eights.{stretch_length}
 
 -- ── a 13 stands within the stream, at or behind the place where the reading began
 abbrev pub Within : ℕ → ℕ → Ending → Type 0
-Within n at AtEnd = Unit {0}
-Within n at (BrokenAt p) = (at ≤ p) × (p < n)
+Within n at None = Unit {0}
+Within n at (Some p) = (at ≤ p) × (p < n)
 
 abbrev Goes : Command → Type 0
 Goes (SetFont n e) = Unit {0}
@@ -57,8 +56,8 @@ broken_within b at q = go (leb (length b) at) refl
     go false h = leb-false _ _ h
 
 later : (n a e : ℕ) (x : Ending) → a ≤ e → Within n e x → Within n a x
-later n a e AtEnd l h = tt
-later n a e (BrokenAt p) l h = (omega (arith, h.0), h.1)
+later n a e None l h = tt
+later n a e (Some p) l h = (omega (arith, h.0), h.1)
 
 step_within : (b : List ℕ) (f : ℕ → Target → Spelled) (at : ℕ) (t : Target) (c : Command) → command_at b at ≡ c → CommandEnds at (length b) c
     → ((e : ℕ) (u : Target) → Within (length b) e (f e u).ending) → Within (length b) at (onward b f at t c).ending
@@ -82,9 +81,9 @@ ending_within b at t = in_within (suc (length b - at)) b at t
 -- ── more fuel changes nothing
 same_tear : (b : List ℕ) (f g : ℕ → ℕ → Salvage) (at room : ℕ) (x : Ending) → Within (length b) at x
     → ((e r : ℕ) → at < e → e ≤ length b → at < length b → f e r ≡ g e r) → past_tear b f room x ≡ past_tear b g room x
-same_tear b f g at room AtEnd h i = refl
-same_tear b f g at zero (BrokenAt p) h i = refl
-same_tear b f g at (suc room) (BrokenAt p) h i =
+same_tear b f g at room None h i = refl
+same_tear b f g at zero (Some p) h i = refl
+same_tear b f g at (suc room) (Some p) h i =
     let w = restart_within b (p + 1) (omega (arith, h.1)) in
     ap (skip_then _) (i (restart_from b (p + 1)) room (omega (arith, h.0, w.0)) w.1 (omega (arith, h.0, h.1)))
 
@@ -121,9 +120,9 @@ no_more zero b at room = omega arith
 no_more (suc k) b at room = go (λ e r. no_more k b e r) room (spelled_from b at first_target).ending
   where
     go : ((e r : ℕ) → length (salvage_in k b e r).stretches ≤ r) → (room : ℕ) (x : Ending) → length (past_tear b (salvage_in k b) room x).stretches ≤ room
-    go f room AtEnd = omega arith
-    go f zero (BrokenAt p) = omega arith
-    go f (suc room) (BrokenAt p) = omega (arith, f (restart_from b (p + 1)) room)
+    go f room None = omega arith
+    go f zero (Some p) = omega arith
+    go f (suc room) (Some p) = omega (arith, f (restart_from b (p + 1)) room)
 
 pub few_stretches : (b : List ℕ) (at room : ℕ) → length (salvage_from b at room).stretches ≤ room
 unfolding salvage_from
@@ -187,32 +186,32 @@ module _ (b s u : List ℕ) (x : State) (r : Stopped) (t : x.target ≡ first_ta
   last_actions : obey_all ((spelled_from b x.at first_target).actions ++ []) before_it ≡ after_it
   last_actions = ap (λ (l : List Action). obey_all l before_it) (append-nil (spelled_from b x.at first_target).actions) ∙ sym progress_is
 
-  pub went_end : (out : List ℕ) (n room : ℕ) → r.ending ≡ AtEnd
+  pub went_end : (out : List ℕ) (n room : ℕ) → r.ending ≡ None
       → going_on b s out n room x ≡ record { refusal = 0; stretches = n; done = r.counts.done; refused = r.counts.refused; store = u; out = out }
-  went_end out n room q = going_is out n room _ (by_ending room AtEnd q) ∙ plain_end [] out n _ after_it last_actions
+  went_end out n room q = going_is out n room _ (by_ending room None q) ∙ plain_end [] out n _ after_it last_actions
 
-  pub went_full : (out : List ℕ) (n room p : ℕ) → r.ending ≡ BrokenAt p → room ≡ 0
+  pub went_full : (out : List ℕ) (n room p : ℕ) → r.ending ≡ Some p → room ≡ 0
       → going_on b s out n room x ≡ record { refusal = 12; stretches = 0; done = 0; refused = 0; store = u; out = out }
   went_full out n room p q z =
-      ap (λ (m : ℕ). going_on b s out n m x) z ∙ going_is out n 0 _ (by_ending 0 (BrokenAt p) q) ∙ plain_full [] out n _ after_it last_actions
+      ap (λ (m : ℕ). going_on b s out n m x) z ∙ going_is out n 0 _ (by_ending 0 (Some p) q) ∙ plain_full [] out n _ after_it last_actions
 
-  pub went_past : (out : List ℕ) (n room p : ℕ) → r.ending ≡ BrokenAt p → (n + suc room) * 16 ≤ length out
+  pub went_past : (out : List ℕ) (n room p : ℕ) → r.ending ≡ Some p → (n + suc room) * 16 ≤ length out
       → going_on b s out n (suc room) x
       ≡ going_on b u (with_bytes out (n * 16) (stretch_of p (restart_from b (p + 1) - p))) (n + 1) room (started_at (restart_from b (p + 1)) r.counts r.bad r.cursor)
   unfolding going_on
   went_past out n room p q l =
       let w = salvage_from b (restart_from b (p + 1)) room in
-      going_is out n (suc room) _ (by_ending (suc room) (BrokenAt p) q)
+      going_is out n (suc room) _ (by_ending (suc room) (Some p) q)
       ∙ plain_on [] (record { first = p; size = restart_from b (p + 1) - p }) w out n _ (obey_all w.actions after_it)
       (obey_append (spelled_from b x.at first_target).actions w.actions before_it ∙ ap (obey_all w.actions) (sym progress_is))
       (omega (arith, few_stretches b (restart_from b (p + 1)) room))
 
 -- the place of a 13, and the state behind the stretch
-pub torn_at_lem : (n : ℕ) (k : CommandCounts) (e : Ending) (p : ℕ) → e ≡ BrokenAt p → EndsWithin n k e → (k.done + k.refused ≤ p) × (p < n)
+pub torn_at_lem : (n : ℕ) (k : CommandCounts) (e : Ending) (p : ℕ) → e ≡ Some p → EndsWithin n k e → (k.done + k.refused ≤ p) × (p < n)
 unfolding EndsWithin
 torn_at_lem n k e p q h = subst (EndsWithin n k) q h
 
-pub started_under : (b u : List ℕ) (r : Stopped) (p : ℕ) → r.ending ≡ BrokenAt p → EndsWithin (length b) r.counts r.ending × Points u r.cursor
+pub started_under : (b u : List ℕ) (r : Stopped) (p : ℕ) → r.ending ≡ Some p → EndsWithin (length b) r.counts r.ending × Points u r.cursor
     → Underway (length b) u (started_at (restart_from b (p + 1)) r.counts r.bad r.cursor)
 started_under b u r p q h =
     let w = torn_at_lem (length b) r.counts r.ending p q h.0 in
@@ -221,7 +220,7 @@ started_under b u r p q h =
 
 -- the turn of the loop
 pub went_on : (b s u out new : List ℕ) (n room p k : ℕ) (x y : State) (r : Stopped) → x.target ≡ first_target → ended_of r u ≡ read_on b s x
-    → EndsWithin (length b) r.counts r.ending × Points u r.cursor → r.ending ≡ BrokenAt p → 0 < room → (n + room) * 16 ≤ length out → k ≡ restart_from b (p + 1)
+    → EndsWithin (length b) r.counts r.ending × Points u r.cursor → r.ending ≡ Some p → 0 < room → (n + room) * 16 ≤ length out → k ≡ restart_from b (p + 1)
     → new ≡ with_bytes out (n * 16) (stretch_of p (restart_from b (p + 1) - p)) → y ≡ started_at k r.counts r.bad r.cursor
     → Underway (length b) u y × (y.target ≡ first_target) × (going_on b u new (n + 1) (room - 1) y ≡ going_on b s out n room x)
 went_on b s u out new n room p k x y r t h w q z l e f i =
@@ -231,9 +230,6 @@ went_on b s u out new n room p k x y r t h w q z l e f i =
       ap (λ (a : State). a.target) j,
       ap₂ (λ (a : List ℕ) (c : State). going_on b u a (n + 1) (room - 1) c) f j ∙ sym (went_past b s u x r t h out n (room - 1) p q (omega arith)) ∙ ap (λ (a : ℕ). going_on b s out n a x) m,
     )
-
-pub answered : {r q : Salvaged} {s out : List ℕ} {w : Salvaging} → r ≡ q → with_both q s out ≡ w → with_both r s out ≡ w
-answered e h = rw e h
 
 -- ── the whole
 pub salvage_not : (b out s : List ℕ) → decode s ≡ none → salvaging b out s ≡ record { refusal = 1; stretches = 0; done = 0; refused = 0; store = s; out = out }

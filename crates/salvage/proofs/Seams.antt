@@ -10,8 +10,8 @@ use Rattle.stream.specs.Command.{command, moved_by, command_at}
 use Rattle.stream.specs.Reading.{font_block, character_block, number_set, download, Spelled, spell, part, onward, spelled_in, spelled_from, with_number, with_code, range_answer}
 use Rattle.stream.specs.declared.command.Command.{Command}
 use Rattle.stream.specs.declared.command.Command.TheVariants.{SetFont, SetCode, FontBlock, CharacterBlock, Broken, End}
-use Rattle.stream.specs.declared.reading.Ending.{Ending}
-use Rattle.stream.specs.declared.reading.Ending.TheVariants.{AtEnd, BrokenAt}
+use Rattle.stream.specs.Reading.{Ending}
+use Rattle.std.specs.Prelude.{None, Some}
 use Rattle.stream.specs.declared.reading.Target.{Target}
 
 -- ── what stands behind a seam
@@ -35,8 +35,8 @@ unfolding command_at
 seam pre c i = rw (drop-append-add pre c i) (moved_twice (length pre) i (command (drop i c)))
 
 abbrev pub later : ℕ → Ending → Ending
-later a AtEnd = AtEnd
-later a (BrokenAt p) = BrokenAt (a + p)
+later a None = None
+later a (Some p) = Some (a + p)
 
 abbrev pub shifted : ℕ → Spelled → Spelled
 shifted a s = record { actions = s.actions; ending = later a s.ending }

@@ -1,5 +1,7 @@
 -- For the code alone: a salvage reading under way.
-use Rattle.std.specs.Prelude.{ℕ, suc, ◌+◌, ◌-◌, ◌*◌, List, ◌++◌, cond, length}
+use Rattle.std.specs.Prelude.{ℕ, suc, ◌+◌, ◌-◌, ◌*◌, List, ◌++◌, Result, Ok, Err, cond, length}
+use Rattle.refusals.specs.Refusals.{numbered_result}
+use Rattle.refusals.specs.declared.Refused.{Refused}
 use Rattle.form.specs.Num.{low_first}
 use Rattle.form.specs.declared.locate.Cursor.{Cursor}
 use Rattle.store.specs.declared.download.BadRun.{BadRun}
@@ -8,7 +10,7 @@ use Rattle.stream.specs.Reading.{Progress, first_target, obey_all}
 use Rattle.stream.specs.declared.reading.CommandCounts.{CommandCounts}
 use Rattle.stream.specs.declared.reading.State.{State}
 use Rattle.salvage.specs.Salvage.{Salvage, salvage_in, stretch_bytes, list_of, Salvaging}
-use Rattle.salvage.specs.declared.Salvaged.{Salvaged}
+use Rattle.salvage.specs.declared.SalvageCounts.{SalvageCounts}
 
 -- what is read and skipped from a place on
 unfoldable pub salvage_from : List ℕ → ℕ → ℕ → Salvage
@@ -31,9 +33,13 @@ unfoldable pub going_on : List ℕ → List ℕ → List ℕ → ℕ → ℕ →
 going_on b s out n room x =
     salvaged_on (salvage_from b x.at room) out n (obey_all (salvage_from b x.at room).actions (record { counts = x.counts; bad = x.bad; bytes = s }))
 
--- the code's answer with the store and the list
-abbrev pub with_both : Salvaged → List ℕ → List ℕ → Salvaging
-with_both r s out = record { refusal = r.refusal; stretches = r.stretches; done = r.done; refused = r.refused; store = s; out = out }
+-- the code's result with the store and the list
+abbrev pub both_by : Result SalvageCounts ℕ → List ℕ → List ℕ → Salvaging
+both_by (Ok r) s out = record { refusal = 0; stretches = r.stretches; done = r.counts.done; refused = r.counts.refused; store = s; out = out }
+both_by (Err k) s out = record { refusal = k; stretches = 0; done = 0; refused = 0; store = s; out = out }
+
+abbrev pub with_both : Result SalvageCounts Refused → List ℕ → List ℕ → Salvaging
+with_both r s out = both_by (numbered_result r) s out
 
 -- "start there as a fresh reading would": number and code 0; the counts and the cursor are carried on
 abbrev pub started_at : ℕ → CommandCounts → BadRun → Cursor → State

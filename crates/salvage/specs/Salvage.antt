@@ -12,8 +12,8 @@ use Rattle.stream.specs.Reading.{Action, Download, Progress, first_target, none_
 use Rattle.stream.specs.Downloads.{downloads_in, made_all}
 use Rattle.stream.specs.declared.command.Command.{Command}
 use Rattle.stream.specs.declared.command.Command.TheVariants.{SetFont, SetCode, FontBlock, CharacterBlock, Broken, End}
-use Rattle.stream.specs.declared.reading.Ending.{Ending}
-use Rattle.stream.specs.declared.reading.Ending.TheVariants.{AtEnd, BrokenAt}
+use Rattle.stream.specs.Reading.{Ending}
+use Rattle.std.specs.Prelude.{None, Some}
 
 -- "a whole ESC *c#D command stands with a number within range"; "Such bytes inside picture data count too."
 abbrev pub restarts : Command → Bool
@@ -51,9 +51,9 @@ skip_then t x = record { actions = x.actions; stretches = t ∷ x.stretches; ful
 
 -- a reading ended so, where the list has room for so many stretches; `onward` goes on from a place with room for so many more
 abbrev pub past_tear : List ℕ → (ℕ → ℕ → Salvage) → ℕ → Ending → Salvage
-past_tear b onward room AtEnd = record { actions = []; stretches = []; full = false }
-past_tear b onward zero (BrokenAt p) = record { actions = []; stretches = []; full = true }
-past_tear b onward (suc room) (BrokenAt p) =
+past_tear b onward room None = record { actions = []; stretches = []; full = false }
+past_tear b onward zero (Some p) = record { actions = []; stretches = []; full = true }
+past_tear b onward (suc room) (Some p) =
     -- "go to the first later place .., start there as a fresh reading would"
     skip_then (record { first = p; size = restart_from b (p + 1) - p }) (onward (restart_from b (p + 1)) room)
 

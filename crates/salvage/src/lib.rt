@@ -11,20 +11,17 @@ ghost use Rattle.salvage.specs.Salvage.{restart_from, room_of, stretch_bytes, sa
 ghost use Rattle.salvage.specs.Onward.{going_on, with_both, started_at, stretch_of};
 
 use form::locate::Cursor;
+use refusals::Refused;
 use store::download::BadRun;
 use store::known;
-use store::known::Opened;
 use stream::reading;
-use stream::reading::{CommandCounts, Ending, State, Target};
+use stream::reading::{CommandCounts, State, Target};
 
-// The refusal, the stretches listed, and the commands done and refused.
-#[repr(C)]
+// What a reading past torn places came to: the stretches listed, and the commands done and refused.
 #[derive(Clone, Copy)]
-pub struct Salvaged {
-    pub refusal: u32,
+pub struct SalvageCounts {
     pub stretches: u64,
-    pub done: u64,
-    pub refused: u64,
+    pub counts: CommandCounts,
 }
 
 // The bytes of a stretch in the list: its first place and its length.
@@ -37,8 +34,8 @@ fn skip(stream: &[u8], list: &mut [u8], at: usize, first: usize) -> usize
     ensures list_after { list.new ≡ with_bytes list.old at (stretch_of first (restart_from stream.now (first + 1) - first)) }
 {
     let next = search::next_restart(stream, first + 1);
-    change::put64(list, at, first);
-    change::put64(list, at + 8, next - first);
+    change::put::<8>(list, at, first);
+    change::put::<8>(list, at + 8, next - first);
     next
 }
 
@@ -46,79 +43,55 @@ fn skip(stream: &[u8], list: &mut [u8], at: usize, first: usize) -> usize
 fn start_at(at: usize, counts: CommandCounts, bad: BadRun, cursor: Cursor) -> State
     ensures { result ≡ started_at at counts bad cursor }
 {
-    let target = Target { font: 0, code: 0 };
     State {
-        at: at,
-        target: target,
-        counts: counts,
-        bad: bad,
-        cursor: cursor,
-    }
-}
-
-fn refused(k: u32) -> Salvaged
-    ensures { result ≡ record { refusal = k; stretches = 0; done = 0; refused = 0 } }
-{
-    Salvaged {
-        refusal: k,
-        stretches: 0,
-        done: 0,
-        refused: 0,
+        at,
+        target: Target::default(),
+        counts,
+        bad,
+        cursor,
     }
 }
 
 // Reads on from a state past every torn place, as long as the list has room.
-fn salvage_from(s: &mut [u8], stream: &[u8], list: &mut [u8], from: State) -> Salvaged
+fn salvage_from(
+    s: &mut [u8],
+    stream: &[u8],
+    list: &mut [u8],
+    from: State,
+) -> Result<SalvageCounts, Refused>
     requires { Underway (length stream.now) s.old from × (from.target ≡ first_target) }
     ensures { with_both result s.new list.new ≡ going_on stream.now s.old list.old 0 (room_of (length list.old)) from }
 {
     let mut x = from;
     let mut n = 0;
-    let mut room = list.len() / STRETCH_BYTES;
+    let room = list.len() / STRETCH_BYTES;
+    // It ends with the stream, or at a tear past the list's room.
     loop {
         let last = reading::read_from(s, stream, x);
-        let ending = last.ending;
-        let counts = last.counts;
-        let bad = last.bad;
-        let cursor = last.cursor;
-        match ending {
-            Ending::AtEnd => {
-                return Salvaged {
-                    refusal: 0,
-                    stretches: n as u64,
-                    done: counts.done,
-                    refused: counts.refused,
-                };
-            }
-            Ending::BrokenAt(first) => {
-                if room == 0 {
-                    return refused(12);
-                }
-                let next = skip(stream, list, n * STRETCH_BYTES, first);
-                n += 1;
-                room -= 1;
-                x = start_at(next, counts, bad, cursor);
-            }
+        let Some(first) = last.ending else {
+            return Ok(SalvageCounts {
+                stretches: n as u64,
+                counts: last.counts,
+            });
+        };
+        if n == room {
+            return Err(Refused::OutputShort);
         }
+        let next = skip(stream, list, n * STRETCH_BYTES, first);
+        n += 1;
+        x = start_at(next, last.counts, last.bad, last.cursor);
     }
 }
 
 // Reads a stream past its torn places: lists every stretch that was skipped, and answers how many, with the commands done and refused.
-pub fn salvage_stream(s: &mut [u8], stream: &[u8], list: &mut [u8]) -> Salvaged
+pub fn salvage_stream(
+    s: &mut [u8],
+    stream: &[u8],
+    list: &mut [u8],
+) -> Result<SalvageCounts, Refused>
     ensures { with_both result s.new list.new ≡ salvaging stream.now list.old s.old }
 {
-    let Opened::At(cursor) = known::open_store(s) else {
-        return refused(1);
-    };
-    let none = CommandCounts {
-        done: 0,
-        refused: 0,
-    };
-    let no_run = BadRun {
-        row: 0,
-        filled: 0,
-        run: 0,
-    };
-    let first = start_at(0, none, no_run, cursor);
+    let cursor = known::open_store(s).ok_or(Refused::NotStore)?;
+    let first = start_at(0, CommandCounts::default(), BadRun::default(), cursor);
     salvage_from(s, stream, list, first)
 }

@@ -12,14 +12,7 @@ use stream::command::{Command, ESC};
 fn restarts(c: Command) -> bool
     ensures { result ≡ restarts c }
 {
-    match c {
-        Command::SetFont { number, next } => number <= LAST_FONT_ASKED,
-        Command::SetCode { number, next } => false,
-        Command::FontBlock { from, to } => false,
-        Command::CharacterBlock { from, to } => false,
-        Command::Broken => false,
-        Command::End => false,
-    }
+    matches!(c, Command::SetFont { number, .. } if number <= LAST_FONT_ASKED)
 }
 
 // The first place from `from` up to `to` where a reading may start again, or `to`.
@@ -27,17 +20,15 @@ fn first_in(stream: &[u8], from: usize, to: usize) -> usize
     requires { (from ≤ to) × (to ≤ length stream.now) }
     ensures { (result ≤ to) × (restart_from stream.now result ≡ restart_from stream.now from) × (result < to → restarts (command_at stream.now result) ≡ true) }
 {
-    let mut i = from;
-    while i < to {
+    for i in from..to {
         if restarts(command::read_command(stream, i)) {
             return i;
         }
-        i += 1;
     }
-    i
+    to
 }
 
-// Whether these bytes may be the first of a font number: ESC, *, c and a digit.
+// Whether these bytes may be the first of a font number: ESC, *, c and a digit. All is compared, so that many places are tested at once.
 fn may_start(a: u8, b: u8, c: u8, d: u8) -> bool
     ensures { result ≡ may_start a b c d }
 {
@@ -52,10 +43,8 @@ fn none_start(s: &[u8]) -> bool
     ensures { result ≡ none_start (length s.now - 3) s.now }
 {
     let mut none = true;
-    let mut i = AFTER_ESC;
-    while i < s.len() {
-        none = none & !may_start(s[i - 3], s[i - 2], s[i - 1], s[i]);
-        i += 1;
+    for i in AFTER_ESC..s.len() {
+        none &= !may_start(s[i - 3], s[i - 2], s[i - 1], s[i]);
     }
     none
 }
@@ -80,14 +69,13 @@ pub fn next_restart(stream: &[u8], at: usize) -> usize
     requires { at ≤ length stream.now }
     ensures { result ≡ restart_from stream.now at }
 {
-    let mut i = at;
-    while AT_ONCE + AFTER_ESC <= stream.len() - i {
-        let next = i + AT_ONCE;
-        let first = among_many(stream, i);
-        if first < next {
+    let groups = (stream.len() - at).saturating_sub(AFTER_ESC) / AT_ONCE;
+    for k in 0..groups {
+        let from = at + k * AT_ONCE;
+        let first = among_many(stream, from);
+        if first < from + AT_ONCE {
             return first;
         }
-        i = next;
     }
-    first_in(stream, i, stream.len())
+    first_in(stream, at + groups * AT_ONCE, stream.len())
 }

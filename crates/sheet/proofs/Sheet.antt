@@ -1,5 +1,6 @@
 -- Laws of a sheet: its checks, and its answers one after the other. Assumes nothing.
 use Prim.Native.Nat.{ℕ, zero, suc, ◌+◌, ◌<◌, ◌≤◌}
+use Rattle.std.specs.Prelude.{Option as Optional, Some, None}
 use mathlib.Core.Path.{◌≡◌, refl, sym, ◌∙◌, ap}
 use mathlib.Core.Bool.{Bool, true, false}
 use mathlib.Core.List.{List, [], ◌∷◌, ◌++◌}
@@ -11,41 +12,34 @@ use borrow.Author.Tests.{le-leb, lt-leb, leb-true}
 use Rattle.form.specs.Checks.{checked}
 use Rattle.form.specs.Records.{is_store, Begun}
 use Rattle.form.specs.Fonts.{fonts_of}
-use Rattle.form.specs.declared.records.Begin.{Begin}
-use Rattle.form.specs.declared.records.Begin.TheVariants.{At, NotStore}
 use Rattle.choice.specs.Candidates.{candidates}
 use Rattle.choice.specs.Choosing.{choosing_among, choosing}
 use Rattle.choice.specs.declared.Request.{Request}
-use Rattle.choice.specs.declared.Chosen.{Chosen}
+use Rattle.choice.specs.Steps.{Choice}
 use Rattle.sheet.specs.Sheet.{Sheet, answer_of, entries, most_requests, sheet_refusal, unanswered, all_answered, choosing_sheet, EntryIs}
 use Rattle.sheet.specs.declared.SheetAnswer.{SheetAnswer}
 
 -- ── the checks, by where the fonts begin
-abbrev pub Starts : List ℕ → ℕ → ℕ → ℕ → ℕ → Type 0
-Starts s n m k from = (k ≡ sheet_refusal s n m) × (k ≡ 0 → Begun s (At from))
-
-module _ (s : List ℕ) (v : Begin) (h : Begun s v) (n m : ℕ) where
-  pub no_store : v ≡ NotStore → Starts s n m 1 0
+module _ (s : List ℕ) (v : Optional ℕ) (h : Begun s v) (n m : ℕ) where
+  pub no_store : v ≡ None → 1 ≡ sheet_refusal s n m
   unfolding sheet_refusal
-  no_store e =
-      let f : Begun s NotStore = rw e at h in
-      (rw f, λ z. absurd (omega (arith, z)))
+  no_store e = let f : Begun s None = rw e at h in rw f
 
-  module _ (p : ℕ) (e : v ≡ At p) where
-    begun : Begun s (At p)
+  module _ (p : ℕ) (e : v ≡ Some p) where
+    pub begun : Begun s (Some p)
     begun = rw e at h
 
-    pub too_many : most_requests < n → Starts s n m 2 0
+    pub too_many : most_requests < n → 2 ≡ sheet_refusal s n m
     unfolding sheet_refusal
-    too_many l = (rw (begun.0, lt-leb n most_requests l), λ z. absurd (omega (arith, z)))
+    too_many l = rw (begun.0, lt-leb n most_requests l)
 
-    pub no_room : n ≤ most_requests → m < n → Starts s n m 12 0
+    pub no_room : n ≤ most_requests → m < n → 12 ≡ sheet_refusal s n m
     unfolding sheet_refusal
-    no_room l k = (rw (begun.0, le-leb n most_requests l, lt-leb n m k), λ z. absurd (omega (arith, z)))
+    no_room l k = rw (begun.0, le-leb n most_requests l, lt-leb n m k)
 
-    pub taken : n ≤ most_requests → n ≤ m → Starts s n m 0 p
+    pub taken : n ≤ most_requests → n ≤ m → 0 ≡ sheet_refusal s n m
     unfolding sheet_refusal
-    taken l k = (rw (begun.0, le-leb n most_requests l, le-leb n m k), λ z. begun)
+    taken l k = rw (begun.0, le-leb n most_requests l, le-leb n m k)
 
 -- a sheet that is taken has at most 64 requests, and room for each answer
 pub room_for : (s : List ℕ) (n m : ℕ) → sheet_refusal s n m ≡ 0 → (n ≤ most_requests) × (n ≤ m)
@@ -90,7 +84,7 @@ entry_is s rs out q i d e l =
     rw (sym (h.2 (sym h.0 ∙ q))) (entry_among s rs (drop (length rs) out) i d e l)
 
 -- the answer to a request, on a buffer that is known to be a store
-pub on_store : (s : List ℕ) (r : Request) (p : ℕ) → Begun s (At p) → (x : Chosen) → x ≡ choosing_among (candidates true (fonts_of s)) r → (a : SheetAnswer) → a ≡ answer_of x → a ≡ answer_of (choosing s r)
+pub on_store : (s : List ℕ) (r : Request) (p : ℕ) → Begun s (Some p) → (x : Choice) → x ≡ choosing_among (candidates true (fonts_of s)) r → (a : SheetAnswer) → a ≡ answer_of x → a ≡ answer_of (choosing s r)
 unfolding choosing
 on_store s r p h x f a g = rw h.0 (g ∙ ap answer_of f)
 

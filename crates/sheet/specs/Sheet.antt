@@ -2,13 +2,13 @@
 use Rattle.std.specs.Prelude.{ℕ, ◌<◌, ◌≡◌, List, [], ◌∷◌, ◌++◌, leb, length, drop, get_or}
 use Rattle.form.specs.Checks.{checked}
 use Rattle.form.specs.Records.{is_store}
+use Rattle.choice.specs.Steps.{Choice}
 use Rattle.choice.specs.Choosing.{choosing, refusal_of, font_of}
 use Rattle.choice.specs.declared.Request.{Request}
-use Rattle.choice.specs.declared.Chosen.{Chosen}
 use Rattle.sheet.specs.declared.SheetAnswer.{SheetAnswer}
 
 -- "an answer is the font number, then the refusal number"
-unfoldable pub answer_of : Chosen → SheetAnswer
+unfoldable pub answer_of : Choice → SheetAnswer
 answer_of a = record { font = font_of a; refusal = refusal_of a }
 
 -- "each entry what a single choice would give on the same store. An out-of-range request refuses only its own entry."

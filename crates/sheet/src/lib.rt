@@ -1,82 +1,60 @@
 // W-201, one sheet, one call: what is done once for a sheet of requests, and what is done for each.
 #![tactic(auto)]
 
-ghost use Rattle.std.specs.Prelude.{◌≡◌};
+ghost use Rattle.std.specs.Prelude.{◌≡◌, Some, IfOk};
+ghost use Rattle.refusals.specs.Refusals.{number_or_0};
 ghost use Rattle.form.specs.Records.{Begun};
-ghost use Rattle.form.specs.declared.records.Begin.TheVariants.{At};
 ghost use Rattle.choice.specs.Choosing.{choosing};
 ghost use Rattle.sheet.specs.Sheet.{answer_of, sheet_refusal};
 
 use choice::{Chosen, Request};
 use form::records;
-use form::records::Begin;
+use refusals::Refused;
 
 const MOST_REQUESTS: usize = 64;
 
-// The answer to one request of a sheet.
+// The answer to one request of a sheet, as C lays it out: the font's number, or the refusal's.
 #[repr(C)]
-#[derive(Clone, Copy)]
+#[derive(Clone, Copy, Debug, PartialEq, Eq)]
 pub struct SheetAnswer {
     pub font: u32,
     pub refusal: u32,
 }
 
-// The refusal of a whole sheet; where there is none, the place where the store's fonts begin.
-#[derive(Clone, Copy)]
-pub struct SheetBegin {
-    pub refusal: u32,
-    pub from: usize,
-}
-
-fn refused(refusal: u32) -> SheetBegin
-    ensures { result ≡ record { refusal = refusal; from = 0 } }
+// The checks of a sheet of so many requests, with room for so many answers: the place where the store's fonts begin. The store is checked here, once.
+pub fn begin_sheet(store: &[u8], requests: usize, room: usize) -> Result<usize, Refused>
+    ensures refusal { number_or_0 result ≡ sheet_refusal store.now requests room }
+    ensures begun { IfOk result (λ from. Begun store.now (Some from)) }
 {
-    SheetBegin { refusal, from: 0 }
-}
-
-// The checks of a sheet of so many requests, with room for so many answers. The store is checked here, once.
-pub fn begin_sheet(store: &[u8], requests: usize, room: usize) -> SheetBegin
-    ensures { (result.refusal ≡ sheet_refusal store.now requests room) × (result.refusal ≡ 0 → Begun store.now (At result.from)) }
-{
-    let Begin::At(from) = records::begin_records(store) else {
-        return refused(1);
-    };
+    let from = records::begin_records(store).ok_or(Refused::NotStore)?;
     if MOST_REQUESTS < requests {
-        return refused(2);
+        return Err(Refused::OutOfRange);
     }
     if room < requests {
-        return refused(12);
+        return Err(Refused::OutputShort);
     }
-    SheetBegin { refusal: 0, from }
+    Ok(from)
 }
 
 // What a choice answers as the answer of a sheet.
-pub fn answer_of(a: Chosen) -> SheetAnswer
+pub fn answer_of(a: Result<Chosen, Refused>) -> SheetAnswer
     ensures { result ≡ answer_of a }
 {
     match a {
-        Chosen::Number { soft: _, number } => SheetAnswer {
-            font: number,
+        Ok(chosen) => SheetAnswer {
+            font: chosen.number,
             refusal: 0,
         },
-        Chosen::NotStore => SheetAnswer {
+        Err(refusal) => SheetAnswer {
             font: 0,
-            refusal: 1,
-        },
-        Chosen::OutOfRange => SheetAnswer {
-            font: 0,
-            refusal: 2,
-        },
-        Chosen::NoFont => SheetAnswer {
-            font: 0,
-            refusal: 11,
+            refusal: u32::from(refusal),
         },
     }
 }
 
 // The answer to one request, on a buffer that is known to be a store, whose fonts begin at a place.
 pub fn answer_request(store: &[u8], from: usize, r: Request) -> SheetAnswer
-    requires { Begun store.now (At from) }
+    requires { Begun store.now (Some from) }
     ensures { result ≡ answer_of (choosing store.now r) }
 {
     answer_of(choice::choose_among(store, from, r))

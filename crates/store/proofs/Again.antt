@@ -1,5 +1,6 @@
 -- A call leaves a store a store, whatever it answers; and what it leaves of the fonts. Assumes nothing.
 use mathlib.Core.Path.{◌≡◌, refl, sym, ap, ◌∙◌, subst}
+use Rattle.std.specs.Prelude.{Ok, Err}
 use mathlib.Core.List.{List, [], ◌∷◌, ◌++◌}
 use mathlib.Core.Bool.{Bool, true, false, cond}
 use mathlib.Core.Option.{Option, none, some}
@@ -12,12 +13,11 @@ use Rattle.blocks.specs.Check.{Check, verdict}
 use Rattle.blocks.specs.Header.{orientation, header_checks, read_header, kept_header}
 use Rattle.blocks.specs.Character.{class, width, height, character_length, kind_of, first_checks, read_first, kept_first, is_kept_first, descriptor_bytes, continuation_bytes}
 use Rattle.pictures.specs.Size.{runs_class, data_limit}
-use Rattle.pictures.specs.Picture.{judge, PastRun, kept_data}
-use Rattle.blocks.specs.declared.Verdict.TheVariants.{Taken, Refused}
+use Rattle.pictures.specs.Picture.{Judged, judge, PastRun, kept_data}
 use Rattle.blocks.specs.declared.character.Kind.{Kind}
 use Rattle.blocks.specs.declared.character.Kind.TheVariants.{First, Continuation, Unknown}
-use Rattle.pictures.specs.declared.picture.Judged.{Judged}
-use Rattle.pictures.specs.declared.picture.Judged.TheVariants.{Complete, Incomplete, PastWidth}
+use Rattle.std.specs.Prelude.{Some, None}
+use Rattle.pictures.specs.Runs.{past_width}
 use Rattle.blocks.proofs.KeptHeader.{kept_header_lem}
 use Rattle.blocks.proofs.KeptFirst.{kept_first_lem}
 use Rattle.pictures.proofs.KeptData.{held_whole, held_unfinished, judged_past, past_class}
@@ -71,11 +71,11 @@ module _ (s : List ℕ) (P : After → Type 0) where
   by_check true m a r f = f refl
   by_check false m a r f = r
 
-  by_verdict : (cs : List Check) (a : After) → Each cs → (verdict cs ≡ Taken → P a) → P (taking (refuse s) (verdict cs) a)
+  by_verdict : (cs : List Check) (a : After) → Each cs → (verdict cs ≡ Ok tt → P a) → P (taking (refuse s) (verdict cs) a)
   by_verdict [] a o f = f refl
   by_verdict (c ∷ cs) a o f = go c.holds refl (by_verdict cs a o.1)
     where
-      go : (t : Bool) → c.holds ≡ t → ((verdict cs ≡ Taken → P a) → P (taking (refuse s) (verdict cs) a)) → P (taking (refuse s) (cond t (verdict cs) (Refused c.number)) a)
+      go : (t : Bool) → c.holds ≡ t → ((verdict cs ≡ Ok tt → P a) → P (taking (refuse s) (verdict cs) a)) → P (taking (refuse s) (cond t (verdict cs) (Err c.number)) a)
       go true q ih = ih (λ e. f (rw q e))
       go false q ih = o.0
 
@@ -108,7 +108,7 @@ module _ (st : Store) (v : Valid st) where
       let fits : used (store_without_font n st) ≤ st.size = omega (arith, total_replaced (key_of n 0) (key_of (n + 1) 0) [] st.recs v.order (omega arith), v.room) in
       valid_font n [] st v no_font fits
 
-  pub put_valid : (n : ℕ) (b : List ℕ) → n ≤ last_font → read_header b ≡ Taken → used (put_font n (kept_header b) st) ≤ st.size → Valid (put_font n (kept_header b) st)
+  pub put_valid : (n : ℕ) (b : List ℕ) → n ≤ last_font → read_header b ≡ Ok tt → used (put_font n (kept_header b) st) ≤ st.size → Valid (put_font n (kept_header b) st)
   put_valid n b l e fits = valid_font n (font n (kept_header b) ∷ []) st v (new_font (kept_header b) l (kept_header_lem b e)) fits
 
 -- the font that a block brings
@@ -162,7 +162,7 @@ module _ (n c : ℕ) (s h d : List ℕ) (st : Store) (g : Guest n c s h d st) wh
 pub record Brought (n c : ℕ) (b s h d : List ℕ) (st : Store) : Type 0 where
   pub guest : Guest n c s h (kept_of_data h d) st
   pub sent : Sent n c b st h d
-  pub fits : (row filled run : ℕ) → judged_of h d ≡ PastWidth row filled run → ⊥
+  pub fits : (row filled run : ℕ) → judged_of h d ≡ Err (past_width row filled run) → ⊥
 
 -- the numbers by which it is refused, on a store, with nothing else told and nothing changed
 abbrev pub AtEach : (ℕ → Type 0) → Type 0
@@ -183,13 +183,13 @@ module _ (n c : ℕ) (b s : List ℕ) (is : is_store s ≡ true) (P : After → 
     (put : (st : Store) (h d : List ℕ) → Brought n c b s h d st → Valid (put_character n c h (kept_of_data h d) st) → P (done (put_character n c h (kept_of_data h d) st)))
     (gone : (st : Store) (h d : List ℕ) → Brought n c b s h d st → Valid (store_without_font n st) → P (record { answer = 10; bad = no_run; bytes = encode (store_without_font n st) })) where
   module _ (st : Store) (e : decode s ≡ some st) (v : Valid st) (low : n ≤ last_font) (code : c ≤ last_code) (long : character_length b ≡ true) (g : List ℕ) (there : find_record (key_of n 0) st.recs ≡ some (font n g)) where
-    placed_by : (h d : List ℕ) → Sent n c b st h d → ((row filled run : ℕ) → judged_of h d ≡ PastWidth row filled run → ⊥) → is_kept (held_under (orientation g) h (kept_of_data h d)) ≡ true
+    placed_by : (h d : List ℕ) → Sent n c b st h d → ((row filled run : ℕ) → judged_of h d ≡ Err (past_width row filled run) → ⊥) → is_kept (held_under (orientation g) h (kept_of_data h d)) ≡ true
         → P (placing n c h (kept_of_data h d) st)
     placed_by h d y i ok =
         let x : Brought n c b s h d st = record { guest = record { is = e; valid = v; low = low; code = code; header = g; there = there; ok = ok }; sent = y; fits = i } in
         placed_answers n c s h (kept_of_data h d) st x.guest P (put st h d x) (gone st h d x)
 
-    received_by : (h d : List ℕ) → Sent n c b st h d → (kind_of b ≡ First → read_first b (orientation g) ≡ Taken) → is_kept_first h (orientation g) ≡ true → P (receiving n c h d s st)
+    received_by : (h d : List ℕ) → Sent n c b st h d → (kind_of b ≡ First → read_first b (orientation g) ≡ Ok tt) → is_kept_first h (orientation g) ≡ true → P (receiving n c h d s st)
     unfolding receiving held_under
     received_by h d y r f = go (judge (class h) (width h) (height h) d) refl
       where
@@ -197,20 +197,20 @@ module _ (n c : ℕ) (b s : List ℕ) (is : is_store s ≡ true) (P : After → 
         kept = kept_data (class h) (width h) (height h) d
 
         go : (j : Judged) → judge (class h) (width h) (height h) d ≡ j → P (within_width s j (checked (refuse s) (leb (length kept) data_limit) 9 (placing n c h kept st)))
-        go (Complete m) q = by_check s P (leb (length kept) data_limit) 9 _ no.6 (λ l. placed_by h d y (λ row a r z. let v : ◌≡◌ {A = ℕ} 0 1 = cc in absurd (omega arith)) (rw (f, held_whole (class h) (width h) (height h) d m q (leb-true _ _ l))))
-        go Incomplete q = by_check s P (leb (length kept) data_limit) 9 _ no.6 (λ l. placed_by h d y (λ row a r z. let v : ◌≡◌ {A = ℕ} 0 1 = cc in absurd (omega arith)) (rw (f, held_unfinished (class h) (width h) (height h) d q (leb-true _ _ l))))
-        go (PastWidth row filled run) q = past row filled run (bad_run (judged_past (class h) (width h) (height h) d row filled run sides.0 sides.1 q)) passed
+        go (Ok (Some m)) q = by_check s P (leb (length kept) data_limit) 9 _ no.6 (λ l. placed_by h d y (λ row a r z. let v : ◌≡◌ {A = ℕ} 0 1 = cc in absurd (omega arith)) (rw (f, held_whole (class h) (width h) (height h) d m q (leb-true _ _ l))))
+        go (Ok None) q = by_check s P (leb (length kept) data_limit) 9 _ no.6 (λ l. placed_by h d y (λ row a r z. let v : ◌≡◌ {A = ℕ} 0 1 = cc in absurd (omega arith)) (rw (f, held_unfinished (class h) (width h) (height h) d q (leb-true _ _ l))))
+        go (Err p) q = past p.row p.filled p.run (bad_run (judged_past (class h) (width h) (height h) d p.row p.filled p.run sides.0 sides.1 q)) passed
           where
             sides : (0 < width h) × (0 < height h)
             sides = kept_sides h (orientation g) f
 
             runs : class h ≡ runs_class
-            runs = let k = kept_class h (orientation g) f in omega (arith, k.0, k.1, past_class (class h) (width h) (height h) d row filled run q)
+            runs = let k = kept_class h (orientation g) f in omega (arith, k.0, k.1, past_class (class h) (width h) (height h) d p.row p.filled p.run q)
 
             passed : ChecksPassed n c b st
             passed = let l = block_short b long in record { low = low; code = code; long = l.0; short = l.1; font = font n g; there = there; first = r }
 
-            bad_run : PastRun (width h) 0 d row filled run × (row < height h) → BadRunIn n c b s row filled run
+            bad_run : PastRun (width h) 0 d p.row p.filled p.run × (p.row < height h) → BadRunIn n c b s p.row p.filled p.run
             bad_run x = record { store = st; is = e; descriptor = h; sent = d; stands = y; by_runs = runs; past = x.0; below = x.1 }
 
     first_by : kind_of b ≡ First → P (receiving_first n c g b s st)
@@ -318,11 +318,11 @@ cut_leaves n c s is =
 
 -- ── the calls on a known store, by the code's findings
 module _ (n : ℕ) (b s : List ℕ) (k : is_store s ≡ true) (l : n ≤ last_font) where
-  pub known_refused : (m : ℕ) → read_header b ≡ Refused m → downloading_font n b s ≡ refuse s m
+  pub known_refused : (m : ℕ) → read_header b ≡ Err m → downloading_font n b s ≡ refuse s m
   unfolding downloading_font on_store
   known_refused m e = rw ((is_store_lem s k).1, le-leb n last_font l, e)
 
-  pub known_taken : read_header b ≡ Taken → downloading_font n b s ≡ putting_font n b s
+  pub known_taken : read_header b ≡ Ok tt → downloading_font n b s ≡ putting_font n b s
   unfolding downloading_font putting_font on_store
   known_taken e = rw ((is_store_lem s k).1, le-leb n last_font l, e)
 

@@ -13,7 +13,7 @@ use Rattle.blocks.specs.Header.{orientation, is_kept_header, kept_header, own_he
 use Rattle.blocks.specs.Character.{class, width, height, character_length, kind_of, descriptor_bytes}
 use Rattle.pictures.specs.Size.{data_limit}
 use Rattle.pictures.specs.Picture.{judge, kept_data, held}
-use Rattle.pictures.specs.declared.picture.Judged.TheVariants.{Complete, Incomplete}
+use Rattle.std.specs.Prelude.{Some, None, Ok}
 use Rattle.pictures.specs.declared.picture.Held.{Held}
 use Rattle.pictures.specs.declared.picture.Held.TheVariants.{Whole, Unfinished, Foreign}
 use Rattle.blocks.proofs.KeptHeader.{is_kept_header_lem}
@@ -132,13 +132,13 @@ module _ (n c : ℕ) (h d : List ℕ) (s : List ℕ) (st : Store) (small : lengt
   unfolding placing
   place_it = rw (le-leb (used (put_character n c h d st)) st.size fits)
 
-  receive_whole : judge (class h) (width h) (height h) d ≡ Complete (length d) → receiving n c h d s st ≡ done (put_character n c h d st)
+  receive_whole : judge (class h) (width h) (height h) d ≡ Ok (Some (length d)) → receiving n c h d s st ≡ done (put_character n c h d st)
   unfolding receiving
   receive_whole e =
       let k : kept_data (class h) (width h) (height h) d ≡ d = kept_complete (class h) (width h) (height h) d (length d) e ∙ take_all (length d) d (omega arith) in
       rw (e, k, le-leb (length d) data_limit small) place_it
 
-  receive_part : judge (class h) (width h) (height h) d ≡ Incomplete → receiving n c h d s st ≡ done (put_character n c h d st)
+  receive_part : judge (class h) (width h) (height h) d ≡ Ok None → receiving n c h d s st ≡ done (put_character n c h d st)
   unfolding receiving
   receive_part e = rw (e, kept_incomplete (class h) (width h) (height h) d e, le-leb (length d) data_limit small) place_it
 
@@ -251,7 +251,7 @@ pub part_waits : (h a b : List ℕ) → is_kept (held_of h (a ++ b)) ≡ true �
 unfolding held
 part_waits h a b ok l = go (held_of h (a ++ b)) refl ok
   where
-    waits : judge (class h) (width h) (height h) a ≡ Incomplete → length (a ++ b) ≤ data_limit → held_of h a ≡ Unfinished
+    waits : judge (class h) (width h) (height h) a ≡ Ok None → length (a ++ b) ≤ data_limit → held_of h a ≡ Unfinished
     waits j s = unfold held in rw (le-leb (length a) data_limit (omega (arith, length-append a b)), j)
 
     go : (x : Held) → held_of h (a ++ b) ≡ x → is_kept x ≡ true → held_of h a ≡ Unfinished

@@ -13,7 +13,8 @@ use Rattle.blocks.specs.Header.{orientation, block_limit}
 use Rattle.blocks.specs.Character.{descriptor_bytes, continuation_bytes, character_format, format, continued, class, width, height, character_length, kind_of, kept_first, is_kept_first}
 use Rattle.blocks.specs.declared.character.Kind.TheVariants.{First, Continuation, Unknown}
 use Rattle.blocks.proofs.KeptFirst.{first_long, first_begins, bare_kind, bare_kept, kept_read}
-use Rattle.pictures.specs.declared.picture.Judged.TheVariants.{PastWidth}
+use Rattle.std.specs.Prelude.{Err}
+use Rattle.pictures.specs.Runs.{past_width}
 use Rattle.pictures.proofs.PastRuns.{past_dots}
 use Rattle.pictures.proofs.KeptData.{past_judged}
 use Rattle.form.specs.Model.{Rec, Store, encode, decode}
@@ -80,7 +81,7 @@ sent_one n c b st h d h' d' (by_first k) (by_more r k' m e) = let z : ◌≡◌ 
 sent_one n c b st h d h' d' (by_more r k m e) (by_first k') = let z : ◌≡◌ {A = ℕ} 0 1 = cc in absurd (omega arith)
 sent_one n c b st h d h' d' (by_more r k m e) (by_more r' k' m' e') = let q : r ≡ r' = cc in (ap kept_of q, ap (λ (x : Rec). data_of x ++ drop continuation_bytes b) q)
 
-bad_judged : (n c : ℕ) (b s : List ℕ) (row filled run : ℕ) (x : BadRunIn n c b s row filled run) → judged_of x.descriptor x.sent ≡ PastWidth row filled run
+bad_judged : (n c : ℕ) (b s : List ℕ) (row filled run : ℕ) (x : BadRunIn n c b s row filled run) → judged_of x.descriptor x.sent ≡ Err (past_width row filled run)
 bad_judged n c b s row filled run x =
     past_judged (class x.descriptor) (width x.descriptor) (height x.descriptor) x.sent row filled run (λ z. omega (arith, z, x.by_runs)) x.past x.below
 
@@ -143,7 +144,7 @@ module _ (n c : ℕ) (b s : List ℕ) (st : Store) where
         let e : h ≡ kept_first b = bare_sent h d (rw w at y.sent) k in
         rw (← e) (held_kept (orientation y.guest.header) h (kept_of_data h d) y.guest.ok).0
 
-    told_8 : (h' d' : List ℕ) (row filled run : ℕ) → Sent n c b st h' d' → judged_of h' d' ≡ PastWidth row filled run → downloading_character n c b s ≡ refuse_run s row filled run
+    told_8 : (h' d' : List ℕ) (row filled run : ℕ) → Sent n c b st h' d' → judged_of h' d' ≡ Err (past_width row filled run) → downloading_character n c b s ≡ refuse_run s row filled run
     unfolding downloading_character on_store finding character_length ◌and◌
     told_8 h' d' row filled run (by_first k) j =
         let g = y.guest in

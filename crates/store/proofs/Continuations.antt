@@ -13,11 +13,11 @@ use borrow.Author.Tests.{eqb-true, eqb-false, eq-eqb, ne_eqb, le-leb, lt-leb}
 use Rattle.blocks.specs.Header.{orientation}
 use Rattle.blocks.specs.Character.{class, width, height, is_kept_first, descriptor_bytes, continuation_bytes}
 use Rattle.pictures.specs.Size.{data_limit}
-use Rattle.pictures.specs.Picture.{judge, kept_data}
+use Rattle.pictures.specs.Picture.{Judged, judge, kept_data}
 use Rattle.pictures.specs.declared.picture.Held.{Held}
 use Rattle.pictures.specs.declared.picture.Held.TheVariants.{Whole, Unfinished, Foreign}
-use Rattle.pictures.specs.declared.picture.Judged.{Judged}
-use Rattle.pictures.specs.declared.picture.Judged.TheVariants.{Complete, Incomplete, PastWidth}
+use Rattle.std.specs.Prelude.{Some, None, Ok, Err}
+use Rattle.pictures.specs.Runs.{past_width}
 use Rattle.pictures.proofs.KeptData.{complete_within, kept_complete, kept_incomplete, kept_judged, held_whole, held_unfinished, unfinished_judged, incomplete_prefix}
 use Rattle.form.specs.Layout.{key_of, character_kept_at, character_record, mark_code_at, mark_font_at, mark_on_at}
 use Rattle.form.specs.Num.{◌and◌, field}
@@ -56,10 +56,10 @@ opened_found k j u (r ∷ rs) e q =
         let y : ◌≡◌ {A = ℕ} 0 1 = cc in absurd (omega arith)
     go false p b v q ih w = let i = ih (unfold ◌and◌ in q) in (i.0, find_other k r rs (eqb-false _ _ p) ∙ i.1, i.2)
 
-complete_not : (k row f r : ℕ) → Complete k ≡ PastWidth row f r → ⊥
+complete_not : (k row f r : ℕ) → ◌≡◌ {A = Judged} (Ok (Some k)) (Err (past_width row f r)) → ⊥
 complete_not k row f r e = let z : ◌≡◌ {A = ℕ} 0 1 = cc in omega arith
 
-complete_open : (k : ℕ) → Complete k ≡ Incomplete → ⊥
+complete_open : (k : ℕ) → ◌≡◌ {A = Judged} (Ok (Some k)) (Ok None) → ⊥
 complete_open k e = let z : ◌≡◌ {A = ℕ} 0 1 = cc in omega arith
 
 is_unfinished_lem : (x : Held) → is_unfinished x ≡ true → x ≡ Unfinished
@@ -133,12 +133,12 @@ module _ (n c : ℕ) (b s : List ℕ) (w : Places) (x : Host n c s w) where
     unfolding putting_more receiving_more on_store finding
     more_call = rw (x.ready.is, ← (mark_is n (c + 1) s w x.ready), q, (opened_there n c s w x q).there)
 
-    pub more_past : (row f r : ℕ) → joined ≡ PastWidth row f r → putting_more n c b s ≡ refuse_run s row f r
+    pub more_past : (row f r : ℕ) → joined ≡ Err (past_width row f r) → putting_more n c b s ≡ refuse_run s row f r
     unfolding receiving
     more_past row f r e = more_call ∙ rw e
 
     -- a completing continuation completes behind what was kept
-    pub more_within : (k : ℕ) → joined ≡ Complete k → (length (data_at s w) ≤ k) × (k ≤ length (data_at s w) + length (drop continuation_bytes b))
+    pub more_within : (k : ℕ) → joined ≡ Ok (Some k) → (length (data_at s w) ≤ k) × (k ≤ length (data_at s w) + length (drop continuation_bytes b))
     more_within k e =
         let C = class (kept_at s w) in
         let W = width (kept_at s w) in
@@ -146,12 +146,12 @@ module _ (n c : ℕ) (b s : List ℕ) (w : Places) (x : Host n c s w) where
         let d = data_at s w in
         let m = drop continuation_bytes b in
         let o = opened_there n c s w x q in
-        let j : judge C W H d ≡ Incomplete = (unfinished_judged C W H d o.held).0 in
+        let j : judge C W H d ≡ Ok None = (unfinished_judged C W H d o.held).0 in
         let u : k ≤ length d + length m = omega (arith, complete_within C W H (d ++ m) k e, length-append d m) in (
           ⊎_elim (λ (l : k < length d).
               let a : kept_data C W H (d ++ m) ≡ take k d = kept_complete C W H (d ++ m) k e ∙ take-append-le k d m (omega arith) in
-              let y : judge C W H (take k d) ≡ Complete k = ap (judge C W H) (sym a) ∙ kept_judged C W H (d ++ m) (λ row f r z. complete_not k row f r (sym e ∙ z)) ∙ e in
-              let z : judge C W H (take k d) ≡ Incomplete = incomplete_prefix C W H (take k d) (drop k d) (ap (judge C W H) (take-append-drop k d) ∙ j) in
+              let y : judge C W H (take k d) ≡ Ok (Some k) = ap (judge C W H) (sym a) ∙ kept_judged C W H (d ++ m) (λ row f r z. complete_not k row f r (sym e ∙ z)) ∙ e in
+              let z : judge C W H (take k d) ≡ Ok None = incomplete_prefix C W H (take k d) (drop k d) (ap (judge C W H) (take-append-drop k d) ∙ j) in
               absurd (complete_open k (sym y ∙ z))) (λ (l : length d ≤ k). l) (less_or k (length d)),
           u,
         )
@@ -209,17 +209,3 @@ module _ (n c : ℕ) (b s : List ℕ) (w : Places) (x : Host n c s w) where
         pub more_placed : putting_more n c b s ≡ placed n c (kept_at s w) (data_at s w ++ take m (drop continuation_bytes b)) s
         unfolding placed on_store
         more_placed = more_kept ∙ rw (le-leb (length (data_at s w ++ take m (drop continuation_bytes b))) data_limit (omega (arith, length-append (data_at s w) (take m (drop continuation_bytes b)))), x.ready.is)
-
--- the mark names a character, by its numbers
-module _ (n c : ℕ) (s : List ℕ) where
-  pub names_off : (field 2 mark_on_at s ≡ 1 → ⊥) → names n c (mark_in s) ≡ false
-  unfolding ◌and◌
-  names_off h = rw (ne_eqb (field 2 mark_on_at s) 1 h)
-
-  pub names_other : field 2 mark_on_at s ≡ 1 → (field 2 mark_font_at s ≡ n → ⊥) → names n c (mark_in s) ≡ false
-  unfolding ◌and◌
-  names_other e h = rw (eq-eqb (field 2 mark_on_at s) 1 e, ne_eqb (field 2 mark_font_at s) n h)
-
-  pub names_by : field 2 mark_on_at s ≡ 1 → field 2 mark_font_at s ≡ n → names n c (mark_in s) ≡ eqb (field 2 mark_code_at s) c
-  unfolding ◌and◌
-  names_by e h = rw (eq-eqb (field 2 mark_on_at s) 1 e, eq-eqb (field 2 mark_font_at s) n h)

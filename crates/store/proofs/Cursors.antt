@@ -1,5 +1,6 @@
 -- What a download leaves of the places that a cursor knows. Assumes nothing.
 use mathlib.Core.Path.{◌≡◌, refl, sym, ap, ◌∙◌, subst}
+use Rattle.std.specs.Prelude.{Option as Optional, Some, None}
 use mathlib.Core.List.{List, [], ◌∷◌, ◌++◌, append-nil}
 use mathlib.Core.Bool.{Bool, true, false, cond}
 use mathlib.Core.Option.{Option, none, some}
@@ -21,9 +22,6 @@ use Rattle.form.specs.Cursor.{Points}
 use Rattle.store.specs.Known.{Opening, font_end, Ordered, Came}
 use Rattle.form.specs.declared.walk.Places.{Places}
 use Rattle.form.specs.declared.locate.Cursor.{Cursor}
-use Rattle.form.specs.declared.walk.Inspected.TheVariants.{Found}
-use Rattle.store.specs.declared.known.Opened.{Opened}
-use Rattle.store.specs.declared.known.Opened.TheVariants.{At, NotStore}
 use Rattle.form.proofs.Codec.{sorted_inv, decode_encode}
 use Rattle.form.proofs.Order.{below_in, below_out, from_in, from_out, none_below, sorted_from, Side, before, behind, side}
 use Rattle.form.proofs.Totals.{total_at}
@@ -114,11 +112,11 @@ module _ (n p : ℕ) (s : List ℕ) (w : Places) (x : Stands n p s w) where
       }
 
 -- ── a store that is opened
-pub opened_points : (s : List ℕ) (w : Places) → inspected 0 0 (decode s) ≡ Found w → Points s (record { used = w.used; font = 0; lo = w.lo; key = 0; at = w.lo })
+pub opened_points : (s : List ℕ) (w : Places) → inspected 0 0 (decode s) ≡ Some w → Points s (record { used = w.used; font = 0; lo = w.lo; key = 0; at = w.lo })
 unfolding inspected
 opened_points s w e = go (decode s) refl e
   where
-    go : (o : Option Store) → decode s ≡ o → inspected 0 0 o ≡ Found w → Points s (record { used = w.used; font = 0; lo = w.lo; key = 0; at = w.lo })
+    go : (o : Option Store) → decode s ≡ o → inspected 0 0 o ≡ Some w → Points s (record { used = w.used; font = 0; lo = w.lo; key = 0; at = w.lo })
     go none q e' = let z : ◌≡◌ {A = ℕ} 0 1 = cc in absurd (omega arith)
     go (some st) q e' =
         let i : Rattle.form.specs.Walk.places_of 0 0 st.recs ≡ w = cc in
@@ -132,11 +130,11 @@ opened_points s w e = go (decode s) refl e
         }
 
 -- what opening answered
-pub opened_at : (s : List ℕ) (r : Opened) (c : Cursor) → r ≡ At c → Opening s r → Points s c
+pub opened_at : (s : List ℕ) (r : Optional Cursor) (c : Cursor) → r ≡ Some c → Opening s r → Points s c
 unfolding Opening
 opened_at s r c e x = subst (Opening s) e x
 
-pub opened_not : (s : List ℕ) (r : Opened) → r ≡ NotStore → Opening s r → decode s ≡ none
+pub opened_not : (s : List ℕ) (r : Optional Cursor) → r ≡ None → Opening s r → decode s ≡ none
 unfolding Opening
 opened_not s r e x = subst (Opening s) e x
 

@@ -16,10 +16,13 @@ use Rattle.form.specs.Num.{◌and◌, low_first, Bytes}
 use Rattle.form.specs.Model.{Rec, font, character, owner_after, no_owner, tally_of, character_bytes, bytes_of, run, mark_bytes, encode, allowed, held_of, held_under, is_kept, is_unfinished, unfinished, opened, mark_ok, number, place, size_of, total, shut}
 use Rattle.form.specs.Order.{below, from, find_record}
 use Rattle.change.specs.Put.{with_bytes}
-use Rattle.change.specs.Change.{spliced_at, Recounting, recounted, remarked, unmarked_for}
+use Rattle.change.specs.Change.{spliced_at, Recounting, recounted, mark_of, remarked, unmarked_for}
 use Rattle.form.specs.Checks.{on_store}
 use Rattle.store.specs.Answer.{no_run}
 use Rattle.store.specs.Calls.{used, with_character}
+use Rattle.std.specs.Prelude.{Option as Maybe}
+use Rattle.std.specs.Bool.{then_some}
+use Rattle.change.specs.declared.CharacterId.{CharacterId}
 use Rattle.store.specs.Download.{mark_for, put_character}
 use Rattle.store.specs.Putting.{placing, placed}
 use Rattle.form.specs.Walk.{Fitting, Growing, kept_at, data_at}
@@ -55,6 +58,15 @@ unfolding opened unfinished number place ◌and◌
 new_opened n c h d rs q = rw (eq-eqb (key_of n (c + 1)) (key_of n (c + 1)) refl, q)
 
 -- the mark after it
+-- the mark that names a character where it is unfinished
+pub mark_given : (id : CharacterId) (h d : List ℕ) (b : Bool) (o : Maybe CharacterId) → o ≡ then_some b id → b ≡ is_unfinished (held_of h d) → mark_of o ≡ mark_for id.font id.code h d
+unfolding mark_for
+mark_given id h d b o e q = rw (e, ← q) (by_test b)
+  where
+    by_test : (t : Bool) → mark_of (then_some t id) ≡ cond t (record { on = 1; font_of = id.font; code_of = id.code }) shut
+    by_test true = refl
+    by_test false = refl
+
 pub mark_new : (n c : ℕ) (h d : List ℕ) (rs : List Rec) → n ≤ last_font → c ≤ last_code → mark_ok (mark_for n c h d) (with_character n c (character n c h d ∷ []) rs) ≡ true
 unfolding mark_for
 mark_new n c h d rs a b = go (is_unfinished (held_of h d)) refl

@@ -1,5 +1,6 @@
 -- What becomes of a first block, by what the code has found out. Assumes nothing.
 use mathlib.Core.Path.{◌≡◌, refl, sym, ap, ◌∙◌}
+use Rattle.std.specs.Prelude.{Ok, Err}
 use mathlib.Core.List.{List}
 use mathlib.Core.Bool.{true}
 use Prim.Native.Nat.{ℕ, ◌+◌, ◌-◌, ◌≤◌}
@@ -11,12 +12,11 @@ use borrow.Author.Tests.{le-leb, leb-true}
 use Rattle.blocks.specs.Header.{orientation, block_limit}
 use Rattle.blocks.specs.Character.{class, width, height, character_length, kind_of, read_first, kept_first, descriptor_bytes}
 use Rattle.pictures.specs.Size.{data_limit}
-use Rattle.pictures.specs.Picture.{judge, kept_data}
-use Rattle.blocks.specs.declared.Verdict.TheVariants.{Taken, Refused}
+use Rattle.pictures.specs.Picture.{Judged, judge, kept_data}
 use Rattle.blocks.specs.declared.character.Kind.TheVariants.{First}
 use Rattle.pictures.specs.declared.picture.Held.TheVariants.{Whole, Unfinished}
-use Rattle.pictures.specs.declared.picture.Judged.{Judged}
-use Rattle.pictures.specs.declared.picture.Judged.TheVariants.{Complete, Incomplete, PastWidth}
+use Rattle.std.specs.Prelude.{Some, None}
+use Rattle.pictures.specs.Runs.{past_width}
 use Rattle.pictures.proofs.Tests.{both}
 use Rattle.blocks.proofs.KeptFirst.{first_long, kept_first_lem, kept_other}
 use Rattle.pictures.proofs.KeptData.{complete_within, kept_complete, kept_incomplete, kept_length, held_whole, held_unfinished}
@@ -42,12 +42,12 @@ module _ (n c : ℕ) (b s : List ℕ) (w : Places) (x : Host n c s w) where
   unfolding putting_first on_store finding
   first_call = rw (x.ready.is, x.font_in)
 
-  pub first_refused : (k : ℕ) → read_first b (font_orientation s w) ≡ Refused k → putting_first n c b s ≡ refuse s k
+  pub first_refused : (k : ℕ) → read_first b (font_orientation s w) ≡ Err k → putting_first n c b s ≡ refuse s k
   unfolding receiving_first
   first_refused k e = first_call ∙ rw (sym (ap (read_first b) (host_orientation n c s w x)) ∙ e)
 
-  module _ (l : character_length b ≡ true) (f : kind_of b ≡ First) (e : read_first b (font_orientation s w) ≡ Taken) where
-    read : read_first b (orientation x.header) ≡ Taken
+  module _ (l : character_length b ≡ true) (f : kind_of b ≡ First) (e : read_first b (font_orientation s w) ≡ Ok tt) where
+    read : read_first b (orientation x.header) ≡ Ok tt
     read = sym (ap (read_first b) (host_orientation n c s w x)) ∙ e
 
     pub first_data_lem : length (drop descriptor_bytes b) ≤ 32751
@@ -61,7 +61,7 @@ module _ (n c : ℕ) (b s : List ℕ) (w : Places) (x : Host n c s w) where
     unfolding held_under
     kept_ok d q = rw (kept_first_lem b (orientation x.header) f read) q
 
-    pub first_past : (row g r : ℕ) → judge (class b) (width b) (height b) (drop descriptor_bytes b) ≡ PastWidth row g r → putting_first n c b s ≡ refuse_run s row g r
+    pub first_past : (row g r : ℕ) → judge (class b) (width b) (height b) (drop descriptor_bytes b) ≡ Err (past_width row g r) → putting_first n c b s ≡ refuse_run s row g r
     unfolding receiving
     first_past row g r q = first_taken ∙ rw (judged_kept b ∙ q)
 
@@ -71,8 +71,8 @@ module _ (n c : ℕ) (b s : List ℕ) (w : Places) (x : Host n c s w) where
     unfolding receiving placed on_store
     first_kept j d q i k m = first_taken ∙ rw (q, i, k, le-leb (length d) data_limit m, x.ready.is)
 
-    module _ (k : ℕ) (q : judge (class b) (width b) (height b) (drop descriptor_bytes b) ≡ Complete k) where
-      whole : judge (class (kept_first b)) (width (kept_first b)) (height (kept_first b)) (drop descriptor_bytes b) ≡ Complete k
+    module _ (k : ℕ) (q : judge (class b) (width b) (height b) (drop descriptor_bytes b) ≡ Ok (Some k)) where
+      whole : judge (class (kept_first b)) (width (kept_first b)) (height (kept_first b)) (drop descriptor_bytes b) ≡ Ok (Some k)
       whole = judged_kept b ∙ q
 
       pub complete_small : (k ≤ data_limit) × (descriptor_bytes + k ≤ length b)
@@ -93,13 +93,13 @@ module _ (n c : ℕ) (b s : List ℕ) (w : Places) (x : Host n c s w) where
       complete_fits = fitting n c s w x (kept_first b) (take k (drop descriptor_bytes b)) (kept_ok (take k (drop descriptor_bytes b)) (rw complete_held))
 
       pub first_complete : putting_first n c b s ≡ placed n c (kept_first b) (take k (drop descriptor_bytes b)) s
-      first_complete = first_kept (Complete k) (take k (drop descriptor_bytes b)) whole (λ a. refl) kept_is (subst_few kept_is kept_few)
+      first_complete = first_kept (Ok (Some k)) (take k (drop descriptor_bytes b)) whole (λ a. refl) kept_is (subst_few kept_is kept_few)
         where
           subst_few : {a d : List ℕ} → a ≡ d → length a ≤ data_limit → length d ≤ data_limit
           subst_few i m = omega (arith, ap length i)
 
-    module _ (q : judge (class b) (width b) (height b) (drop descriptor_bytes b) ≡ Incomplete) where
-      part : judge (class (kept_first b)) (width (kept_first b)) (height (kept_first b)) (drop descriptor_bytes b) ≡ Incomplete
+    module _ (q : judge (class b) (width b) (height b) (drop descriptor_bytes b) ≡ Ok None) where
+      part : judge (class (kept_first b)) (width (kept_first b)) (height (kept_first b)) (drop descriptor_bytes b) ≡ Ok None
       part = judged_kept b ∙ q
 
       all : take (length b - descriptor_bytes) (drop descriptor_bytes b) ≡ drop descriptor_bytes b
@@ -121,4 +121,4 @@ module _ (n c : ℕ) (b s : List ℕ) (w : Places) (x : Host n c s w) where
       incomplete_fits = fitting n c s w x (kept_first b) (take (length b - descriptor_bytes) (drop descriptor_bytes b)) (kept_ok (take (length b - descriptor_bytes) (drop descriptor_bytes b)) (rw incomplete_held))
 
       pub first_incomplete : putting_first n c b s ≡ placed n c (kept_first b) (take (length b - descriptor_bytes) (drop descriptor_bytes b)) s
-      first_incomplete = first_kept Incomplete (take (length b - descriptor_bytes) (drop descriptor_bytes b)) part (λ a. refl) data_is (omega (arith, ap length all, first_data_lem))
+      first_incomplete = first_kept (Ok None) (take (length b - descriptor_bytes) (drop descriptor_bytes b)) part (λ a. refl) data_is (omega (arith, ap length all, first_data_lem))

@@ -1,5 +1,10 @@
 -- What the calls on fonts answer, and the bytes that they leave, by what the inspection found. Assumes nothing.
 use mathlib.Core.Path.{◌≡◌, refl, sym, ap, ◌∙◌}
+use Rattle.std.specs.Prelude.{Result, IsErr, IsErrAnd}
+use Rattle.refusals.specs.Refusals.{refusal_number, answer_by, number_or_0}
+use Rattle.refusals.specs.declared.Refused.{Refused}
+use Rattle.refusals.proofs.Numbers.{handed_on}
+use Rattle.std.specs.Prelude.{Ok, Err}
 use mathlib.Core.List.{List, [], ◌∷◌, ◌++◌, append-nil}
 use mathlib.Core.Bool.{true, false}
 use mathlib.Core.Option.{none}
@@ -10,7 +15,6 @@ use lib.Seq.{paste, take_all}
 use lib.Dec.{leb}
 use borrow.Author.Tests.{le-leb, lt-leb}
 use Rattle.blocks.specs.Header.{read_header, kept_header, header_bytes}
-use Rattle.blocks.specs.declared.Verdict.TheVariants.{Taken, Refused}
 use Rattle.blocks.proofs.KeptHeader.{kept_header_lem, kept_length, header_long}
 use Rattle.form.specs.Layout.{key_of, font_record, last_font, least_store, mark_kind, mark_record, most_store}
 use Rattle.form.specs.Num.{◌and◌, low_first}
@@ -35,6 +39,10 @@ pub answered : {a b : After} → a ≡ b → (b.answer ≡ a.answer) × (b.bytes
 answered e = (ap (λ (x : After). x.answer) (sym e), ap (λ (x : After). x.bytes) (sym e))
 
 -- the answer to a character block, and the bytes
+-- a refusal that `?` hands on
+pub answered_err : {A : Type 0} (r : Result A Refused) (q : Refused) {s : List ℕ} {a : After} → IsErr r × IsErrAnd r (λ e. e ≡ q) → a ≡ refuse s (refusal_number q) → (number_or_0 r ≡ a.answer) × (s ≡ a.bytes)
+answered_err r q h e = (ap answer_by (handed_on r q h) ∙ ap (λ (x : After). x.answer) (sym e), ap (λ (x : After). x.bytes) (sym e))
+
 pub answered_block : {a b : After} → a ≡ b → (downloaded_of b ≡ downloaded_of a) × (b.bytes ≡ a.bytes)
 answered_block e = (ap downloaded_of (sym e), ap (λ (x : After). x.bytes) (sym e))
 
@@ -104,17 +112,17 @@ module _ (n : ℕ) (b s : List ℕ) where
     unfolding downloading_font on_store
     download_range l = rw (r.is, lt-leb n last_font l)
 
-    pub download_refused : n ≤ last_font → (k : ℕ) → read_header b ≡ Refused k → downloading_font n b s ≡ refuse s k
+    pub download_refused : n ≤ last_font → (k : ℕ) → read_header b ≡ Err k → downloading_font n b s ≡ refuse s k
     unfolding downloading_font on_store
     download_refused l k e = rw (r.is, le-leb n last_font l, e)
 
     -- a block that is taken goes into a store that has room
-    pub download_taken : n ≤ last_font → read_header b ≡ Taken → downloading_font n b s ≡ putting_font n b s
+    pub download_taken : n ≤ last_font → read_header b ≡ Ok tt → downloading_font n b s ≡ putting_font n b s
     unfolding downloading_font putting_font on_store
     download_taken l e = rw (r.is, le-leb n last_font l, e)
 
   -- the same for a store that is known to be one
-  module _ (w : Places) (r : Ready n 0 s w) (l : n ≤ last_font) (e : read_header b ≡ Taken) where
+  module _ (w : Places) (r : Ready n 0 s w) (l : n ≤ last_font) (e : read_header b ≡ Ok tt) where
     lo : w.lo ≡ mark_record + total (below (key_of n 0) r.store.recs)
     lo = ap (λ (x : Places). x.lo) r.at
 

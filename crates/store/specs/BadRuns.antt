@@ -1,11 +1,11 @@
 -- W-209, "say which row was bad": the three numbers of a character block that is refused with 8, by the row rules.
 use Rattle.std.specs.Prelude.{ℕ, ◌<◌, ◌≤◌, ◌≡◌, List, ◌++◌, cond, eqb, length, take, drop}
+use Rattle.std.specs.Prelude.{Ok}
 use Rattle.std.proofs.Math.Option.{some}
 use Rattle.pictures.specs.Size.{runs_class}
 use Rattle.pictures.specs.Picture.{PastRun}
 use Rattle.blocks.specs.Character.{descriptor_bytes, continuation_bytes, continued, class, width, height, kind_of, read_first, kept_first}
 use Rattle.blocks.specs.Header.{orientation, block_limit}
-use Rattle.blocks.specs.declared.Verdict.TheVariants.{Taken}
 use Rattle.blocks.specs.declared.character.Kind.TheVariants.{First, Continuation}
 use Rattle.form.specs.Layout.{last_code, last_font}
 use Rattle.form.specs.Model.{Rec, Store, decode}
@@ -39,7 +39,7 @@ pub record ChecksPassed (n c : ℕ) (b : List ℕ) (st : Store) : Type 0 where
   pub short : length b ≤ block_limit
   pub font : Rec
   pub there : font_at n st.recs ≡ some font
-  pub first : kind_of b ≡ First → read_first b (orientation (kept_of font)) ≡ Taken
+  pub first : kind_of b ≡ First → read_first b (orientation (kept_of font)) ≡ Ok tt
 
 -- a character block without its data: the descriptor of a first block, or the two bytes of a continuation
 abbrev pub without_data : List ℕ → List ℕ

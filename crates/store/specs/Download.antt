@@ -1,13 +1,12 @@
 -- Document 01, "The character block": what a download answers and leaves.
-use Rattle.std.specs.Prelude.{◌≡◌, ℕ, zero, suc, List, [], ◌∷◌, ◌++◌, Bool, cond, eqb, leb, length, drop}
+use Rattle.std.specs.Prelude.{◌≡◌, ℕ, zero, suc, List, [], ◌∷◌, ◌++◌, Bool, Ok, Err, cond, eqb, leb, length, drop}
 use Rattle.blocks.specs.Header.{orientation}
 use Rattle.blocks.specs.Character.{descriptor_bytes, continuation_bytes, class, width, height, character_length, kind_of, read_first, kept_first}
 use Rattle.pictures.specs.Size.{data_limit}
-use Rattle.pictures.specs.Picture.{judge, kept_data}
+use Rattle.pictures.specs.Picture.{Judged, judge, kept_data}
+use Rattle.pictures.specs.Runs.{past_width}
 use Rattle.blocks.specs.declared.character.Kind.{Kind}
 use Rattle.blocks.specs.declared.character.Kind.TheVariants.{First, Continuation, Unknown}
-use Rattle.pictures.specs.declared.picture.Judged.{Judged}
-use Rattle.pictures.specs.declared.picture.Judged.TheVariants.{Complete, Incomplete, PastWidth}
 use Rattle.form.specs.Num.{◌and◌}
 use Rattle.form.specs.Model.{character, Mark, Store, held_of, is_unfinished, encode, decode, shut}
 use Rattle.form.specs.Order.{font_at, character_at}
@@ -39,9 +38,8 @@ kind_number Unknown = 4
 
 -- document 01's number for data: "8 if class 2 data has a run past the width before all rows are drawn"
 abbrev pub judged_number : Judged → ℕ
-judged_number (Complete n) = 0
-judged_number Incomplete = 0
-judged_number (PastWidth row f b) = 8
+judged_number (Ok n) = 0
+judged_number (Err p) = 8
 
 -- "byte 0 is 4, else 4": by its kind it comes to `first` or to `more`, and these, with a descriptor and data, to what holds for both
 abbrev pub by_kind : {A : Type 0} → (ℕ → A) → Kind → ((List ℕ → List ℕ → A) → A) → ((List ℕ → List ℕ → A) → A) → (List ℕ → List ℕ → A) → A
@@ -56,13 +54,12 @@ names n c m = eqb m.on 1 and eqb m.font_of n and eqb m.code_of c
 -- "8 if class 2 data has a run past the width before all rows are drawn"; W-209: with "the picture row being read, .. the dots already filled and the
 -- run that didn't fit"
 abbrev pub refuse_run : List ℕ → ℕ → ℕ → ℕ → After
-refuse_run s row filled run = record { answer = judged_number (PastWidth row filled run); bad = record { row = row; filled = filled; run = run }; bytes = s }
+refuse_run s row filled run = record { answer = judged_number (Err (past_width row filled run)); bad = record { row = row; filled = filled; run = run }; bytes = s }
 
 -- data with no such run comes to a
 abbrev pub within_width : List ℕ → Judged → After → After
-within_width s (Complete k) a = a
-within_width s Incomplete a = a
-within_width s (PastWidth row filled run) a = refuse_run s row filled run
+within_width s (Ok n) a = a
+within_width s (Err p) a = refuse_run s p.row p.filled p.run
 
 -- what is judged, and what is kept, of the data d of a character with the descriptor h
 abbrev pub judged_of : List ℕ → List ℕ → Judged

@@ -1,5 +1,6 @@
 -- For the code alone: what downloads to a buffer that is known to be a store answer, and the places that they leave.
 use Rattle.std.specs.Prelude.{ℕ, ◌+◌, ◌-◌, ◌≤◌, ◌≡◌, List, cond, eqb, length}
+use Rattle.std.specs.Prelude.{Option as Optional, Some, None}
 use Rattle.std.proofs.Math.Option.{none, some}
 use Rattle.form.specs.Layout.{most_store, last_font, last_code, key_of, mark_record, font_record, character_record}
 use Rattle.form.specs.Num.{field}
@@ -7,13 +8,12 @@ use Rattle.form.specs.Model.{Store, total, decode}
 use Rattle.form.specs.Order.{below}
 use Rattle.form.specs.Cursor.{Points}
 use Rattle.form.specs.declared.walk.Places.{Places}
-use Rattle.store.specs.declared.known.Opened.{Opened}
-use Rattle.store.specs.declared.known.Opened.TheVariants.{At, NotStore}
+use Rattle.form.specs.declared.locate.Cursor.{Cursor}
 
 -- what opening a buffer answers
-unfoldable pub Opening : List ℕ → Opened → Type 0
-Opening s (At c) = Points s c
-Opening s NotStore = decode s ≡ none
+unfoldable pub Opening : List ℕ → Optional Cursor → Type 0
+Opening s (Some c) = Points s c
+Opening s None = decode s ≡ none
 
 -- where the records end behind a font block that was answered k, for a font with these places
 abbrev pub font_end : Places → ℕ → ℕ

@@ -1,6 +1,7 @@
 // Calls on fonts: make a store fresh, download a font block, remove a font, tell a font's kept bytes.
 ghost use Rattle.std.specs.Prelude.{◌≡◌, ◌≤◌};
-ghost use Rattle.blocks.specs.declared.Verdict.TheVariants.{Taken};
+ghost use Rattle.std.specs.Prelude.{Ok};
+ghost use Rattle.refusals.specs.Refusals.{number_or_0};
 ghost use Rattle.form.specs.Layout.{last_font};
 ghost use Rattle.store.specs.Answer.{told_of};
 ghost use Rattle.form.specs.Walk.{Stands};
@@ -10,51 +11,47 @@ ghost use Rattle.store.specs.Putting.{putting_font};
 
 use crate::telling;
 use crate::telling::Told;
-use blocks::{Verdict, header};
+use blocks::header;
 use form::layout::{
     FONT_CHARACTERS_AT, FONT_KEPT_AT, FONT_RECORD, HEADER_BYTES, KIND_AT, LAST_FONT_ASKED,
     LEAST_STORE, MARK_KIND, MARK_RECORD, MOST_STORE,
 };
-use form::seek::Sought;
-use form::walk::{Inspected, Places};
+use form::walk::Places;
 use form::{number, seek, walk};
+use refusals::Refused;
 
 // Makes a store fresh: the first record with none open, then zeros.
-pub fn make_fresh(s: &mut [u8]) -> u32
-    ensures value { result ≡ (making_fresh s.old).answer }
+pub fn make_fresh(s: &mut [u8]) -> Result<(), Refused>
+    ensures value { number_or_0 result ≡ (making_fresh s.old).answer }
     ensures s_after { s.new ≡ (making_fresh s.old).bytes }
 {
     let n = s.len();
     if n < LEAST_STORE {
-        return 1;
+        return Err(Refused::NotStore);
     }
     if MOST_STORE < n {
-        return 1;
+        return Err(Refused::NotStore);
     }
     change::clear(s, 0, n);
-    change::put16(s, 0, MARK_RECORD);
-    change::put16(s, KIND_AT, MARK_KIND);
-    0
+    change::put::<2>(s, 0, MARK_RECORD);
+    change::put::<2>(s, KIND_AT, MARK_KIND);
+    Ok(())
 }
 
 // Removes a font with all its characters.
-pub fn remove_font(s: &mut [u8], font: u32) -> u32
-    ensures value { result ≡ (removing_font font s.old).answer }
+pub fn remove_font(s: &mut [u8], font: u32) -> Result<(), Refused>
+    ensures value { number_or_0 result ≡ (removing_font font s.old).answer }
     ensures s_after { s.new ≡ (removing_font font s.old).bytes }
 {
-    match seek::seek_font(s, font) {
-        Sought::Refused(k) => k,
-        Sought::Here(p) => {
-            change::cut_font(s, p.lo, p.hi, p.used, font as usize);
-            0
-        }
-    }
+    let p = seek::seek_font(s, font)?;
+    change::cut_font(s, p.lo, p.hi, p.used, font as usize);
+    Ok(())
 }
 
 // Puts an accepted block's font in the place of any of its number with its characters. Its places p are known.
-pub(crate) fn put_font(s: &mut [u8], p: Places, font: u32, block: &[u8]) -> u32
-    requires { (font ≤ last_font) × (read_header block.now ≡ Taken) × Stands font 0 s.old p }
-    ensures value { result ≡ (putting_font font block.now s.old).answer }
+pub(crate) fn put_font(s: &mut [u8], p: Places, font: u32, block: &[u8]) -> Result<(), Refused>
+    requires { (font ≤ last_font) × (read_header block.now ≡ Ok tt) × Stands font 0 s.old p }
+    ensures value { number_or_0 result ≡ (putting_font font block.now s.old).answer }
     ensures s_after { s.new ≡ (putting_font font block.now s.old).bytes }
 {
     let n = font as usize;
@@ -62,29 +59,25 @@ pub(crate) fn put_font(s: &mut [u8], p: Places, font: u32, block: &[u8]) -> u32
     let old = p.hi - lo;
     let used = p.used;
     if s.len() < used - old + FONT_RECORD {
-        return 10;
+        return Err(Refused::NoRoom);
     }
     change::splice(s, lo, old, used, FONT_RECORD);
     change::write_font(s, lo, n, block);
     change::unmark_font(s, n);
-    0
+    Ok(())
 }
 
 // Downloads a font block.
-pub fn download_font(s: &mut [u8], block: &[u8], font: u32) -> u32
-    ensures value { result ≡ (downloading_font font block.now s.old).answer }
+pub fn download_font(s: &mut [u8], block: &[u8], font: u32) -> Result<(), Refused>
+    ensures value { number_or_0 result ≡ (downloading_font font block.now s.old).answer }
     ensures s_after { s.new ≡ (downloading_font font block.now s.old).bytes }
 {
-    let Inspected::Found(p) = walk::inspect(s, font as usize, 0) else {
-        return 1;
-    };
+    let p = walk::inspect(s, font as usize, 0).ok_or(Refused::NotStore)?;
     if LAST_FONT_ASKED < font {
-        return 2;
+        return Err(Refused::OutOfRange);
     }
-    match header::read_header(block) {
-        Verdict::Refused(k) => k as u32,
-        Verdict::Taken => put_font(s, p, font, block),
-    }
+    header::read_header(block)?;
+    put_font(s, p, font, block)
 }
 
 // Tells a font's kept bytes, and the number of its characters.
@@ -92,8 +85,8 @@ pub fn tell_font(s: &[u8], out: &mut [u8], font: u32) -> Told
     ensures { told_of result out.new ≡ telling_font font s.now out.old }
 {
     match seek::seek_font(s, font) {
-        Sought::Refused(k) => telling::untold(k),
-        Sought::Here(p) => {
+        Err(r) => telling::untold(u32::from(r)),
+        Ok(p) => {
             if out.len() < HEADER_BYTES {
                 return telling::untold(12);
             }

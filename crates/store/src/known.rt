@@ -10,18 +10,11 @@ ghost use Rattle.store.specs.Known.{Opening, font_end, Came};
 
 use crate::download::Downloaded;
 use crate::{download, fonts};
-use blocks::{Verdict, header};
+use blocks::header;
 use form::layout::{FONT_RECORD, KEYS_EACH};
 use form::locate::Cursor;
-use form::walk::{Inspected, Places};
+use form::walk::Places;
 use form::{locate, number, walk};
-
-// A buffer that is a store, with a cursor at its front.
-#[derive(Clone, Copy)]
-pub enum Opened {
-    At(Cursor),
-    NotStore,
-}
 
 // What a download answers, and the cursor behind it.
 #[derive(Clone, Copy)]
@@ -30,20 +23,18 @@ pub struct Added {
     pub cursor: Cursor,
 }
 
-// Checks a buffer.
-pub fn open_store(s: &[u8]) -> Opened
+// Checks a buffer: a cursor at its front, if it is a store.
+pub fn open_store(s: &[u8]) -> Option<Cursor>
     ensures { Opening s.now result }
 {
-    match walk::inspect(s, 0, 0) {
-        Inspected::Found(p) => Opened::At(Cursor {
-            used: p.used,
-            font: 0,
-            lo: p.lo,
-            key: 0,
-            at: p.lo,
-        }),
-        Inspected::NotStore => Opened::NotStore,
-    }
+    let p = walk::inspect(s, 0, 0)?;
+    Some(Cursor {
+        used: p.used,
+        font: 0,
+        lo: p.lo,
+        key: 0,
+        at: p.lo,
+    })
 }
 
 // Where the records end behind a font block.
@@ -64,14 +55,14 @@ pub fn add_font(s: &mut [u8], c: Cursor, block: &[u8], font: u32) -> Added
     ensures s_after { s.new ≡ (downloading_font font block.now s.old).bytes }
 {
     match header::read_header(block) {
-        Verdict::Refused(k) => Added {
-            answer: download::without_run(k as u32),
+        Err(r) => Added {
+            answer: download::without_run(u32::from(r)),
             cursor: c,
         },
-        Verdict::Taken => {
+        Ok(()) => {
             let n = font as usize;
             let p = locate::locate(s, c, n, 0);
-            let answer = fonts::put_font(s, p, font, block);
+            let answer = refusals::answer(fonts::put_font(s, p, font, block));
             let behind = Cursor {
                 used: font_end(p, answer),
                 font: n,

@@ -17,8 +17,8 @@ use Rattle.store.proofs.BadRuns.{TellsRun, font_run, character_run}
 use Rattle.stream.specs.Reading.{Download, font_block, character_block, Action, number_set, download, spelled_from, first_target, Progress, first_run, none_counted, making, obey, obey_all, read_from, Reading, end_answer, reading}
 use Rattle.stream.specs.Downloads.{downloads_in, spelled_downloads, first_bad, FirstBadTold}
 use Rattle.stream.specs.declared.reading.CommandCounts.{CommandCounts}
-use Rattle.stream.specs.declared.reading.Ending.{Ending}
-use Rattle.stream.specs.declared.reading.Ending.TheVariants.{AtEnd, BrokenAt}
+use Rattle.stream.specs.Reading.{Ending}
+use Rattle.std.specs.Prelude.{None, Some}
 use Rattle.stream.proofs.Readings.{read_not, read_store}
 
 making_run : (d : Download) (s : List ℕ) → TellsRun (making d s)
@@ -67,8 +67,8 @@ obeyed_bad (download d ∷ rest) x f = one_more d rest x (obeyed_bad rest (obey 
 
 end_bad : (e : Ending) (x : CommandCounts) (run : BadRun) → (end_answer e x run).bad ≡ run
 unfolding end_answer
-end_bad AtEnd x run = refl
-end_bad (BrokenAt at) x run = refl
+end_bad None x run = refl
+end_bad (Some at) x run = refl
 
 -- on a buffer that is not a store every download is refused with 1
 none_bad : (l : List Download) (s : List ℕ) → decode s ≡ none → first_bad l s ≡ no_run

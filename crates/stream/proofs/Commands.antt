@@ -6,7 +6,7 @@ use mathlib.Core.Bool.{Bool, true, false, cond}
 use native.Mathlib.Numerals.{add-one}
 use native.Mathlib.Nat.{add-zero}
 use native.Mathlib.Omega.{arith}
-use borrow.Author.Tests.{leb-true, leb-false, eqb-true}
+use borrow.Author.Tests.{leb-true, leb-false, eqb-true, eq-eqb, ne_eqb}
 use lib.Dec.{leb, eqb}
 use lib.ListN.{length, take, drop, drop_of_length-le, get_or-eq_default, length-drop}
 use lib.Seq.{drop-cons, drop-append_seam, take_all}
@@ -91,20 +91,20 @@ number_bound s n at e =
     let q : n ≤ (number_of s).value = rw (← e) (spelled_grows (leading_digits (8 - at) (drop at s)) n) in
     omega (arith, number_small s)
 
-pub number_next : (s : List ℕ) (n at b : ℕ) → at < 8 → b ≡ stream_byte s at → is_digit b ≡ true → number_from s n at ≡ number_from s (n * 10 + (b - 48)) (at + 1)
+pub number_next : (s : List ℕ) (n at b d : ℕ) → at < 8 → d ≡ b - 48 → b ≡ stream_byte s at → is_digit b ≡ true → number_from s n at ≡ number_from s (n * 10 + d) (at + 1)
 unfolding number_from spelled
-number_next s n at b h q e =
+number_next s n at b d h z q e =
     let ds = leading_digits (8 - (at + 1)) (drop (at + 1) s) in
     let k : 8 - at ≡ suc (8 - (at + 1)) = omega arith in
     let l : at + suc (length ds) ≡ at + 1 + length ds = omega arith in
-    rw (k, digits_turn (8 - (at + 1)) at s, ← q, e, l)
+    rw (k, digits_turn (8 - (at + 1)) at s, ← q, e, l, z)
 
 -- the digits end at a byte that is none, or with the fifth
 pub number_stop : (s : List ℕ) (n at b : ℕ) → b ≡ stream_byte s at → is_digit b ≡ false → number_from s n at ≡ record { value = n; next = at }
 unfolding number_from spelled
 number_stop s n at b q e = rw (digits_none (8 - at) at s (rw (← q) e), add-zero at)
 
-pub number_full : (s : List ℕ) (n at : ℕ) → at ≡ 8 → number_from s n at ≡ record { value = n; next = at }
+pub number_full : (s : List ℕ) (n at : ℕ) → at ≡ 8 → number_from s n at ≡ record { value = n; next = 8 }
 unfolding number_from spelled leading_digits
 number_full s n at e = rw e
 
@@ -193,3 +193,43 @@ unfolding command_at
 command_rest s at c e =
     let q : take (length s - at) (drop at s) ≡ drop at s = take_all (length s - at) (drop at s) (simp length-drop (omega arith)) in
     rw (e, q)
+
+-- ---- the command that a list begins with, by its length and its first three bytes
+pub front_end : (b : List ℕ) → length b < 1 → End ≡ command b
+unfolding command
+front_end b h = let e : length b ≡ 0 = omega arith in rw (eq-eqb (length b) 0 e)
+
+begins_not : (b : List ℕ) (x y : ℕ) → (stream_byte b 0 ≡ 27 → stream_byte b 1 ≡ x → stream_byte b 2 ≡ y → ⊥) → starts_with b x y ≡ false
+unfolding starts_with
+begins_not b x y n = go (starts_with b x y) refl
+  where
+    go : (t : Bool) → starts_with b x y ≡ t → starts_with b x y ≡ false
+    go true e =
+        let h = both (eqb (stream_byte b 0) 27) _ e in
+        let k = both (eqb (stream_byte b 1) x) _ h.1 in
+        absurd (n (eqb-true _ _ h.0) (eqb-true _ _ k.0) (eqb-true _ _ k.1))
+    go false e = e
+
+pub front_none : (b : List ℕ) → 0 < length b → (stream_byte b 0 ≡ 27 → stream_byte b 1 ≡ 42 → stream_byte b 2 ≡ 99 → ⊥)
+    → (stream_byte b 0 ≡ 27 → stream_byte b 1 ≡ 41 → stream_byte b 2 ≡ 115 → ⊥) → (stream_byte b 0 ≡ 27 → stream_byte b 1 ≡ 40 → stream_byte b 2 ≡ 115 → ⊥)
+    → Broken ≡ command b
+unfolding command
+front_none b l p q r = rw (ne_eqb (length b) 0 (λ e. omega arith), begins_not b 42 99 p, begins_not b 41 115 q, begins_not b 40 115 r)
+
+pub front_short : (b : List ℕ) → 0 < length b → length b < 3 → Broken ≡ command b
+front_short b l h =
+    let z : stream_byte b 2 ≡ 0 = get_or-eq_default b 0 (omega arith) in
+    front_none b l (λ p q r. omega arith) (λ p q r. omega arith) (λ p q r. omega arith)
+
+module _ (b : List ℕ) (l : 0 < length b) (e : stream_byte b 0 ≡ 27) where
+  pub front_number : stream_byte b 1 ≡ 42 → stream_byte b 2 ≡ 99 → number_command b (number_of b) ≡ command b
+  unfolding command starts_with
+  front_number p q = rw (ne_eqb (length b) 0 (λ e. omega arith), e, p, q)
+
+  pub front_font : stream_byte b 1 ≡ 41 → stream_byte b 2 ≡ 115 → block_of FontBlock b (number_of b) ≡ command b
+  unfolding command starts_with
+  front_font p q = rw (ne_eqb (length b) 0 (λ e. omega arith), e, p, q)
+
+  pub front_character : stream_byte b 1 ≡ 40 → stream_byte b 2 ≡ 115 → block_of CharacterBlock b (number_of b) ≡ command b
+  unfolding command starts_with
+  front_character p q = rw (ne_eqb (length b) 0 (λ e. omega arith), e, p, q)

@@ -9,8 +9,8 @@ use Rattle.store.specs.declared.download.BadRun.{BadRun}
 use Rattle.stream.specs.Reading.{Action, number_set, download, Progress, Reading, none_counted, count_answer, making, obey, obey_all, end_answer, spelled_from, first_target, read_from}
 use Rattle.stream.specs.Downloads.{answers_in, done_among, refused_among, CountedByAnswers}
 use Rattle.stream.specs.declared.reading.CommandCounts.{CommandCounts}
-use Rattle.stream.specs.declared.reading.Ending.{Ending}
-use Rattle.stream.specs.declared.reading.Ending.TheVariants.{AtEnd, BrokenAt}
+use Rattle.stream.specs.Reading.{Ending}
+use Rattle.std.specs.Prelude.{None, Some}
 use Rattle.stream.proofs.Readings.{read_store}
 
 -- one answer more
@@ -36,8 +36,8 @@ counted (download d ∷ l) x =
 
 ended : (e : Ending) (x : CommandCounts) (run : BadRun) → ((end_answer e x run).done ≡ x.done) × ((end_answer e x run).refused ≡ x.refused)
 unfolding end_answer
-ended AtEnd x run = (refl, refl)
-ended (BrokenAt at) x run = (refl, refl)
+ended None x run = (refl, refl)
+ended (Some at) x run = (refl, refl)
 
 pub counted_by_answers : CountedByAnswers
 unfolding read_from

@@ -1,9 +1,10 @@
 -- Laws of numbers in decimal. Assumes nothing.
-use Prim.Native.Nat.{ℕ, zero, suc, ◌+◌, ◌*◌, ◌-◌, ◌/◌, ◌%◌, ◌≤◌, ◌<◌}
+use Prim.Native.Nat.{ℕ, zero, suc, ◌+◌, ◌*◌, ◌-◌, ◌/◌, ◌%◌, ◌^◌, ◌≤◌, ◌<◌, max}
 use mathlib.Core.Path.{◌≡◌, refl, sym, ap, ◌∙◌, subst}
 use mathlib.Core.List.{List, [], ◌∷◌, ◌++◌, append-nil}
 use mathlib.Core.Bool.{Bool, true, false, cond}
 use native.Mathlib.Omega.{arith}
+use native.Mathlib.Numerals.{unary_clauses}
 use borrow.Author.Tests.{ltb-true, ltb-false, lt-ltb, le-ltb, le-leb}
 use lib.Dec.{ltb, leb}
 use lib.ListN.{length, set, length-append}
@@ -45,20 +46,11 @@ by_tenths P one more n = go (suc n) n (omega arith)
         pick false e f = let l = ltb-false m 10 e in more m l (f (omega arith))
 
 -- ---- how many digits
-pub length_one : (n : ℕ) → n < 10 → length (decimal_of n) ≡ 1
+length_one : (n : ℕ) → n < 10 → length (decimal_of n) ≡ 1
 length_one n h = ap length (decimal_one n h)
 
 length_more : (n : ℕ) → 10 ≤ n → length (decimal_of n) ≡ length (decimal_of (n / 10)) + 1
 length_more n h = ap length (decimal_more n h) ∙ length-append (decimal_of (n / 10)) ((48 + n % 10) ∷ [])
-
-pub length_four : (n : ℕ) → 10000 ≤ n → length (decimal_of n) ≡ length (decimal_of (n / 10000)) + 4
-length_four n h =
-    let e : n / 10 / 10 / 10 / 10 ≡ n / 10000 = omega arith in
-    let a = length_more n (omega arith) in
-    let b = length_more (n / 10) (omega arith) in
-    let c = length_more (n / 10 / 10) (omega arith) in
-    let d : length (decimal_of (n / 10 / 10 / 10)) ≡ length (decimal_of (n / 10000)) + 1 = rw (← e) (length_more (n / 10 / 10 / 10) (omega arith)) in
-    omega arith
 
 -- ten to the k
 abbrev pub tens : ℕ → ℕ
@@ -69,11 +61,26 @@ tens_some : (k : ℕ) → 1 ≤ tens k
 tens_some zero = omega arith
 tens_some (suc k) = omega (arith, tens_some k)
 
-pub length_exact : (k n : ℕ) → tens k ≤ n → n < tens k * 10 → length (decimal_of n) ≡ k + 1
+length_exact : (k n : ℕ) → tens k ≤ n → n < tens k * 10 → length (decimal_of n) ≡ k + 1
 length_exact zero n l h = length_one n h
 length_exact (suc k) n l h =
     let e = length_exact k (n / 10) (omega arith) (omega arith) in
     length_more n (omega (arith, tens_some k)) ∙ omega arith
+
+tens_power : (k : ℕ) → tens k ≡ 10 ^ k
+tens_power zero = refl
+tens_power (suc k) = simp unary_clauses (omega (arith, tens_power k))
+
+-- of 0 as of 1
+pub length_by_power : (n m k : ℕ) → m ≡ max n 1 → 10 ^ k ≤ m → m < 10 * 10 ^ k → k + 1 ≡ length (decimal_of n)
+length_by_power n m k e l h = go n (omega arith) i
+  where
+    i : length (decimal_of m) ≡ k + 1
+    i = length_exact k m (omega (arith, tens_power k)) (omega (arith, tens_power k))
+
+    go : (j : ℕ) → m ≡ max j 1 → length (decimal_of m) ≡ k + 1 → k + 1 ≡ length (decimal_of j)
+    go zero q r = omega (arith, r, length_one m (omega arith), length_one 0 (omega arith))
+    go (suc j) q r = let s : m ≡ suc j = omega arith in sym (ap (λ (x : ℕ). length (decimal_of x)) (sym s) ∙ r)
 
 -- at most k + 1
 pub decimal_short : (k n : ℕ) → n < tens k * 10 → length (decimal_of n) ≤ k + 1
@@ -189,10 +196,3 @@ written_more s at n out i rest h l w =
       bytes = ap (λ (o : List ℕ). set o (i - 1) d) (w.bytes ∙ ap (λ (m : ℕ). with_bytes s m w.done) j)
           ∙ put_before s w.done (i - 1) d (omega (arith, w.high));
     }
-
-pub written_all : (s : List ℕ) (at n : ℕ) (out : List ℕ) (i rest : ℕ) → i ≤ at → Written s at n out i rest → out ≡ with_bytes s at (decimal_of n)
-unfolding last_digits
-written_all s at n out i rest h w =
-    let e : i ≡ at = omega (arith, w.low) in
-    let k : i - at ≡ 0 = omega arith in
-    w.bytes ∙ rw (e, ← (rw k at w.left))

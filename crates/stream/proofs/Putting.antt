@@ -6,7 +6,7 @@ use native.Mathlib.Numerals.{add-one}
 use native.Mathlib.Nat.{add-zero, add_assoc}
 use native.Mathlib.Omega.{arith}
 use lib.ListN.{length, take, drop, get_or, set, take-append-drop, length-append, length-take, length-drop}
-use lib.Seq.{take-suc, append_snoc, set_at, length-take-le, take_at, take-length, paste, paste-suc, drop-append-add, drop-drop}
+use lib.Seq.{take-suc, append_snoc, set_at, length-take-le, take_at, drop-append-add, drop-drop}
 use Rattle.change.specs.Put.{with_bytes}
 
 pub length_put : (s b : List ℕ) (at : ℕ) → at + length b ≤ length s → length (with_bytes s at b) ≡ length s
@@ -41,11 +41,3 @@ put_joined s a b at h =
     ap (λ (k : ℕ). drop (k + length b) (p ++ rest)) (sym l) ∙ drop-append-add p rest (length b) ∙ drop-drop (length b) (at + length a) s in
     rw (← (append_assoc (take at s) a rest), take_at p rest (at + length a) l, e, length-append a b, ← (add_assoc at (length a) (length b)))
     (simp append_assoc)
-
--- one byte more of a copy, and all of them
-pub paste_more : (s out b : List ℕ) (at i : ℕ) → out ≡ paste s at b i → at + i < length s → i < length b → set out (at + i) (get_or b i 0) ≡ paste s at b (i + 1)
-paste_more s out b at i e h l = rw (e, add-one i) (paste-suc s at b i 0 h l)
-
-pub put_copied : (s b : List ℕ) (at n : ℕ) → n ≡ length b → paste s at b n ≡ with_bytes s at b
-unfolding with_bytes
-put_copied s b at n e = rw (e, take-length b, append_assoc (take at s) b (drop (at + length b) s))

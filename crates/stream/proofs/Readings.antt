@@ -8,7 +8,7 @@ use native.Mathlib.Omega.{arith}
 use native.Mathlib.Nat.{zero-add}
 use lib.ListN.{length}
 use lib.Dec.{leb}
-use borrow.Author.Tests.{le-leb, lt-leb, leb-true, leb-false}
+use borrow.Author.Tests.{le-leb, leb-true, leb-false}
 use Rattle.form.specs.Model.{Store, decode}
 use Rattle.form.specs.Checks.{on_store}
 use Rattle.store.specs.Calls.{downloading_font}
@@ -25,10 +25,10 @@ use Rattle.stream.specs.Underway.{read_on, Underway, state_behind, read_after, E
 use Rattle.stream.specs.declared.command.Command.{Command}
 use Rattle.stream.specs.declared.command.Command.TheVariants.{SetFont, SetCode, FontBlock, CharacterBlock, Broken, End}
 use Rattle.stream.specs.declared.reading.CommandCounts.{CommandCounts}
-use Rattle.stream.specs.declared.reading.Ending.{Ending}
-use Rattle.stream.specs.declared.reading.Ending.TheVariants.{AtEnd, BrokenAt}
-use Rattle.stream.specs.declared.reading.Obeyed.{Obeyed}
-use Rattle.stream.specs.declared.reading.Obeyed.TheVariants.{On, Stop}
+use Rattle.stream.specs.Reading.{Ending}
+use Rattle.std.specs.Prelude.{None, Some}
+use Rattle.stream.specs.Underway.{Obeyed}
+use Rattle.std.specs.declared.ops.ControlFlow.TheVariants.{Continue, Break}
 use Rattle.stream.specs.declared.reading.State.{State}
 use Rattle.stream.specs.declared.reading.Target.{Target}
 use Rattle.stream.proofs.Commands.{command_at_ends, command_past}
@@ -76,11 +76,11 @@ module _ (b : List ℕ) (at : ℕ) (t : Target) (x : Progress) where
   unfolding read_from obey_all onward
   read_character f e q = rw (spelled_eq b at t, q)
 
-  pub read_broken : command_at b at ≡ Broken → read_from b at t x ≡ record { ending = BrokenAt at; progress = x }
+  pub read_broken : command_at b at ≡ Broken → read_from b at t x ≡ record { ending = Some at; progress = x }
   unfolding read_from obey_all onward
   read_broken q = rw (spelled_eq b at t, q)
 
-  pub read_end : command_at b at ≡ End → read_from b at t x ≡ record { ending = AtEnd; progress = x }
+  pub read_end : command_at b at ≡ End → read_from b at t x ≡ record { ending = None; progress = x }
   unfolding read_from obey_all onward
   read_end q = rw (spelled_eq b at t, q)
 
@@ -132,8 +132,8 @@ obeyed_counted (download d ∷ rest) x = obeyed_counted rest (obey (download d) 
 
 end_counts : (e : Ending) (x : CommandCounts) (run : BadRun) → (end_answer e x run).done + (end_answer e x run).refused ≡ x.done + x.refused
 unfolding end_answer
-end_counts AtEnd x run = refl
-end_counts (BrokenAt at) x run = refl
+end_counts None x run = refl
+end_counts (Some at) x run = refl
 
 pub commands_counted : CommandsCounted
 unfolding read_from
@@ -145,30 +145,29 @@ commands_counted b s st e =
     ∙ zero-add (length w.actions)
 
 -- ── the numbers and the counts
-pub count_done : (x : CommandCounts) → count_answer 0 x ≡ record { done = x.done + 1; refused = x.refused }
-unfolding count_answer
-count_done x = refl
+-- the target, the counts and the run that a reading starts with, by their fields
+pub first_by_fields : (t : Target) → (t.font ≡ 0) × (t.code ≡ 0) → t ≡ first_target
+first_by_fields t h =
+    let f : ℕ → ℕ → Target = λ n c. record { font = n; code = c } in
+    ap (λ (n : ℕ). f n t.code) h.0 ∙ ap (λ (c : ℕ). f 0 c) h.1
 
-pub count_refused : (k : ℕ) (x : CommandCounts) → (k ≡ 0 → ⊥) → count_answer k x ≡ record { done = x.done; refused = x.refused + 1 }
-unfolding count_answer
-count_refused zero x n = absurd (n refl)
-count_refused (suc k) x n = refl
+pub none_by_fields : (x : CommandCounts) → (x.done ≡ 0) × (x.refused ≡ 0) → x ≡ none_counted
+none_by_fields x h =
+    let f : ℕ → ℕ → CommandCounts = λ d r. record { done = d; refused = r } in
+    ap (λ (d : ℕ). f d x.refused) h.0 ∙ ap (λ (r : ℕ). f 0 r) h.1
+
+pub run_by_fields : (b : BadRun) → b.row ≡ 0 → b.filled ≡ 0 → b.run ≡ 0 → b ≡ no_run
+run_by_fields b p q r =
+    let f : ℕ → ℕ → ℕ → BadRun = λ x y z. record { row = x; filled = y; run = z } in
+    ap (λ (x : ℕ). f x b.filled b.run) p ∙ ap (λ (y : ℕ). f 0 y b.run) q ∙ ap (λ (z : ℕ). f 0 0 z) r
 
 pub number_low : (n : ℕ) (t : Target) → n ≤ 32767 → with_number n t ≡ record { font = n; code = t.code }
 unfolding with_number
 number_low n t l = rw (le-leb n 32767 l)
 
-pub number_high : (n : ℕ) (t : Target) → 32767 < n → with_number n t ≡ t
-unfolding with_number
-number_high n t l = rw (lt-leb n 32767 l)
-
 pub code_low : (n : ℕ) (t : Target) → n ≤ 255 → with_code n t ≡ record { font = t.font; code = n }
 unfolding with_code
 code_low n t l = rw (le-leb n 255 l)
-
-pub code_high : (n : ℕ) (t : Target) → 255 < n → with_code n t ≡ t
-unfolding with_code
-code_high n t l = rw (lt-leb n 255 l)
 
 -- a target in range stays so
 abbrev InRange : Target → Type 0
@@ -235,61 +234,61 @@ module _ (b s : List ℕ) (x : State) (h : Underway (length b) s x) where
   in_range_lem : InRange x.target
   in_range_lem = (h.font, h.code)
 
-  pub obey_number : (n e : ℕ) (y : State) → command_at b x.at ≡ SetFont n e → y ≡ state_behind x e (with_number n x.target) (range_answer 32767 n) x.bad x.cursor → Obeys b s x s (On y)
+  pub obey_number : (n e : ℕ) (y : State) → command_at b x.at ≡ SetFont n e → y ≡ state_behind x e (with_number n x.target) (range_answer 32767 n) x.bad x.cursor → Obeys b s x s (Continue y)
   unfolding read_after Leads obey
   obey_number n e y q i =
       let w = ends_number b x.at n e q in
       rw i (sym (read_number b x.at x.target (record { counts = x.counts; bad = x.bad; bytes = s }) n e q), (w.0, under s _ _ e _ _ w.0 w.1 (number_range n x.target in_range_lem) h.points))
 
-  pub obey_code : (n e : ℕ) (y : State) → command_at b x.at ≡ SetCode n e → y ≡ state_behind x e (with_code n x.target) (range_answer 255 n) x.bad x.cursor → Obeys b s x s (On y)
+  pub obey_code : (n e : ℕ) (y : State) → command_at b x.at ≡ SetCode n e → y ≡ state_behind x e (with_code n x.target) (range_answer 255 n) x.bad x.cursor → Obeys b s x s (Continue y)
   unfolding read_after Leads obey
   obey_code n e y q i =
       let w = ends_code b x.at n e q in
       rw i (sym (read_code b x.at x.target (record { counts = x.counts; bad = x.bad; bytes = s }) n e q), (w.0, under s _ _ e _ _ w.0 w.1 (code_range n x.target in_range_lem) h.points))
 
-  pub obey_font : (f e : ℕ) (y : State) (u : List ℕ) → command_at b x.at ≡ FontBlock f e
-      → y ≡ state_behind x e x.target (downloading_font x.target.font (part b f e) s).answer (first_run x.bad (downloading_font x.target.font (part b f e) s).bad) y.cursor → u ≡ (downloading_font x.target.font (part b f e) s).bytes
-      → Points u y.cursor → Obeys b s x u (On y)
+  pub obey_font : (f e : ℕ) (y : State) (c : Cursor) (u : List ℕ) → command_at b x.at ≡ FontBlock f e
+      → y ≡ state_behind x e x.target (downloading_font x.target.font (part b f e) s).answer (first_run x.bad (downloading_font x.target.font (part b f e) s).bad) c → u ≡ (downloading_font x.target.font (part b f e) s).bytes
+      → Points u c → Obeys b s x u (Continue y)
   unfolding read_after Leads obey making
-  obey_font f e y u q i j p =
+  obey_font f e y c u q i j p =
       let w = ends_font b x.at f e q in
       let l : x.at < e = omega (arith, w.0, w.1) in
       let k = (downloading_font x.target.font (part b f e) s).answer in
       let g = first_run x.bad (downloading_font x.target.font (part b f e) s).bad in (
-        ap (read_on b u) i ∙ ap (λ (m : List ℕ). read_on b m (state_behind x e x.target k g y.cursor)) j
+        ap (read_on b u) i ∙ ap (λ (m : List ℕ). read_on b m (state_behind x e x.target k g c)) j
             ∙ sym (read_font b x.at x.target (record { counts = x.counts; bad = x.bad; bytes = s }) f e q),
-        subst (λ (z : State). (x.at < z.at) × Underway (length b) u z) (sym i) (l, under u x.target k e g y.cursor l w.2 in_range_lem p),
+        subst (λ (z : State). (x.at < z.at) × Underway (length b) u z) (sym i) (l, under u x.target k e g c l w.2 in_range_lem p),
       )
 
-  pub obey_character : (f e : ℕ) (y : State) (u : List ℕ) → command_at b x.at ≡ CharacterBlock f e
-      → y ≡ state_behind x e x.target (downloading_character x.target.font x.target.code (part b f e) s).answer (first_run x.bad (downloading_character x.target.font x.target.code (part b f e) s).bad) y.cursor
-      → u ≡ (downloading_character x.target.font x.target.code (part b f e) s).bytes → Points u y.cursor → Obeys b s x u (On y)
+  pub obey_character : (f e : ℕ) (y : State) (c : Cursor) (u : List ℕ) → command_at b x.at ≡ CharacterBlock f e
+      → y ≡ state_behind x e x.target (downloading_character x.target.font x.target.code (part b f e) s).answer (first_run x.bad (downloading_character x.target.font x.target.code (part b f e) s).bad) c
+      → u ≡ (downloading_character x.target.font x.target.code (part b f e) s).bytes → Points u c → Obeys b s x u (Continue y)
   unfolding read_after Leads obey making
-  obey_character f e y u q i j p =
+  obey_character f e y c u q i j p =
       let w = ends_character b x.at f e q in
       let l : x.at < e = omega (arith, w.0, w.1) in
       let k = (downloading_character x.target.font x.target.code (part b f e) s).answer in
       let g = first_run x.bad (downloading_character x.target.font x.target.code (part b f e) s).bad in (
-        ap (read_on b u) i ∙ ap (λ (m : List ℕ). read_on b m (state_behind x e x.target k g y.cursor)) j
+        ap (read_on b u) i ∙ ap (λ (m : List ℕ). read_on b m (state_behind x e x.target k g c)) j
             ∙ sym (read_character b x.at x.target (record { counts = x.counts; bad = x.bad; bytes = s }) f e q),
-        subst (λ (z : State). (x.at < z.at) × Underway (length b) u z) (sym i) (l, under u x.target k e g y.cursor l w.2 in_range_lem p),
+        subst (λ (z : State). (x.at < z.at) × Underway (length b) u z) (sym i) (l, under u x.target k e g c l w.2 in_range_lem p),
       )
 
-  pub obey_broken : command_at b x.at ≡ Broken → Obeys b s x s (Stop (BrokenAt x.at))
+  pub obey_broken : command_at b x.at ≡ Broken → Obeys b s x s (Break (Some x.at))
   unfolding read_after Leads EndsWithin
   obey_broken q = (sym (read_broken b x.at x.target (record { counts = x.counts; bad = x.bad; bytes = s }) q), ((h.counts, broken_within b x.at q), h.points))
 
-  pub obey_end : command_at b x.at ≡ End → Obeys b s x s (Stop AtEnd)
+  pub obey_end : command_at b x.at ≡ End → Obeys b s x s (Break None)
   unfolding read_after Leads EndsWithin
   obey_end q = (sym (read_end b x.at x.target (record { counts = x.counts; bad = x.bad; bytes = s }) q), (omega (arith, h.counts, h.within), h.points))
 
 -- ── the loop
 module _ (b s u : List ℕ) (x : State) (r : Obeyed) (h : Obeys b s x u r) where
-  pub went_on : (y : State) → r ≡ On y → (read_on b u y ≡ read_on b s x) × ((x.at < y.at) × Underway (length b) u y)
+  pub went_on : (y : State) → r ≡ Continue y → (read_on b u y ≡ read_on b s x) × ((x.at < y.at) × Underway (length b) u y)
   unfolding read_after Leads
   went_on y q = subst (Obeys b s x u) q h
 
-  pub went_last : (e : Ending) → r ≡ Stop e → (record { ending = e; progress = record { counts = x.counts; bad = x.bad; bytes = u } } ≡ read_on b s x) × (EndsWithin (length b) x.counts e × Points u x.cursor)
+  pub went_last : (e : Ending) → r ≡ Break e → (record { ending = e; progress = record { counts = x.counts; bad = x.bad; bytes = u } } ≡ read_on b s x) × (EndsWithin (length b) x.counts e × Points u x.cursor)
   unfolding read_after Leads
   went_last e q = subst (Obeys b s x u) q h
 

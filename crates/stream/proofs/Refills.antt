@@ -24,7 +24,7 @@ use Rattle.stream.specs.RoundTrip.{commands_of, commands_in, mark_after}
 use Rattle.stream.specs.Written.{continues, continuation, written_record, written_run}
 use Rattle.stream.specs.Writing.{set_code, character_block_command}
 use Rattle.stream.specs.Reading.{Ended}
-use Rattle.stream.specs.declared.reading.Ending.TheVariants.{AtEnd}
+use Rattle.std.specs.Prelude.{None}
 use Rattle.stream.proofs.Writes.{continued}
 use Rattle.stream.proofs.Words.{reads, target, all_done, on_code, on_character_lem, on_end}
 
@@ -108,7 +108,7 @@ Chars n g k (character m c h d ∷ rs) = (m ≡ n) × (c ≤ 255) × (k ≤ key_
 
 -- what reading ends with, all done
 abbrev pub finished : ℕ → Store → Ended
-finished k st = record { ending = AtEnd; progress = all_done k (encode st) }
+finished k st = record { ending = None; progress = all_done k (encode st) }
 
 -- what reading records into a store leaves: a store where they stand behind the others
 abbrev pub filled : List Rec → Store → Store

@@ -1,14 +1,6 @@
 -- What tests tell. Assumes nothing.
-use mathlib.Core.Path.{◌≡◌, refl, sym, ◌∙◌}
-use mathlib.Core.Bool.{Bool, true, false, ◌&&◌, not, cond}
-use borrow.Author.Tests.{not-true, not-false}
-
--- what `if !test(..)` tells of the test's definition
-pub failed : {r t : Bool} → r ≡ t → not r ≡ true → t ≡ false
-failed {r} e h = sym e ∙ not-true r h
-
-pub passed : {r t : Bool} → r ≡ t → not r ≡ false → t ≡ true
-passed {r} e h = sym e ∙ not-false r h
+use mathlib.Core.Path.{◌≡◌, refl, sym}
+use mathlib.Core.Bool.{Bool, true, false, ◌&&◌, cond}
 
 -- two tests that hold together
 pub both : (s t : Bool) → (s && t) ≡ true → (s ≡ true) × (t ≡ true)

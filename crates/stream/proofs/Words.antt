@@ -11,7 +11,7 @@ use Rattle.store.specs.Calls.{downloading_font}
 use Rattle.store.specs.Download.{downloading_character}
 use Rattle.stream.specs.Writing.{set_font, set_code, font_block_head, font_block_command, character_block_head, character_block_command}
 use Rattle.stream.specs.Reading.{Download, number_set, download, font_block, character_block, Progress, Ended, range_answer, count_answer, making, part, obey, read_from, first_run}
-use Rattle.stream.specs.declared.reading.Ending.TheVariants.{AtEnd}
+use Rattle.std.specs.Prelude.{None}
 use Rattle.stream.specs.declared.reading.Target.{Target}
 use Rattle.stream.proofs.Commands.{command_past}
 use Rattle.stream.proofs.Readings.{read_number, read_code, read_font, read_character, read_end, number_low, code_low}
@@ -85,5 +85,5 @@ module _ (pre rest : List ℕ) (n c k : ℕ) (s : List ℕ) where
       ∙ ap (read_from b e (target n c)) (obey_done (character_block n c (part b f e)) k s st z)
       ∙ on_word pre (character_block_command block) rest (target n c) (all_done (k + 1) (encode st))
 
-pub on_end : (pre : List ℕ) (t : Target) (x : Progress) → reads pre [] t x ≡ record { ending = AtEnd; progress = x }
+pub on_end : (pre : List ℕ) (t : Target) (x : Progress) → reads pre [] t x ≡ record { ending = None; progress = x }
 on_end pre t x = read_end (pre ++ []) (length pre) t x (command_past (pre ++ []) (length pre) (rw (append-nil pre) (omega arith)))

@@ -4,19 +4,20 @@ use mathlib.Core.List.{List, [], ◌∷◌, ◌++◌, append-nil}
 use mathlib.Core.Bool.{Bool, true, false}
 use Prim.Native.Nat.{ℕ, ◌+◌, ◌-◌, ◌*◌, ◌<◌, ◌≤◌}
 use native.Mathlib.Omega.{arith}
-use lib.ListN.{length, take, drop, set, length-take, length-drop, length-append, drop_of_length-le}
+use lib.ListN.{length, take, drop, set, length-take, length-drop, length-append, drop_of_length-le, take-append-drop}
 use lib.Seq.{take_all, take-add, take-append-add, drop-append-add, drop-drop}
 use lib.Dec.{leb}
 use borrow.Author.Tests.{le-leb, lt-leb, leb-true, leb-false}
 use Rattle.blocks.specs.Header.{block_limit, header_bytes, own_bytes, own_header}
 use Rattle.blocks.specs.Character.{descriptor_bytes, character_format}
 use Rattle.blocks.proofs.HeaderBytes.{own_length}
-use Rattle.form.specs.Model.{Rec, font, size_of}
-use Rattle.form.specs.Records.{records_of, MetAt, font_from, FontMet, character_from, CharacterMet, Between}
+use Rattle.form.specs.Layout.{most_store}
+use Rattle.form.specs.Model.{Rec, font, character, size_of, total}
+use Rattle.form.specs.Records.{records_of, Between}
 use Rattle.store.specs.Calls.{onto}
 use Rattle.form.specs.declared.walk.Places.{Places}
 use Rattle.form.proofs.Seeks.{KeptFont, font_call}
-use Rattle.form.proofs.FontRecords.{between_none, between_next, font_records}
+use Rattle.form.proofs.FontRecords.{font_records}
 use Rattle.stream.specs.Digits.{decimal_of}
 use Rattle.change.specs.Put.{with_bytes}
 use Rattle.stream.specs.Writing.{spelling, set_font, set_code, font_block_head, font_block_command, character_block_head, character_block_command}
@@ -160,119 +161,71 @@ font_fits n x h l = omega arith
 pub character_length_lem : (c x y : ℕ) (b : List ℕ) → x ≡ 4 + length (decimal_of c) → y ≡ length (blocks b) → x + y ≡ length (written_character c b)
 character_length_lem c x y b p q = omega (arith, ap length (character_parts c b), length-append (set_code c) (blocks b), length_set_code c)
 
--- ── what is met at a place of the run
-module _ (s : List ℕ) (at n kept next : ℕ) (m : FontMet s at n kept next) where
-  -- as the slice that the code lends
-  abbrev bytes_of_font : List ℕ
-  bytes_of_font = take (kept + header_bytes - kept) (drop kept s)
+-- ── a record that the store gives
+-- its kept bytes and its data stand in a row
+pub as_character : (n c : ℕ) (b : List ℕ) → descriptor_bytes ≤ length b → written_record (character n c (take descriptor_bytes b) (drop descriptor_bytes b)) ≡ written_character c b
+unfolding written_record written_character
+as_character n c b l =
+    let e : length (take descriptor_bytes b) ≡ descriptor_bytes = simp length-take (omega arith) in
+    ap (λ (x : List ℕ). set_code c ++ x) (as_blocks (take descriptor_bytes b) (drop descriptor_bytes b) e ∙ ap blocks (take-append-drop descriptor_bytes b))
 
-  abbrev font_lent : Rec
-  font_lent = font n bytes_of_font
-
-  pub lent_length : length bytes_of_font ≡ header_bytes
-  lent_length = simp (length-take, length-drop) (omega (arith, m.room))
-
-  font_lent_lem : font_lent ≡ font_from s n kept
-  font_lent_lem = let e : kept + header_bytes - kept ≡ header_bytes = omega arith in rw e
-
-  pub font_measured : (x : ℕ) → x ≡ length (written_record font_lent) → x ≤ header_bytes + 18
-      → (r : Rec) × MetAt s at r next × (x ≡ length (written_record r)) × (x ≤ 2 * size_of r)
-  font_measured x e l =
-      (font_from s n kept, m.met, e ∙ ap (λ (r : Rec). length (written_record r)) font_lent_lem, font_fits n x (take header_bytes (drop kept s)) l)
-
-  pub font_room : (to k : ℕ) → ((r : Rec) (next : ℕ) → MetAt s at r next → to + length (written_record r) ≤ k) → to + length (written_record font_lent) ≤ k
-  font_room to k f = rw font_lent_lem (f (font_from s n kept) next m.met)
-
-  pub font_wrote : (o last : List ℕ) (to end : ℕ) → end ≡ to + length (written_record font_lent) → last ≡ with_bytes o to (written_record font_lent)
-      → (r : Rec) × MetAt s at r next × (end ≡ to + length (written_record r)) × (last ≡ with_bytes o to (written_record r))
-  font_wrote o last to end p q = (font_from s n kept, m.met, p ∙ ap (λ (r : Rec). to + length (written_record r)) font_lent_lem, q ∙ ap (λ (r : Rec). with_bytes o to (written_record r)) font_lent_lem)
-
-module _ (s : List ℕ) (at n c kept bytes next : ℕ) (m : CharacterMet s at n c kept bytes next) where
-  abbrev met_character : Rec
-  met_character = character_from s n c kept bytes next
-
-  abbrev bytes_lent : List ℕ
-  bytes_lent = take (next - kept) (drop kept s)
-
-  -- its kept bytes and its data stand in a row
-  character_lent : written_record met_character ≡ written_character c bytes_lent
-  unfolding written_record written_character
-  character_lent =
-      let a = take descriptor_bytes (drop kept s) in
-      let d = take (next - bytes) (drop bytes s) in
-      let l : length (take descriptor_bytes (drop kept s)) ≡ descriptor_bytes = simp (length-take, length-drop) (omega (arith, m.join, m.last, m.met.within)) in
-      let y : next - kept ≡ descriptor_bytes + (next - bytes) = omega (arith, m.join, m.last) in
-      let z : drop descriptor_bytes (drop kept s) ≡ drop bytes s = drop-drop descriptor_bytes kept s ∙ ap (λ (i : ℕ). drop i s) m.join in
-      let j : bytes_lent ≡ a ++ d =
-      ap (λ (i : ℕ). take i (drop kept s)) y ∙ take-add descriptor_bytes (next - bytes) (drop kept s) ∙ ap (λ (x : List ℕ). a ++ take (next - bytes) x) z in
-      rw j (ap (λ (x : List ℕ). set_code c ++ x) (as_blocks a d l))
-
-  character_fits : (x : ℕ) → x ≤ next - kept + 29 → x ≤ 2 * size_of met_character
-  unfolding size_of
-  character_fits x h =
-      let l : length (take (next - bytes) (drop bytes s)) ≡ next - bytes = simp (length-take, length-drop) (omega (arith, m.last, m.met.within)) in
-      omega (arith, l, h, m.join, m.last)
-
-  pub character_measured : (x : ℕ) → ((b : List ℕ) → length b ≡ next - kept → x ≡ length (written_character c b)) → x ≤ next - kept + 29
-      → (r : Rec) × MetAt s at r next × (x ≡ length (written_record r)) × (x ≤ 2 * size_of r)
-  character_measured x f h =
-      let k : length (take (next - kept) (drop kept s)) ≡ next - kept = simp (length-take, length-drop) (omega (arith, m.join, m.last, m.met.within)) in
-      (met_character, m.met, f bytes_lent k ∙ ap length (sym character_lent), character_fits x h)
-
-  pub character_room : (to k : ℕ) → ((r : Rec) (next : ℕ) → MetAt s at r next → to + length (written_record r) ≤ k) → to + length (written_character c bytes_lent) ≤ k
-  character_room to k f = rw (← character_lent) (f met_character next m.met)
-
-  pub character_wrote : (o last : List ℕ) (to end : ℕ) → end ≡ to + length (written_character c bytes_lent) → last ≡ with_bytes o to (written_character c bytes_lent)
-      → (r : Rec) × MetAt s at r next × (end ≡ to + length (written_record r)) × (last ≡ with_bytes o to (written_record r))
-  character_wrote o last to end p q =
-      (met_character, m.met, p ∙ ap (λ (w : List ℕ). to + length w) (sym character_lent), q ∙ ap (with_bytes o to) (sym character_lent))
+pub character_size : (n c : ℕ) (b : List ℕ) → descriptor_bytes ≤ length b → size_of (character n c (take descriptor_bytes b) (drop descriptor_bytes b)) ≡ 10 + length b
+unfolding size_of
+character_size n c b l = omega (arith, length-drop descriptor_bytes b)
 
 -- ── a run of records: what is left of it from a place on
 run_next : (rs ts : List Rec) (r : Rec) → rs ≡ r ∷ ts → written_run rs ≡ written_record r ++ written_run ts
 unfolding written_run
 run_next rs ts r e = rw e
 
-run_ended : (s : List ℕ) (at hi : ℕ) (rs : List Rec) → Between s at hi rs → hi ≤ at → written_run rs ≡ []
-run_ended s at hi rs b l = ap written_run (between_none s at hi rs b l) ∙ (unfold written_run in refl)
+run_ended : (rs : List Rec) → rs ≡ [] → written_run rs ≡ []
+unfolding written_run
+run_ended rs e = rw e
 
--- n is the length of what stands before at
-abbrev pub Counted : List ℕ → ℕ → ℕ → ℕ → ℕ → Type 0
-Counted s lo hi at n = (rs : List Rec) → Between s lo hi rs → (ts : List Rec) × Between s at hi ts × (n + length (written_run ts) ≡ length (written_run rs))
+-- n is the length of the records before those that are left
+abbrev pub Counted : List ℕ → ℕ → ℕ → List Rec → ℕ → Type 0
+Counted s lo hi left n = (rs : List Rec) → Between s lo hi rs → (n + length (written_run left) ≡ length (written_run rs)) × (n + 2 * total left ≤ 2 * most_store)
 
-pub count_next : (s : List ℕ) (lo hi at next n m : ℕ) (r : Rec) → Counted s lo hi at n → at < hi → MetAt s at r next → m ≡ length (written_record r) → Counted s lo hi next (n + m)
-count_next s lo hi at next n m r f l e g rs q =
-    let t = f rs q in
-    let x = between_next s at hi t.0 t.1 r next l e in
-    let j = ap length (run_next t.0 x.rest r x.is) ∙ length-append (written_record r) (written_run x.rest) in
-    (x.rest, x.more, omega (arith, t.2))
+pub count_all : (s : List ℕ) (lo hi : ℕ) (left : List Rec) → ((rs : List Rec) → Between s lo hi rs → left ≡ rs) → Counted s lo hi left 0
+count_all s lo hi left f rs b = let e = f rs b in (omega (arith, ap (λ (l : List Rec). length (written_run l)) e), omega (arith, ap total e, b.sum, b.within, b.small))
 
-pub counted : (s : List ℕ) (lo hi at n : ℕ) → Counted s lo hi at n → hi ≤ at → (rs : List Rec) → Between s lo hi rs → n ≡ length (written_run rs)
-counted s lo hi at n f l rs q = let t = f rs q in let z = ap length (run_ended s at hi t.0 t.1 l) in omega (arith, t.2)
+total_next : (left more : List Rec) (r : Rec) → left ≡ r ∷ more → total left ≡ size_of r + total more
+unfolding total
+total_next left more r e = rw e
 
--- out is o with what stands before at written to its first bytes, up to place to
-abbrev pub Filled : List ℕ → ℕ → ℕ → List ℕ → ℕ → List ℕ → ℕ → Type 0
-Filled s lo hi o at out to = (rs : List Rec) → Between s lo hi rs → (ts : List Rec) × Between s at hi ts × (to + length (written_run ts) ≤ length out) × (with_bytes out to (written_run ts) ≡ with_bytes o 0 (written_run rs))
+-- the next record is small
+pub next_small : (s : List ℕ) (lo hi n : ℕ) (left more : List Rec) (r : Rec) (rs : List Rec) → Between s lo hi rs → Counted s lo hi left n → left ≡ r ∷ more → (size_of r ≤ most_store) × (n + 2 * size_of r ≤ 2 * most_store)
+next_small s lo hi n left more r rs b f e = let w = (f rs b).1 in let t = total_next left more r e in (omega arith, omega arith)
 
-pub fill_room : (s : List ℕ) (at hi to n : ℕ) (ts : List Rec) → Between s at hi ts → at < hi → to + length (written_run ts) ≤ n
-    → (r : Rec) (next : ℕ) → MetAt s at r next → to + length (written_record r) ≤ n
-fill_room s at hi to n ts q l h r next m =
-    let x = between_next s at hi ts q r next l m in
-    (joined_room (written_run ts) (written_record r) (written_run x.rest) to n (run_next ts x.rest r x.is) h).0
+pub count_next : (s : List ℕ) (lo hi n m : ℕ) (left more : List Rec) (r : Rec) → Counted s lo hi left n → left ≡ r ∷ more → m ≡ length (written_record r) → m ≤ 2 * size_of r → Counted s lo hi more (n + m)
+count_next s lo hi n m left more r f e g h rs b =
+    let t = f rs b in
+    let j = ap length (run_next left more r e) ∙ length-append (written_record r) (written_run more) in
+    (omega (arith, t.0), omega (arith, t.1, total_next left more r e))
 
-pub fill_next : (s : List ℕ) (lo hi : ℕ) (o : List ℕ) (at next to end : ℕ) (out last : List ℕ) (r : Rec) → Filled s lo hi o at out to → at < hi → MetAt s at r next
-    → end ≡ to + length (written_record r) → last ≡ with_bytes out to (written_record r) → Filled s lo hi o next last end
-fill_next s lo hi o at next to end out last r f l g e p rs q =
-    let t = f rs q in
-    let x = between_next s at hi t.0 t.1 r next l g in
-    let a = written_record r in
-    let b = written_run x.rest in
-    let i = run_next t.0 x.rest r x.is in
-    let k = joined_room (written_run t.0) a b to (length out) i t.2 in
-    let m : length last ≡ length out = ap length p ∙ length_put out a to k.0 in
-    (x.rest, x.more, omega (arith, k.1), rw (p, e) (put_joined out a b to k.1 ∙ ap (with_bytes out to) (sym i) ∙ t.3))
+pub counted : (s : List ℕ) (lo hi n : ℕ) (left : List Rec) → Counted s lo hi left n → left ≡ [] → (rs : List Rec) → Between s lo hi rs → n ≡ length (written_run rs)
+counted s lo hi n left f e rs b = let t = f rs b in let z = ap length (run_ended left e) in omega (arith, t.0)
 
-pub filled : (s : List ℕ) (lo hi : ℕ) (o : List ℕ) (at to : ℕ) (out : List ℕ) → Filled s lo hi o at out to → hi ≤ at → (rs : List Rec) → Between s lo hi rs → out ≡ with_bytes o 0 (written_run rs)
-filled s lo hi o at to out f l rs q = let t = f rs q in sym (ap (with_bytes out to) (run_ended s at hi t.0 t.1 l) ∙ put_none out to) ∙ t.3
+-- out is o with the records before those that are left written to its first bytes, up to place to
+abbrev pub Filled : List ℕ → ℕ → ℕ → List ℕ → List Rec → List ℕ → ℕ → Type 0
+Filled s lo hi o left out to = (rs : List Rec) → Between s lo hi rs → (to + length (written_run left) ≤ length out) × (with_bytes out to (written_run left) ≡ with_bytes o 0 (written_run rs))
+
+pub fill_room : (s : List ℕ) (lo hi to : ℕ) (o out : List ℕ) (left more : List Rec) (r : Rec) (rs : List Rec) → Between s lo hi rs → Filled s lo hi o left out to → left ≡ r ∷ more → to + length (written_record r) ≤ length out
+fill_room s lo hi to o out left more r rs b f e = (joined_room (written_run left) (written_record r) (written_run more) to (length out) (run_next left more r e) (f rs b).0).0
+
+pub fill_next : (s : List ℕ) (lo hi to end : ℕ) (o out last : List ℕ) (left more : List Rec) (r : Rec) → Filled s lo hi o left out to → left ≡ r ∷ more
+    → end ≡ to + length (written_record r) → last ≡ with_bytes out to (written_record r) → Filled s lo hi o more last end
+fill_next s lo hi to end o out last left more r f g e p rs b =
+    let t = f rs b in
+    let x = written_record r in
+    let y = written_run more in
+    let i = run_next left more r g in
+    let k = joined_room (written_run left) x y to (length out) i t.0 in
+    let m : length last ≡ length out = ap length p ∙ length_put out x to k.0 in
+    (omega (arith, k.1), rw (p, e) (put_joined out x y to k.1 ∙ ap (with_bytes out to) (sym i) ∙ t.1))
+
+pub filled : (s : List ℕ) (lo hi to : ℕ) (o out : List ℕ) (left : List Rec) → Filled s lo hi o left out to → left ≡ [] → (rs : List Rec) → Between s lo hi rs → out ≡ with_bytes o 0 (written_run rs)
+filled s lo hi to o out left f e rs b = let t = f rs b in sym (ap (with_bytes out to) (run_ended left e) ∙ put_none out to) ∙ t.1
 
 pub put_front : (b out : List ℕ) → with_bytes out 0 b ≡ onto b out
 unfolding with_bytes

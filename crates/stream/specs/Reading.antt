@@ -1,6 +1,6 @@
 -- Document 01, "The stream": reading a stream. Its whole commands before any 13 spell what is to be done: numbers set and downloads made, one
 -- by one, each download by the store's own definition; those answered 0 are counted as done, the others as refused.
-use Rattle.std.specs.Prelude.{ℕ, zero, suc, ◌+◌, ◌-◌, List, [], ◌∷◌, cond, length, take, drop, eqb, leb}
+use Rattle.std.specs.Prelude.{ℕ, zero, suc, ◌+◌, ◌-◌, List, [], ◌∷◌, Option, None, Some, cond, length, take, drop, eqb, leb}
 use Rattle.form.specs.Layout.{last_font, last_code}
 use Rattle.form.specs.Model.{decode}
 use Rattle.form.specs.Checks.{on_store}
@@ -12,9 +12,6 @@ use Rattle.stream.specs.Command.{command_at}
 use Rattle.stream.specs.declared.command.Command.{Command}
 use Rattle.stream.specs.declared.command.Command.TheVariants.{SetFont, SetCode, FontBlock, CharacterBlock, Broken, End}
 use Rattle.stream.specs.declared.reading.CommandCounts.{CommandCounts}
-use Rattle.stream.specs.declared.reading.Ending.{Ending}
-use Rattle.stream.specs.declared.reading.Ending.TheVariants.{AtEnd, BrokenAt}
-use Rattle.stream.specs.declared.reading.StreamRead.{StreamRead}
 use Rattle.stream.specs.declared.reading.Target.{Target}
 
 -- ── the font number and the code that a block is for
@@ -43,6 +40,10 @@ pub data Action : Type 0 where
   number_set : (answer : ℕ) → Action
   download : (d : Download) → Action
 
+-- how the reading of a stream ends: with a 13 at a place, or with the stream
+abbrev pub Ending : Type 0
+Ending = Option ℕ
+
 -- the actions before any 13, and where that is, if there is one
 pub record Spelled : Type 0 where
   pub actions : List Action
@@ -60,12 +61,12 @@ onward b rest at t (SetFont n next) = spell (number_set (range_answer last_font 
 onward b rest at t (SetCode n next) = spell (number_set (range_answer last_code n)) (rest next (with_code n t))
 onward b rest at t (FontBlock from to) = spell (download (font_block t.font (part b from to))) (rest to t)
 onward b rest at t (CharacterBlock from to) = spell (download (character_block t.font t.code (part b from to))) (rest to t)
-onward b rest at t Broken = record { actions = []; ending = BrokenAt at }
-onward b rest at t End = record { actions = []; ending = AtEnd }
+onward b rest at t Broken = record { actions = []; ending = Some at }
+onward b rest at t End = record { actions = []; ending = None }
 
 -- what b spells from a place on, k commands at most; no command is empty, so that there are no more of them than bytes
 unfoldable pub spelled_in : ℕ → List ℕ → ℕ → Target → Spelled
-spelled_in zero b at t = record { actions = []; ending = AtEnd }
+spelled_in zero b at t = record { actions = []; ending = None }
 spelled_in (suc k) b at t = onward b (spelled_in k b) at t (command_at b at)
 
 unfoldable pub spelled_from : List ℕ → ℕ → Target → Spelled
@@ -113,19 +114,30 @@ unfoldable pub read_from : List ℕ → ℕ → Target → Progress → Ended
 read_from b at t x = record { ending = (spelled_from b at t).ending; progress = obey_all (spelled_from b at t).actions x }
 
 -- ── the answer: "commands done, commands refused"; 13 "gives its place and the counts so far"
+pub record StreamAnswer : Type 0 where
+  pub refusal : ℕ
+  pub done : ℕ
+  pub refused : ℕ
+  pub place : ℕ
+  pub bad : BadRun
+
 pub record Reading : Type 0 where
-  pub answer : StreamRead
+  pub answer : StreamAnswer
   pub bytes : List ℕ
 
-unfoldable pub end_answer : Ending → CommandCounts → BadRun → StreamRead
-end_answer AtEnd x run = record { refusal = 0; done = x.done; refused = x.refused; place = 0; bad = run }
-end_answer (BrokenAt at) x run = record { refusal = 13; done = x.done; refused = x.refused; place = at; bad = run }
+unfoldable pub end_answer : Ending → CommandCounts → BadRun → StreamAnswer
+end_answer None x run = record { refusal = 0; done = x.done; refused = x.refused; place = 0; bad = run }
+end_answer (Some at) x run = record { refusal = 13; done = x.done; refused = x.refused; place = at; bad = run }
 
 abbrev pub reading_of : Ended → Reading
 reading_of e = record { answer = end_answer e.ending e.progress.counts e.progress.bad; bytes = e.progress.bytes }
 
--- "Reading checks 1 first." "A refusal answers 0 for every other number"
+-- "A refusal answers 0 for every other number"
+abbrev pub unread : ℕ → StreamAnswer
+unread k = record { refusal = k; done = 0; refused = 0; place = 0; bad = no_run }
+
+-- "Reading checks 1 first."
 unfoldable pub reading : List ℕ → List ℕ → Reading
 reading b s =
-    on_store (λ k. record { answer = record { refusal = k; done = 0; refused = 0; place = 0; bad = no_run }; bytes = s }) (decode s)
+    on_store (λ k. record { answer = unread k; bytes = s }) (decode s)
     (λ st. reading_of (read_from b 0 first_target (record { counts = none_counted; bad = no_run; bytes = s })))

@@ -1,5 +1,7 @@
 -- Document 01, "The stream", "Writing a font": the stream that a kept font is written as, and the whole call.
-use Rattle.std.specs.Prelude.{ℕ, List, [], ◌∷◌, ◌++◌, leb, length, take, drop}
+use Rattle.std.specs.Prelude.{ℕ, List, [], ◌∷◌, ◌++◌, Result, Ok, Err, leb, length, take, drop}
+use Rattle.refusals.specs.Refusals.{numbered_result}
+use Rattle.refusals.specs.declared.Refused.{Refused}
 use Rattle.blocks.specs.Header.{own_header}
 use Rattle.blocks.specs.Character.{character_format}
 use Rattle.form.specs.Model.{Rec, font, character}
@@ -7,7 +9,6 @@ use Rattle.form.specs.Records.{records_of}
 use Rattle.form.specs.Checks.{checked, on_font}
 use Rattle.store.specs.Calls.{onto}
 use Rattle.stream.specs.Writing.{set_font, set_code, font_block_command, character_block_command}
-use Rattle.stream.specs.declared.write.Written.{Written}
 
 -- "a first block with up to 32,751 data bytes"
 abbrev pub first_data : ℕ
@@ -41,13 +42,17 @@ pub record WriteOut : Type 0 where
   pub count : ℕ
   pub out : List ℕ
 
--- the code's answer with the output
-abbrev pub written_of : Written → List ℕ → WriteOut
-written_of r out = record { refusal = r.refusal; count = r.length; out = out }
-
 -- "A refusal answers 0 for every other number"
 abbrev pub unwritten : List ℕ → ℕ → WriteOut
 unwritten out k = record { refusal = k; count = 0; out = out }
+
+-- the code's result with the output
+abbrev pub written_by : Result ℕ ℕ → List ℕ → WriteOut
+written_by (Ok n) out = record { refusal = 0; count = n; out = out }
+written_by (Err k) out = unwritten out k
+
+abbrev pub written_of : Result ℕ Refused → List ℕ → WriteOut
+written_of r out = written_by (numbered_result r) out
 
 -- bytes put to an output that has room for them, else 12; the answer is their length
 abbrev pub writing_bytes : List ℕ → List ℕ → WriteOut

@@ -1,12 +1,22 @@
-// Writes the commands of a stream. Each function returns the place behind what it wrote.
+// Writes the commands of a stream. Each function returns the place after what it wrote.
 ghost use Rattle.std.specs.Prelude.{◌≡◌, ◌+◌, ◌≤◌, length};
 ghost use Rattle.change.specs.Put.{with_bytes};
-ghost use Rattle.stream.specs.Writing.{spelling, set_font, set_code, font_block_head, font_block_command, character_block_head, character_block_command};
+ghost use Rattle.stream.specs.Writing.{spelling, command_head, command_of};
 
 use crate::command::ESC;
 use crate::digits::write_digits;
 
+// What a command is for: each has its own letters around the number.
+#[derive(Clone, Copy)]
+pub enum CommandHead {
+    SetFont,
+    SetCode,
+    FontBlock,
+    CharacterBlock,
+}
+
 // ESC, two bytes, a number and a letter.
+#[tactic(auto, using(crate::proofs::Spellings::length_spelling))]
 fn write_spelling(out: &mut [u8], at: usize, second: u8, third: u8, n: usize, letter: u8) -> usize
     requires { at + length (spelling second third n letter) ≤ length out.old }
     ensures { (result ≡ at + length (spelling second third n letter)) × (out.new ≡ with_bytes out.old at (spelling second third n letter)) }
@@ -19,36 +29,18 @@ fn write_spelling(out: &mut [u8], at: usize, second: u8, third: u8, n: usize, le
     end + 1
 }
 
-// ESC *c#D: the font number.
-pub fn write_set_font(out: &mut [u8], at: usize, n: usize) -> usize
-    requires { at + length (set_font n) ≤ length out.old }
-    ensures { (result ≡ at + length (set_font n)) × (out.new ≡ with_bytes out.old at (set_font n)) }
+// ESC *c#D sets the font number and ESC *c#E the code; ESC )s#W stands before a font block of n bytes, and ESC (s#W before a character block.
+#[tactic(auto, unfolding(crate::specs::Writing::set_font, crate::specs::Writing::set_code, crate::specs::Writing::font_block_head, crate::specs::Writing::character_block_head))]
+pub fn write_head(out: &mut [u8], at: usize, head: CommandHead, n: usize) -> usize
+    requires { at + length (command_head head n) ≤ length out.old }
+    ensures { (result ≡ at + length (command_head head n)) × (out.new ≡ with_bytes out.old at (command_head head n)) }
 {
-    write_spelling(out, at, b'*', b'c', n, b'D')
-}
-
-// ESC *c#E: the code.
-pub fn write_set_code(out: &mut [u8], at: usize, n: usize) -> usize
-    requires { at + length (set_code n) ≤ length out.old }
-    ensures { (result ≡ at + length (set_code n)) × (out.new ≡ with_bytes out.old at (set_code n)) }
-{
-    write_spelling(out, at, b'*', b'c', n, b'E')
-}
-
-// ESC )s#W, before a font block of n bytes.
-pub fn write_font_head(out: &mut [u8], at: usize, n: usize) -> usize
-    requires { at + length (font_block_head n) ≤ length out.old }
-    ensures { (result ≡ at + length (font_block_head n)) × (out.new ≡ with_bytes out.old at (font_block_head n)) }
-{
-    write_spelling(out, at, b')', b's', n, b'W')
-}
-
-// ESC (s#W, before a character block of n bytes.
-pub fn write_character_head(out: &mut [u8], at: usize, n: usize) -> usize
-    requires { at + length (character_block_head n) ≤ length out.old }
-    ensures { (result ≡ at + length (character_block_head n)) × (out.new ≡ with_bytes out.old at (character_block_head n)) }
-{
-    write_spelling(out, at, b'(', b's', n, b'W')
+    match head {
+        CommandHead::SetFont => write_spelling(out, at, b'*', b'c', n, b'D'),
+        CommandHead::SetCode => write_spelling(out, at, b'*', b'c', n, b'E'),
+        CommandHead::FontBlock => write_spelling(out, at, b')', b's', n, b'W'),
+        CommandHead::CharacterBlock => write_spelling(out, at, b'(', b's', n, b'W'),
+    }
 }
 
 // Copies bytes to a place.
@@ -56,28 +48,15 @@ pub fn write_bytes(out: &mut [u8], at: usize, b: &[u8]) -> usize
     requires { at + length b.now ≤ length out.old }
     ensures { (result ≡ at + length b.now) × (out.new ≡ with_bytes out.old at b.now) }
 {
-    let mut i = 0;
-    while i < b.len() {
-        out[at + i] = b[i];
-        i += 1;
-    }
-    at + i
+    change::copy(out, at, b);
+    at + b.len()
 }
 
-// ESC )s#W and a font block.
-pub fn write_font_block(out: &mut [u8], at: usize, b: &[u8]) -> usize
-    requires { at + length (font_block_command b.now) ≤ length out.old }
-    ensures { (result ≡ at + length (font_block_command b.now)) × (out.new ≡ with_bytes out.old at (font_block_command b.now)) }
+// The head of a command with the number of these bytes, and the bytes.
+pub fn write_block(out: &mut [u8], at: usize, head: CommandHead, b: &[u8]) -> usize
+    requires { at + length (command_of head b.now) ≤ length out.old }
+    ensures { (result ≡ at + length (command_of head b.now)) × (out.new ≡ with_bytes out.old at (command_of head b.now)) }
 {
-    let from = write_font_head(out, at, b.len());
-    write_bytes(out, from, b)
-}
-
-// ESC (s#W and a character block.
-pub fn write_character_block(out: &mut [u8], at: usize, b: &[u8]) -> usize
-    requires { at + length (character_block_command b.now) ≤ length out.old }
-    ensures { (result ≡ at + length (character_block_command b.now)) × (out.new ≡ with_bytes out.old at (character_block_command b.now)) }
-{
-    let from = write_character_head(out, at, b.len());
+    let from = write_head(out, at, head, b.len());
     write_bytes(out, from, b)
 }

@@ -13,10 +13,7 @@ const MESSAGE: usize = 256;
 // Whether it was called with an argument.
 pub fn has_argument(rt: &impl Env) -> bool {
     let mut start = [0u8; 1];
-    match rt.arg(1, &mut start) {
-        Err(FillError::NotPresent) => false,
-        _ => true,
-    }
+    !matches!(rt.arg(1, &mut start), Err(FillError::NotPresent))
 }
 
 // Reads until the buffer is full, the input ends or a read fails, and returns how many bytes stand at the buffer's front.
@@ -25,14 +22,12 @@ pub fn read_full<R: Read>(input: &mut R, buf: &mut [u8]) -> usize
     ensures bytes { Consumes (R.remaining input.old) (R.remaining input.new) (take result buf.new) }
 {
     let mut done = 0;
+    // A read takes as many bytes as the system gives.
     while done < buf.len() {
-        let Ok(n) = input.read(&mut buf[done..]) else {
-            return done;
-        };
-        if n == 0 {
-            return done;
+        match input.read(&mut buf[done..]) {
+            Ok(0) | Err(_) => break,
+            Ok(n) => done += n,
         }
-        done += n;
     }
     done
 }
@@ -48,7 +43,7 @@ pub fn fail(rt: &impl Eprint, who: &str, error: io::Error) {
     };
 }
 
-// The system's own words: without the number that std puts behind them, and the zeros that are left.
+// The system's own words: without the number that std puts after them, and the zeros that are left.
 fn words(text: &str) -> &str {
     match text.split_once(" (os error ") {
         Some((own, _)) => own,

@@ -1,12 +1,10 @@
 // "Source document 001's compressed example, width 20: 25 bytes give 20 rows, 60 bytes."
-ghost use Rattle.std.specs.Prelude.{◌<◌};
-
-use crate::{calls, print, samples};
+use crate::{calls, samples};
 
 // The example line by line, a repeat count and the runs, each as a continuation.
 fn send(rt: &impl Print, s: &mut [u8]) {
     let d = samples::descriptor(2, 20, 20);
-    calls::character(rt, b"  compressed character", s, &d, 65);
+    calls::character(rt, "  compressed character", s, &d, 65);
     more(rt, s, b"\x04\x01\x02\x00\x14");
     more(rt, s, b"\x04\x01\x00\x00\x02\x06\x04\x06\x02");
     more(rt, s, b"\x04\x01\x00\x00\x01\x07\x04\x07\x01");
@@ -20,37 +18,24 @@ fn send_rest(rt: &impl Print, s: &mut [u8]) {
 }
 
 fn more(rt: &impl Print, s: &mut [u8], block: &[u8]) {
-    calls::character(rt, b"  continued", s, block, 65);
+    calls::character(rt, "  continued", s, block, 65);
 }
 
-// A row, of three bytes.
-fn print_row(rt: &impl Print, p: &[u8; 60], row: usize)
-    requires { row < 20 }
-{
-    let at = 3 * row;
-    print::text(rt, b"  ");
-    print::hex(rt, p[at]);
-    print::hex(rt, p[at + 1]);
-    print::hex(rt, p[at + 2]);
-    print::text(rt, b"\n");
-}
-
-fn print_rows(rt: &impl Print, p: &[u8; 60]) {
-    let mut row = 0;
-    while row < 20 {
-        print_row(rt, p, row);
-        row += 1;
+// The rows, of three bytes each.
+fn print_rows(rt: &impl Print, picture: &[u8; 60]) {
+    for row in picture.chunks_exact(3) {
+        let _ = println!(rt; "  {:02x}{:02x}{:02x}", row[0], row[1], row[2]);
     }
 }
 
 fn draw(rt: &impl Print, s: &[u8]) {
     let mut row = [0u8; 3];
-    calls::draw_row(rt, b"  row 19", s, &mut row, 19);
-    calls::draw_row(rt, b"  row 20", s, &mut row, 20);
+    calls::draw_row(rt, "  row 19", s, &mut row, 19);
+    calls::draw_row(rt, "  row 20", s, &mut row, 20);
     let mut short = [0u8; 59];
-    calls::draw_picture(rt, b"  drawn into 59 bytes", s, &mut short);
+    calls::draw_picture(rt, "  drawn into 59 bytes", s, &mut short);
     let mut picture = [0u8; 60];
-    calls::draw_picture(rt, b"  drawn into 60 bytes", s, &mut picture);
+    calls::draw_picture(rt, "  drawn into 60 bytes", s, &mut picture);
     print_rows(rt, &picture);
 }
 
@@ -58,11 +43,11 @@ pub fn run(rt: &impl Print) {
     let mut store = [0u8; 256];
     let s: &mut [u8] = &mut store;
     let h = samples::header(0);
-    calls::make_fresh(rt, b"make fresh", s);
-    calls::font(rt, b"font 5", s, &h, 5);
+    calls::make_fresh(rt, "make fresh", s);
+    calls::font(rt, "font 5", s, &h, 5);
     send(rt, s);
     send_rest(rt, s);
     let mut kept = [0u8; 16];
-    calls::tell_character(rt, b"  told", s, &mut kept, 5, 65);
+    calls::tell_character(rt, "  told", s, &mut kept, 5, 65);
     draw(rt, s);
 }

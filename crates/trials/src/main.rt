@@ -4,7 +4,7 @@
 mod calls;
 mod compressed;
 mod print;
-mod refusals;
+mod refused;
 mod resolution;
 mod room;
 mod samples;
@@ -18,6 +18,6 @@ fn main(rt: HostRuntime) {
     weight::run(&rt);
     compressed::run(&rt);
     sent::run(&rt);
-    refusals::run(&rt);
+    refused::run(&rt);
     resolution::run(&rt);
 }

@@ -1,7 +1,7 @@
 // Blocks for the trials.
 
 // The header of document 01's font A, with this weight: set 277, fixed, pitch 120, height 200, style 0, face 3, portrait. It has 64 bytes by its
-// descriptor size; the four behind them are not looked at.
+// descriptor size; the four after them are not looked at.
 pub fn header(weight: u8) -> [u8; 68] {
     let mut h = [0u8; 68];
     h[1] = 64;
@@ -25,10 +25,8 @@ pub fn resolved(x: u16, y: u16) -> [u8; 68] {
     h[17] = 240;
     h[18] = 1;
     h[19] = 144;
-    h[64] = (x / 256) as u8;
-    h[65] = (x % 256) as u8;
-    h[66] = (y / 256) as u8;
-    h[67] = (y % 256) as u8;
+    let ([x_high, x_low], [y_high, y_low]) = (x.to_be_bytes(), y.to_be_bytes());
+    h[64..].copy_from_slice(&[x_high, x_low, y_high, y_low]);
     h
 }
 
@@ -38,9 +36,7 @@ pub fn descriptor(class: u8, width: u16, height: u16) -> [u8; 16] {
     d[0] = 4;
     d[2] = 14;
     d[3] = class;
-    d[10] = (width / 256) as u8;
-    d[11] = (width % 256) as u8;
-    d[12] = (height / 256) as u8;
-    d[13] = (height % 256) as u8;
+    d[10..12].copy_from_slice(&width.to_be_bytes());
+    d[12..14].copy_from_slice(&height.to_be_bytes());
     d
 }

@@ -1,16 +1,18 @@
 -- Laws of the call's refusals. Assumes nothing.
-use Prim.Native.Nat.{ℕ, ◌^◌, ◌<◌, ◌≤◌}
-use mathlib.Core.Path.{◌≡◌, refl, sym, ap, ◌∙◌}
+use Prim.Native.Nat.{ℕ, ◌<◌, ◌≤◌}
+use mathlib.Core.Path.{◌≡◌, refl, sym, ◌∙◌}
 use mathlib.Core.List.{List, ◌++◌}
-use mathlib.Core.Bool.{Bool, true, false, ◌&&◌, cond}
-use native.Mathlib.Nat.{mul-le-mul}
+use mathlib.Core.Bool.{Bool, true, false, ◌&&◌}
 use native.Mathlib.Omega.{arith}
-use borrow.Author.Tests.{leb-true, leb-false, le-leb, lt-leb, eqb-true, eqb-false, ne_eqb}
-use lib.Dec.{leb, eqb}
+use borrow.Author.Tests.{leb-true, leb-false, le-leb, lt-leb}
+use lib.Dec.{leb}
 use lib.ListN.{length, drop}
-use Rattle.pictures.specs.Size.{within, side_limit, row_size, picture_size}
+use Rattle.pictures.specs.Size.{within, side_limit, picture_size}
 use Rattle.pictures.proofs.Tests.{both}
-use Rattle.turning.specs.Turn.{turned, turned_size, turnable, turning_picture}
+use Rattle.turning.specs.Turn.{turned, turned_size, is_picture, turnable, turning_picture}
+use Rattle.turning.specs.Quarters.{quarters}
+use Rattle.turning.specs.declared.turn.Turn.{Turn}
+use Rattle.turning.specs.declared.turn.Turn.TheVariants.{Quarter, Half, ThreeQuarters}
 
 -- what a picture of so many bytes that can be turned is
 pub record Good (t w h size : ℕ) : Type 0 where
@@ -41,6 +43,28 @@ good t w h size p =
       enough = leb-true (picture_size w h) size d.1;
     }
 
+-- a turn and a picture
+pub no_turn : (t w h size : ℕ) → within 1 3 t ≡ false → turnable t w h size ≡ false
+unfolding turnable
+no_turn t w h size e = rw e
+
+pub no_picture : (t w h size : ℕ) → is_picture w h size ≡ false → turnable t w h size ≡ false
+unfolding turnable
+no_picture t w h size e = rw e (none (within 1 3 t))
+  where
+    none : (b : Bool) → (b && false) ≡ false
+    none true = refl
+    none false = refl
+
+pub turns : (turn : Turn) (t w h size : ℕ) → quarters turn ≡ t → is_picture w h size ≡ true → turnable t w h size ≡ true
+unfolding turnable
+turns turn t w h size q e = rw (e, ← q) (one turn)
+  where
+    one : (turn : Turn) → (within 1 3 (quarters turn) && true) ≡ true
+    one Quarter = refl
+    one Half = refl
+    one ThreeQuarters = refl
+
 module _ (t w h : ℕ) (s out : List ℕ) where
   pub turn_refused : turnable t w h (length s) ≡ false → (2 ≡ (turning_picture t w h s out).answer) × (out ≡ (turning_picture t w h s out).bytes)
   unfolding turning_picture
@@ -65,31 +89,3 @@ module _ (t w h : ℕ) (s out : List ℕ) where
       go true p true q = (good t w h (length s) p, sym (turn_done p (leb-true (turned_size t w h) (length out) q) (turned t w h s ++ drop (turned_size t w h) out) refl).1)
       go true p false q = let z : ◌≡◌ {A = ℕ} 12 0 = (turn_short p (leb-false (turned_size t w h) (length out) q)).0 ∙ e in absurd (omega arith)
       go false p b q = let z : ◌≡◌ {A = ℕ} 2 0 = (turn_refused p).0 ∙ e in absurd (omega arith)
-
--- the quarter turns, by whether it is one
-pub by_quarters : (s out out' : List ℕ) (w h t : ℕ) → 1 ≤ t → t ≤ 3 → (t ≡ 2 → ⊥) → out' ≡ turned (cond (eqb t 1) 1 3) w h s ++ drop (picture_size h w) out
-    → out' ≡ turned t w h s ++ drop (turned_size t w h) out
-by_quarters s out out' w h t l m k e = e ∙ ap (λ (u : ℕ). turned u w h s ++ drop (picture_size h w) out) (which (eqb t 1) refl) ∙ size
-  where
-    which : (b : Bool) → eqb t 1 ≡ b → cond b 1 3 ≡ t
-    which true f = sym (eqb-true t 1 f)
-    which false f = omega (arith, eqb-false t 1 f)
-
-    size : turned t w h s ++ drop (picture_size h w) out ≡ turned t w h s ++ drop (turned_size t w h) out
-    size = rw (ne_eqb t 2 k)
-
-pub by_half : (s out out' : List ℕ) (w h t : ℕ) → t ≡ 2 → out' ≡ turned 2 w h s ++ drop (picture_size w h) out → out' ≡ turned t w h s ++ drop (turned_size t w h) out
-by_half s out out' w h t k e = e ∙ rw k
-
-pub size_half : (w h t : ℕ) → t ≡ 2 → turned_size t w h ≡ picture_size w h
-size_half w h t k = rw k
-
-pub size_quarter : (w h t : ℕ) → (t ≡ 2 → ⊥) → turned_size t w h ≡ picture_size h w
-size_quarter w h t k = rw (ne_eqb t 2 k)
-
--- a picture's size, for sides of 32 bits
-pub size_fits : (w h : ℕ) → w < 2 ^ 32 → h < 2 ^ 32 → picture_size w h < 2 ^ 64
-size_fits w h a b =
-    let x : h ≤ 4294967296 = omega arith in
-    let y : row_size w ≤ 536870912 = omega arith in
-    omega (arith, mul-le-mul x y)

@@ -1,14 +1,15 @@
 -- Laws of the quarter turns: bytes gathered into a block, and the bytes of a block in the turned picture. Assumes nothing.
-use Prim.Native.Nat.{ℕ, zero, suc, ◌+◌, ◌*◌, ◌-◌, ◌^◌, ◌/◌, ◌<◌, ◌≤◌}
+use Prim.Native.Nat.{ℕ, zero, suc, ◌+◌, ◌*◌, ◌-◌, ◌^◌, ◌/◌, ◌<◌, ◌≤◌, min}
 use mathlib.Core.Path.{◌≡◌, refl, sym, ap, ◌∙◌}
-use mathlib.Core.List.{List, ◌++◌}
-use mathlib.Core.Bool.{Bool, true, false, not, ◌||◌, cond}
-use native.Mathlib.Nat.{mod-lt, add_left_cancel, pow-le-pow_right}
-use native.Mathlib.Numerals.{add-one}
+use mathlib.Core.List.{List}
+use mathlib.Core.Bool.{Bool, true, false, not, cond}
+use native.Mathlib.Nat.{mod-lt, add_left_cancel, div-one}
 use native.Mathlib.Omega.{arith}
 use borrow.Author.Tests.{ltb-true, ltb-false, lt-ltb, le-ltb, eqb-true, eqb-false}
 use lib.Dec.{ltb, eqb}
 use lib.ListN.{length, drop, get_or, set}
+use Rattle.std.proofs.Common.{w64}
+use Rattle.std.specs.Int.{from_be_bytes, to_be_bytes}
 use lib.Seq.{get_or-set_same, get_or-set_other}
 use lib.Pow.{high as upper}
 use Rattle.pictures.specs.Dots.{bits}
@@ -16,7 +17,7 @@ use Rattle.pictures.specs.Size.{row_size, picture_size}
 use Rattle.turning.specs.Turn.{each, picture_rows, turn_rows, pack_rows, turned}
 use Rattle.turning.specs.Block.{flipped, block_dot, block_byte, join_bytes, column_byte, Put, TurnedUpTo}
 use Rattle.turning.proofs.DotLaws.{dot_in, dot_above, dot_none, dot_shr, dot_low, byte_is}
-use Rattle.turning.proofs.PictureLaws.{dot, each_at, each_past, drawn_at, length_drawn, dot_at_lem, inside, same_row, filled}
+use Rattle.turning.proofs.PictureLaws.{dot, each_at, each_past, drawn_at, length_drawn, dot_at_lem, inside, same_row, filled, set_next}
 use Rattle.turning.proofs.Places.{high, quarter_places, three_quarters_places}
 
 -- ---- places counted from the other end
@@ -32,25 +33,16 @@ flipped_twice false n i l = refl
 pub flipped_in : (back : Bool) (n m i q : ℕ) → i < n → q < m → flipped back n i * m + q < n * m
 flipped_in back n m i q l k = inside m n (flipped back n i) q (flipped_lt back n i l) k
 
-pub place_in : (back : Bool) (n m i q r : ℕ) → r ≡ flipped back n i → i < n → q < m → r * m + q < n * m
-place_in back n m i q r e l k = rw e (flipped_in back n m i q l k)
-
 -- ---- bytes gathered
-pub join_suc : (f : ℕ → ℕ) (k : ℕ) → join_bytes (k + 1) f ≡ join_bytes k f * 256 + f k
+pub joined : (f : ℕ → ℕ) (bs : List ℕ) (x : ℕ) → x ≡ from_be_bytes w64 bs → ((j : ℕ) → j < 8 → get_or bs j 0 ≡ f j) → x ≡ join_bytes 8 f
 unfolding join_bytes
-join_suc f k = rw add-one
+joined f bs x e h =
+    omega (arith, e, h 0 (omega arith), h 1 (omega arith), h 2 (omega arith), h 3 (omega arith), h 4 (omega arith), h 5 (omega arith), h 6 (omega arith), h 7 (omega arith))
 
-pub join_more : (f : ℕ → ℕ) (k x y : ℕ) → x ≡ join_bytes k f → y ≡ f k → x * 256 + y ≡ join_bytes (k + 1) f
-join_more f k x y e g = rw (e, g) (sym (join_suc f k))
-
-pub join_full : (f : ℕ → ℕ) (k x : ℕ) → k ≡ 8 → x ≡ join_bytes k f → x ≡ join_bytes 8 f
-join_full f k x e g = g ∙ rw e
-
-pub join_room : (k x y : ℕ) → k < 8 → x < 256 ^ k → y < 256 → x * 256 + y < 256 ^ (k + 1)
-join_room k x y l m h = rw add-one (omega arith)
-
-pub join_fits : (k : ℕ) → k < 8 → 256 ^ k ≤ 256 ^ 7
-join_fits k l = let m : k ≤ 7 = omega arith in pow-le-pow_right (omega arith) m
+-- one more byte of a block, of k
+pub gathered_more : (f : ℕ → ℕ) (bs : List ℕ) (i v : ℕ) → i < length bs → v ≡ f i → ((j : ℕ) → j < i → get_or bs j 0 ≡ f j) × ((j : ℕ) → i ≤ j → get_or bs j 0 ≡ 0)
+    → ((j : ℕ) → j < i + 1 → get_or (set bs i v) j 0 ≡ f j) × ((j : ℕ) → i + 1 ≤ j → get_or (set bs i v) j 0 ≡ 0)
+gathered_more f bs i v l e h = (set_next f bs i v l e h.0, λ j m. get_or-set_other bs i j v 0 (λ z. omega (arith, z)) ∙ h.1 j (omega arith))
 
 module _ (f : ℕ → ℕ) (bytes : (i : ℕ) → f i < 256) where
   join_dot : (k i j : ℕ) → i < k → j < 8 → dot_in ((k - 1 - i) * 8 + (7 - j)) (join_bytes k f) ≡ dot_in (7 - j) (f i)
@@ -74,6 +66,20 @@ module _ (f : ℕ → ℕ) (bytes : (i : ℕ) → f i < 256) where
   gathered_dot i j l m = let e : (8 - 1 - i) * 8 + (7 - j) ≡ 63 - (i * 8 + j) = omega arith in rw e at (join_dot 8 i j l m)
 
 -- ---- a byte of a block
+pub byte_in : (x i v : ℕ) → i < 8 → v ≡ get_or (to_be_bytes w64 x) i 0 → v ≡ block_byte x i
+byte_in x i v l e = e ∙ at i l
+  where
+    at : (i : ℕ) → i < 8 → get_or (to_be_bytes w64 x) i 0 ≡ block_byte x i
+    at zero l = refl
+    at (suc zero) l = refl
+    at (suc (suc zero)) l = refl
+    at (suc (suc (suc zero))) l = refl
+    at (suc (suc (suc (suc zero)))) l = refl
+    at (suc (suc (suc (suc (suc zero))))) l = refl
+    at (suc (suc (suc (suc (suc (suc zero)))))) l = refl
+    at (suc (suc (suc (suc (suc (suc (suc zero))))))) l = rw div-one
+    at (suc (suc (suc (suc (suc (suc (suc (suc i)))))))) l = absurd (omega arith)
+
 byte_dot : (x k i : ℕ) → k < 8 → i < 8 → dot_in (7 - i) (block_byte x k) ≡ block_dot x k i
 byte_dot x k i l m =
     let e : i + (1 + (7 - i)) ≡ 8 = omega arith in
@@ -143,7 +149,7 @@ other back n m c c' q q' a b k l e =
 
 module _ (x m w : ℕ) (up : Bool) (at first : ℕ) (place : at < m) (before : List ℕ) where
   pub put_none : Put x m w up at first 0 before before
-  put_none = record { written = λ c a b l. absurd (omega arith); above = λ c q a l k. refl; beside = λ c q a l k. refl; behind = λ j l. refl }
+  put_none = record { written = λ c a b l. absurd (omega arith); above = λ c q a l k. refl; beside = λ c q a l k. refl }
 
   pub put_next : (i : ℕ) (out : List ℕ) → first + i < w → w * m ≤ length out → Put x m w up at first i before out
       → Put x m w up at first (i + 1) before (set out (flipped (not up) w (first + i) * m + at) (block_byte x i))
@@ -151,7 +157,6 @@ module _ (x m w : ℕ) (up : Bool) (at first : ℕ) (place : at < m) (before : L
     written = λ c a b k. written c a b k (eqb c (first + i)) refl;
     above = λ c q a k o. aside c q k o (λ e. let z : c ≡ first + i = e.0 in omega arith) ∙ h.above c q a k o;
     beside = λ c q a k o. aside c q k o (λ e. a e.1) ∙ h.beside c q a k o;
-    behind = λ j k. get_or-set_other out here j (block_byte x i) 0 (λ e. let z : j ≡ here = e in let y : here < w * m = flipped_in (not up) w m (first + i) at l place in omega arith) ∙ h.behind j k;
   }
     where
       here : ℕ
@@ -170,23 +175,23 @@ module _ (x m w : ℕ) (up : Bool) (at first : ℕ) (place : at < m) (before : L
           let z : c < first + i = omega (arith, eqb-false c (first + i) e) in
           aside c at k place (λ e. let y : c ≡ first + i = e.0 in omega arith) ∙ h.written c a z k
 
-  pub put_all : (i : ℕ) (out : List ℕ) → w ≤ first + i → Put x m w up at first i before out → Put x m w up at first 8 before out
-  put_all i out d h = record { written = λ c a b l. h.written c a (omega arith) l; above = h.above; beside = h.beside; behind = h.behind }
-
-pub never : false ≡ true → ⊥
-never e = let z : ◌≡◌ {A = ℕ} 0 1 = ap (λ (b : Bool). cond b 1 0) e in absurd (omega arith)
-
-pub known_row : (whole : Bool) (row h : ℕ) → (whole ≡ true → row < h) → (whole || ltb row h) ≡ ltb row h
-known_row true row h k = sym (lt-ltb row h (k refl))
-known_row false row h k = refl
-
 pub column_in : (s : List ℕ) (n h : ℕ) (up : Bool) (at row : ℕ) → row < h → column_byte s n h up at row ≡ get_or s (flipped up h row * n + at) 0
 unfolding column_byte
 column_in s n h up at row l = rw (lt-ltb row h l)
 
-pub column_out : (s : List ℕ) (n h : ℕ) (up : Bool) (at row : ℕ) → h ≤ row → column_byte s n h up at row ≡ 0
+column_out : (s : List ℕ) (n h : ℕ) (up : Bool) (at row : ℕ) → h ≤ row → column_byte s n h up at row ≡ 0
 unfolding column_byte
 column_out s n h up at row l = rw (le-ltb row h l)
+
+-- the bytes of the rows that there are, and white for the others
+pub gathered_all : (s : List ℕ) (n h : ℕ) (up : Bool) (at first k : ℕ) (bs : List ℕ) → min 8 (h - first) ≤ k
+    → ((j : ℕ) → j < k → get_or bs j 0 ≡ column_byte s n h up at (first + j)) → ((j : ℕ) → k ≤ j → get_or bs j 0 ≡ 0)
+    → (j : ℕ) → j < 8 → get_or bs j 0 ≡ column_byte s n h up at (first + j)
+gathered_all s n h up at first k bs e there white j l = go (ltb j k) refl
+  where
+    go : (b : Bool) → ltb j k ≡ b → get_or bs j 0 ≡ column_byte s n h up at (first + j)
+    go true t = there j (ltb-true j k t)
+    go false t = let m : k ≤ j = ltb-false j k t in white j m ∙ sym (column_out s n h up at (first + j) (omega arith))
 
 -- ---- a column of bytes
 -- the columns before are turned, and of this one the first q blocks
@@ -196,9 +201,6 @@ pub record Columns (up : Bool) (w h : ℕ) (s : List ℕ) (b q : ℕ) (out : Lis
       → get_or out (flipped (not up) w c * row_size h + p) 0 ≡ get_or (turned (cond up 1 3) w h s) (flipped (not up) w c * row_size h + p) 0
 
 module _ (up : Bool) (w h : ℕ) (s : List ℕ) (b : ℕ) where
-  pub columns_none : (out : List ℕ) → TurnedUpTo up w h (row_size h) s (b * 8) out → Columns up w h s b 0 out
-  columns_none out t = record { above = t; here = λ c p a k l m n. absurd (omega arith) }
-
   pub columns_next : ((i : ℕ) → get_or s i 0 < 256) → (q g x : ℕ) (out out' : List ℕ) → q < row_size h
       → g ≡ join_bytes 8 (λ (i : ℕ). column_byte s (row_size w) h up b (q * 8 + i)) → ((i j : ℕ) → i < 8 → j < 8 → block_dot x i j ≡ block_dot g j i)
       → Put x (row_size h) w up q (b * 8) 8 out out' → Columns up w h s b q out → Columns up w h s b (q + 1) out'
@@ -215,23 +217,10 @@ module _ (up : Bool) (w h : ℕ) (s : List ℕ) (b : ℕ) where
           rw z (put.written c a k l ∙ (rw y at (block_byte_lem up w h s bytes b q (c - b * 8) x r (omega arith) (rw y l) (λ i j u v. t i j u v ∙ ap (λ (x : ℕ). block_dot x j i) f))))
       here c p a k l m n false e = put.beside c p (eqb-false p q e) l n ∙ done.here c p a k l (omega (arith, eqb-false p q e)) n
 
-  pub columns_all : (q : ℕ) (out : List ℕ) → q ≡ row_size h → Columns up w h s b q out → TurnedUpTo up w h (row_size h) s (b * 8 + 8) out
-  columns_all q out e done c p l m k = go (ltb c (b * 8)) refl
-    where
-      go : (t : Bool) → ltb c (b * 8) ≡ t
-          → get_or out (flipped (not up) w c * row_size h + p) 0 ≡ get_or (turned (cond up 1 3) w h s) (flipped (not up) w c * row_size h + p) 0
-      go true f = done.above c p l m (ltb-true c (b * 8) f)
-      go false f = done.here c p (ltb-false c (b * 8) f) k l (omega arith) m
-
 -- ---- the picture
-pub turned_none : (up : Bool) (w h : ℕ) (s out : List ℕ) → TurnedUpTo up w h (row_size h) s (0 * 8) out
-turned_none up w h s out c q l m k = absurd (omega arith)
-
-pub turned_all : (up : Bool) (w h : ℕ) (s out out₀ : List ℕ) (b : ℕ) → 0 < h → b ≡ row_size w → length out ≡ length out₀ → picture_size h w ≤ length out₀
-    → TurnedUpTo up w h (row_size h) s (b * 8) out → ((j : ℕ) → picture_size h w ≤ j → get_or out j 0 ≡ get_or out₀ j 0)
-    → out ≡ turned (cond up 1 3) w h s ++ drop (picture_size h w) out₀
-turned_all up w h s out out₀ b p e l room t behind =
-    filled (row_size h) w (turned (cond up 1 3) w h s) out out₀ (omega arith) (length_turned up w h s) l room at behind
+pub turned_all : (up : Bool) (w h : ℕ) (s out : List ℕ) (b : ℕ) → 0 < h → row_size w ≤ b → length out ≡ picture_size h w
+    → TurnedUpTo up w h (row_size h) s (b * 8) out → out ≡ turned (cond up 1 3) w h s
+turned_all up w h s out b p e l t = filled (row_size h) w (turned (cond up 1 3) w h s) out (omega arith) (length_turned up w h s) l at
   where
     at : (r q : ℕ) → r < w → q < row_size h → get_or out (r * row_size h + q) 0 ≡ get_or (turned (cond up 1 3) w h s) (r * row_size h + q) 0
     at r q k m =

@@ -1,14 +1,13 @@
 -- Laws of pictures: their bytes and dots, each by its row and place. Assumes nothing.
 use Prim.Native.Nat.{ℕ, zero, suc, ◌+◌, ◌*◌, ◌-◌, ◌%◌, ◌/◌, ◌<◌, ◌≤◌}
 use mathlib.Core.Path.{◌≡◌, refl, sym, ap, ◌∙◌}
-use mathlib.Core.List.{List, [], ◌∷◌, ◌++◌}
-use mathlib.Core.Bool.{Bool, true, false}
+use mathlib.Core.List.{List, [], ◌∷◌}
+use mathlib.Core.Bool.{Bool, false}
 use native.Mathlib.Nat.{add-zero, zero-mul, suc-mul, add_comm, mod-lt, div-add-mod', div-lt_iff_lt-mul, mul-add-div_right, div-eq_of_lt, mul-le-mul_right}
 use native.Mathlib.Omega.{arith}
-use borrow.Author.Tests.{ltb-true, ltb-false}
-use lib.Dec.{ltb}
-use lib.ListN.{length, drop, take, get_or, set, length-append, length-drop, get_or-append, get_or-eq_default}
-use lib.Seq.{get_or-drop, get_or-take, get_or-append-add, ext_get_or}
+use lib.ListN.{length, drop, get_or, set, length-append, get_or-append, get_or-eq_default}
+use lib.Seq.{get_or-drop, get_or-take, get_or-append-add, get_or-set_same, get_or-set_other, ext_get_or}
+use borrow.Author.Count.{below_more}
 use Rattle.pictures.specs.Dots.{bits, pack, unpack}
 use Rattle.pictures.specs.Size.{row_size}
 use Rattle.pictures.specs.Rows.{bitmap_row}
@@ -83,34 +82,19 @@ unfolding dot picture_rows
 dot_at_lem w h s r q i k l m =
     ap (λ (ds : List Bool). get_or ds (q * 8 + i) false) (each_at [] h (bitmap_row w s) r k) ∙ row_dot w s r q i l m
 
--- ---- bytes written in any order: all of the first h rows of n, and none behind them
-pub filled : (n h : ℕ) (all out out₀ : List ℕ) → 0 < n → length all ≡ h * n → length out ≡ length out₀ → h * n ≤ length out₀
-    → ((r q : ℕ) → r < h → q < n → get_or out (r * n + q) 0 ≡ get_or all (r * n + q) 0)
-    → ((j : ℕ) → h * n ≤ j → get_or out j 0 ≡ get_or out₀ j 0)
-    → out ≡ all ++ drop (h * n) out₀
-filled n h all out out₀ p e k room inside behind =
-    ext_get_or 0 out (all ++ drop (h * n) out₀) (simp (length-append, length-drop) (omega arith)) at
+-- ---- bytes written in any order: all of h rows of n
+pub filled : (n h : ℕ) (all out : List ℕ) → 0 < n → length all ≡ h * n → length out ≡ h * n
+    → ((r q : ℕ) → r < h → q < n → get_or out (r * n + q) 0 ≡ get_or all (r * n + q) 0) → out ≡ all
+filled n h all out p e k inside = ext_get_or 0 out all (omega arith) at
   where
-    at : (i : ℕ) → i < length out → get_or out i 0 ≡ get_or (all ++ drop (h * n) out₀) i 0
-    at i l = go (ltb i (h * n)) refl
-      where
-        go : (b : Bool) → ltb i (h * n) ≡ b → get_or out i 0 ≡ get_or (all ++ drop (h * n) out₀) i 0
-        go true t =
-            let m : i < h * n = ltb-true i (h * n) t in
-            let z : i / n * n + i % n ≡ i = div-add-mod' i n in
-            (rw z at (inside (i / n) (i % n) ((div-lt_iff_lt-mul p).1 m) (mod-lt i p))) ∙ sym (get_or-append all (drop (h * n) out₀) 0 i (rw e m))
-        go false t =
-            let m : h * n ≤ i = ltb-false i (h * n) t in
-            let z : h * n + (i - h * n) ≡ i = omega arith in
-            behind i m ∙ sym ((rw (e, z) at (get_or-append-add all (drop (h * n) out₀) (i - h * n) 0)) ∙ get_or-drop (h * n) out₀ (i - h * n) 0 ∙ rw z)
+    at : (i : ℕ) → i < length out → get_or out i 0 ≡ get_or all i 0
+    at i l = let z : i / n * n + i % n ≡ i = div-add-mod' i n in rw z at (inside (i / n) (i % n) ((div-lt_iff_lt-mul p).1 (omega arith)) (mod-lt i p))
 
--- ---- bytes written in order: the first j are those of `all`
-pub written : (all out : List ℕ) (j : ℕ) → j < length all → j < length out
-    → set (take j all ++ drop j out) j (get_or all j 0) ≡ take (suc j) all ++ drop (suc j) out
-written [] out j k l = absurd (omega arith)
-written (x ∷ all) [] j k l = absurd (omega arith)
-written (x ∷ all) (y ∷ out) zero k l = refl
-written (x ∷ all) (y ∷ out) (suc j) k l = ap (λ (t : List ℕ). x ∷ t) (written all out j (omega arith) (omega arith))
+-- ---- bytes written in order
+pub set_next : (f : ℕ → ℕ) (out : List ℕ) (i v : ℕ) → i < length out → v ≡ f i → ((k : ℕ) → k < i → get_or out k 0 ≡ f k)
+    → (k : ℕ) → k < i + 1 → get_or (set out i v) k 0 ≡ f k
+set_next f out i v l e h =
+    below_more (λ k. get_or (set out i v) k 0 ≡ f k) i (λ k m. get_or-set_other out i k v 0 (λ z. omega (arith, z)) ∙ h k m) (get_or-set_same out i v 0 l ∙ e)
 
 -- ---- two places of a picture are one only if row and place in the row are
 pub same_row : (n r r' q q' : ℕ) → q < n → q' < n → r * n + q ≡ r' * n + q' → r ≡ r'

@@ -1,19 +1,21 @@
 -- W-203's claims, and turns of turns. Assumes nothing.
 use Prim.Native.Nat.{ℕ, ◌+◌, ◌*◌, ◌-◌, ◌%◌, ◌/◌, ◌<◌, ◌≤◌}
 use mathlib.Core.Path.{◌≡◌, refl, sym, ap, ◌∙◌}
-use mathlib.Core.List.{List, [], append-nil}
+use mathlib.Core.List.{List, [], ◌++◌}
 use mathlib.Core.Bool.{Bool, true, false}
 use native.Mathlib.Omega.{arith}
 use borrow.Author.Tests.{ltb-true, ltb-false}
 use lib.Dec.{ltb}
-use lib.ListN.{length, get_or, drop, take, drop_of_length-le}
+use lib.ListN.{length, get_or, drop, take}
 use lib.Seq.{get_or-drop, get_or-take, take_at, take_all}
 use Rattle.pictures.specs.Size.{row_size, picture_size}
 use Rattle.pictures.specs.Dots.{unpack}
 use Rattle.pictures.specs.Rows.{bitmap_row}
 use Rattle.pictures.proofs.Bitmaps.{bitmap_take}
-use Rattle.turning.specs.Turn.{each, picture_rows, pack_rows, turned_width, turned_height, turned, turned_size, turn_rows, WhitePadding, TurnsInto, FourQuarters, TwoQuarters, QuarterAndThree}
-use Rattle.turning.proofs.Answers.{Good, was_done}
+use Rattle.turning.specs.Turn.{each, picture_rows, pack_rows, turned_width, turned_height, turned, turned_size, turn_rows, is_picture, turning_picture, WhitePadding, TurnsInto, FourQuarters, TwoQuarters, QuarterAndThree}
+use Rattle.turning.specs.Quarters.{quarters}
+use Rattle.turning.specs.declared.turn.Turn.{Turn}
+use Rattle.turning.proofs.Answers.{Good, was_done, turns, turn_short, turn_done}
 use Rattle.turning.proofs.DotLaws.{dot_in, dot_bits, byte_is, unpack_at}
 use Rattle.turning.proofs.PictureLaws.{dot, each_at, each_past, each_same, length_drawn, drawn_at, dot_at_lem, filled}
 use Rattle.turning.proofs.Places.{dot_from, turned_places}
@@ -117,13 +119,11 @@ module _ (w h : ℕ) (s : List ℕ) (enough : picture_size w h ≤ length s) whe
 
     whole_same : s ≡ whole
     whole_same =
-        let z : length s ≤ h * row_size w = omega (arith, white.size) in
-        filled (row_size w) h whole s s (omega arith) length_whole refl (omega (arith, white.size)) row_byte (λ j l. refl)
-        ∙ rw (drop_of_length-le s z) (append-nil whole)
+        filled (row_size w) h whole s (omega arith) length_whole white.size row_byte
 
 -- ---- the calls
 -- bytes behind the picture are not looked at
-turned_take : (t w h : ℕ) (s : List ℕ) → turned t w h (take (picture_size w h) s) ≡ turned t w h s
+pub turned_take : (t w h : ℕ) (s : List ℕ) → turned t w h (take (picture_size w h) s) ≡ turned t w h s
 unfolding turned picture_rows
 turned_take t w h s =
     ap (λ (rows : List (List Bool)). pack_rows (row_size (turned_width t w h)) (turn_rows t w rows))
@@ -197,3 +197,14 @@ four_quarters_are_none w h s p₁ p₂ p₃ p₄ white a b c d =
     let four : take (picture_size w h) p₄ ≡ turned 1 h w (turned 1 w h half) =
     (made_of 1 h w (turned 1 w h half) p₃ p₄ d (front_of (picture_size h w) (turned 1 w h half) p₃ three.0 (length_turned 1 w h half room))).0 in
     four ∙ two_quarters w h half room ∙ two_halves w h s enough ∙ sym (whole_same w h s enough three.1.wide white)
+
+-- ---- a call by its turn and its picture
+module _ (t w h : ℕ) (s out : List ℕ) (turn : Turn) (is : quarters turn ≡ t) (good : is_picture w h (length s) ≡ true) (size : ℕ) (long : size ≡ turned_size (quarters turn) w h) where
+  pub taken_short : length out < size → (12 ≡ (turning_picture t w h s out).answer) × (out ≡ (turning_picture t w h s out).bytes)
+  taken_short l = turn_short t w h s out (turns turn t w h (length s) is good) (rw (← is) (omega (arith, long)))
+
+  pub taken_done : size ≤ length out → (made : List ℕ) → made ≡ turned (quarters turn) w h (take (picture_size w h) s)
+      → (0 ≡ (turning_picture t w h s out).answer) × (made ++ drop size out ≡ (turning_picture t w h s out).bytes)
+  taken_done l made e =
+      turn_done t w h s out (turns turn t w h (length s) is good) (rw (← is) (omega (arith, long))) (made ++ drop size out)
+      (rw (e, turned_take (quarters turn) w h s, long, is))

@@ -29,12 +29,11 @@ unfoldable pub column_byte : List ℕ → ℕ → ℕ → Bool → ℕ → ℕ �
 column_byte s n h up at row = cond (ltb row h) (get_or s (flipped up h row * n + at) 0) 0
 
 -- the first k bytes of a block x stand at place `at` of the rows, m bytes each, that come of the columns from `first` on;
--- the rows of the columns before are as they were, the other places, and what is behind the rows
+-- the rows of the columns before are as they were, and the other places
 pub record Put (x m w : ℕ) (up : Bool) (at first k : ℕ) (before out : List ℕ) : Type 0 where
   pub written : (c : ℕ) → first ≤ c → c < first + k → c < w → get_or out (flipped (not up) w c * m + at) 0 ≡ block_byte x (c - first)
   pub above : (c q : ℕ) → c < first → c < w → q < m → get_or out (flipped (not up) w c * m + q) 0 ≡ get_or before (flipped (not up) w c * m + q) 0
   pub beside : (c q : ℕ) → (q ≡ at → ⊥) → c < w → q < m → get_or out (flipped (not up) w c * m + q) 0 ≡ get_or before (flipped (not up) w c * m + q) 0
-  pub behind : (j : ℕ) → w * m ≤ j → get_or out j 0 ≡ get_or before j 0
 
 -- a picture that is turned by a quarter, or by three where not `up`, has in the output what comes of its first `done` columns
 abbrev pub TurnedUpTo : Bool → ℕ → ℕ → ℕ → List ℕ → ℕ → List ℕ → Type 0

@@ -49,9 +49,13 @@ turned_size t w h = picture_size (turned_width t w h) (turned_height t w h)
 unfoldable pub turned : ℕ → ℕ → ℕ → List ℕ → List ℕ
 turned t w h s = pack_rows (row_size (turned_width t w h)) (turn_rows t w (picture_rows w h s))
 
+-- its width, height and bytes
+abbrev pub is_picture : ℕ → ℕ → ℕ → Bool
+is_picture w h size = within 1 side_limit w && (within 1 side_limit h && leb (picture_size w h) size)
+
 -- "2 for a turn not 1 to 3, a width or height not 1 to 16,384, or a picture with too few bytes"
 unfoldable pub turnable : ℕ → ℕ → ℕ → ℕ → Bool
-turnable t w h size = within 1 3 t && (within 1 side_limit w && (within 1 side_limit h && leb (picture_size w h) size))
+turnable t w h size = within 1 3 t && is_picture w h size
 
 -- what the call answers, and the output afterwards
 pub record Turning : Type 0 where

@@ -1,13 +1,13 @@
 // Turns a picture by a quarter or by three, in blocks of eight by eight dots.
-ghost use Rattle.std.specs.Prelude.{◌≡◌, ◌++◌, cond, true, ℕ, ◌+◌, ◌*◌, ◌-◌, ◌≤◌, ◌<◌, ltb, length, get_or, drop};
-ghost use Rattle.pictures.specs.Size.{side_limit, row_size, picture_size};
-ghost use Rattle.turning.specs.Block.{flipped, block_dot, block_byte, swapped, join_bytes, column_byte, Put, TurnedUpTo};
+ghost use Rattle.std.specs.Prelude.{◌≡◌, cond, ℕ, ◌+◌, ◌*◌, ◌-◌, ◌≤◌, ◌<◌, min, length};
+ghost use Rattle.pictures.specs.Size.{row_size, picture_size};
+ghost use Rattle.turning.specs.Block.{flipped, block_dot, swapped};
 ghost use Rattle.turning.specs.Turn.{turned};
 
-use pictures::size::bytes_across;
+use crate::picture::Picture;
 
 // A place counted from the other end, where `back` says so.
-pub(crate) fn flip(back: bool, n: usize, i: usize) -> usize
+fn flip(back: bool, n: usize, i: usize) -> usize
     requires { i < n }
     ensures { result ≡ flipped back n i }
 {
@@ -31,144 +31,114 @@ fn transpose(block: u64) -> u64
     swap(twos, 0xF0F0_F0F0_0F0F_0F0F, 0x0000_0000_F0F0_F0F0, 28)
 }
 
-// Whether the picture has a row; `whole` says that it is known to.
-fn has_row(whole: bool, height: usize, row: usize) -> bool
-    requires { whole ≡ true → row < height }
-    ensures { result ≡ ltb row height }
-{
-    whole | (row < height)
+// A column of bytes of a picture. For one quarter its rows are taken from the bottom; for three, the rows that come of it are.
+#[derive(Clone, Copy)]
+pub struct Column<'a> {
+    pub picture: Picture<'a>,
+    pub up: bool,
+    pub at: usize,
+    ghost inside: { at < row_size picture.width },
 }
 
-// A byte of a row; white where there is no such row.
-fn row_byte(
-    picture: &[u8],
-    n: usize,
-    height: usize,
-    up: bool,
-    at: usize,
-    row: usize,
-    whole: bool,
-) -> u8
-    requires { (at < n) × (height * n ≤ length picture.now) × (whole ≡ true → row < height) }
-    ensures { result ≡ column_byte picture.now n height up at row }
-{
-    if has_row(whole, height, row) {
-        return picture[flip(up, height, row) * n + at];
+// A column is handed on by value: behind a reference its parts would be read anew after each byte that is written.
+impl Column<'_> {
+    ghost use Rattle.turning.specs.Columns.{column_block, FitsTurned, BlockPut, Done};
+
+    // The block of the rows from one on, so many; white where there are no eight.
+    fn gather(self, first: usize, count: usize) -> u64
+        requires { (first < self.picture.height) × (count ≡ min 8 (self.picture.height - first)) }
+        ensures { result ≡ column_block self.entry first }
+    {
+        let n = self.picture.row_size();
+        let mut bytes = [0u8; 8];
+        for i in 0..count {
+            bytes[i] = self.picture.bytes[flip(self.up, self.picture.height, first + i) * n
+                + self.at];
+        }
+        u64::from_be_bytes(bytes)
     }
-    0
-}
 
-// The block of a column of bytes, from a row on. Where `whole`, known at compile time, the picture has all its rows.
-fn gather(
-    picture: &[u8],
-    n: usize,
-    height: usize,
-    up: bool,
-    at: usize,
-    first: usize,
-    whole: bool,
-) -> u64
-    requires { (at < n) × (first ≤ side_limit) × (height * n ≤ length picture.now) × (whole ≡ true → first + 8 ≤ height) }
-    ensures { result ≡ join_bytes 8 (λ (i : ℕ). column_byte picture.now n height up at (first + i)) }
-{
-    let mut block: u64 = 0;
-    let mut i = 0;
-    while i < 8 {
-        block = block * 256 + (row_byte(picture, n, height, up, at, first + i, whole) as u64);
-        i += 1;
+    // That of the last rows, apart from the code for eight, which is quicker so.
+    #[inline(never)]
+    fn gather_edge(self, first: usize) -> u64
+        requires { (first < self.picture.height) × (self.picture.height ≤ first + 8) }
+        ensures { result ≡ column_block self.entry first }
+    {
+        self.gather(first, self.picture.height - first)
     }
-    block
-}
 
-// The block, by the quick way where it is whole.
-fn gather_block(picture: &[u8], n: usize, height: usize, up: bool, at: usize, first: usize) -> u64
-    requires { (at < n) × (first ≤ side_limit) × (height * n ≤ length picture.now) }
-    ensures { result ≡ join_bytes 8 (λ (i : ℕ). column_byte picture.now n height up at (first + i)) }
-{
-    if first + 8 <= height {
-        return gather(picture, n, height, up, at, first, true);
+    // The block of the rows from one on.
+    fn gather_block(self, first: usize) -> u64
+        requires { first < self.picture.height }
+        ensures { result ≡ column_block self.entry first }
+    {
+        if self.picture.height - first < 8 {
+            return self.gather_edge(first);
+        }
+        self.gather(first, 8)
     }
-    gather(picture, n, height, up, at, first, false)
-}
 
-// A byte of a block.
-fn byte_of(block: u64, i: usize) -> u8
-    requires { i < 8 }
-    ensures { result ≡ block_byte block i }
-{
-    ((block >> (56 - i * 8)) % 256) as u8
-}
-
-// Writes the first bytes of a block, one into each of the rows that come of so many columns.
-fn scatter(
-    block: u64,
-    out: &mut [u8],
-    m: usize,
-    width: usize,
-    up: bool,
-    at: usize,
-    first: usize,
-    count: usize,
-)
-    requires { (at < m) × (first + count ≤ width) × (count ≤ 8) × (width ≤ side_limit) × (width * m ≤ length out.old) }
-    ensures { Put block m width up at first count out.old out.new }
-{
-    let mut i = 0;
-    while i < count {
-        out[flip(!up, width, first + i) * m + at] = byte_of(block, i);
-        i += 1;
+    // Writes the first bytes of a block, one into each of the rows that come of so many columns of dots.
+    fn scatter(self, block: u64, out: &mut [u8], place: usize, count: usize)
+        requires { (place < row_size self.picture.height) × (self.at * 8 + count ≤ self.picture.width) × (count ≤ 8) × FitsTurned self out.old }
+        ensures { BlockPut self.entry block place count out.old out.new }
+    {
+        let m = self.picture.column_size();
+        let bytes = block.to_be_bytes();
+        for i in 0..count {
+            out[flip(!self.up, self.picture.width, self.at * 8 + i) * m + place] = bytes[i];
+        }
     }
-}
 
-// Writes the bytes of a block into one place of each of the rows that come of eight columns, or of fewer at the edge.
-fn scatter_block(
-    block: u64,
-    out: &mut [u8],
-    m: usize,
-    width: usize,
-    up: bool,
-    at: usize,
-    first: usize,
-)
-    requires { (at < m) × (first < width) × (width ≤ side_limit) × (width * m ≤ length out.old) }
-    ensures { Put block m width up at first 8 out.old out.new }
-{
-    if width - first < 8 {
-        scatter(block, out, m, width, up, at, first, width - first);
-    } else {
-        scatter(block, out, m, width, up, at, first, 8);
+    // Writes those of the last column, apart from the code for eight.
+    #[inline(never)]
+    fn scatter_edge(self, block: u64, out: &mut [u8], place: usize)
+        requires { (place < row_size self.picture.height) × (self.picture.width ≤ self.at * 8 + 8) × FitsTurned self out.old }
+        ensures { BlockPut self.entry block place 8 out.old out.new }
+    {
+        self.scatter(block, out, place, self.picture.width - self.at * 8);
+    }
+
+    // Writes those of a column of eight, apart from the code that gathers them: both in one function would need more stack.
+    #[inline(never)]
+    fn scatter_eight(self, block: u64, out: &mut [u8], place: usize)
+        requires { (place < row_size self.picture.height) × (self.at * 8 + 8 ≤ self.picture.width) × FitsTurned self out.old }
+        ensures { BlockPut self.entry block place 8 out.old out.new }
+    {
+        self.scatter(block, out, place, 8);
+    }
+
+    // Writes the bytes of a block into one place of each of the rows that come of the column: eight, or fewer at the edge.
+    fn scatter_block(self, block: u64, out: &mut [u8], place: usize)
+        requires { (place < row_size self.picture.height) × FitsTurned self out.old }
+        ensures { BlockPut self.entry block place 8 out.old out.new }
+    {
+        if self.picture.width - self.at * 8 < 8 {
+            self.scatter_edge(block, out, place);
+        } else {
+            self.scatter_eight(block, out, place);
+        }
+    }
+
+    // Turns the column, apart from its caller, which would then need more stack.
+    #[inline(never)]
+    fn turn(self, out: &mut [u8])
+        requires { FitsTurned self out.old }
+        ensures { Done self.entry (self.entry.at * 8) out.old → Done self.entry (self.entry.at * 8 + 8) out.new }
+    {
+        for place in 0..self.picture.column_size() {
+            let block = transpose(self.gather_block(place * 8));
+            self.scatter_block(block, out, place);
+        }
     }
 }
 
-// Turns a column of bytes, which gives eight rows, or fewer where the column is the last.
-#[inline(never)]
-fn turn_column(picture: &[u8], out: &mut [u8], width: usize, height: usize, up: bool, column: usize)
-    requires { (column < row_size width) × (width ≤ side_limit) × (height ≤ side_limit)
-        × (picture_size width height ≤ length picture.now) × (picture_size height width ≤ length out.old) }
-    ensures { (TurnedUpTo up width height (row_size height) picture.now (column * 8) out.old
-        → TurnedUpTo up width height (row_size height) picture.now (column * 8 + 8) out.new)
-        × ((j : ℕ) → picture_size height width ≤ j → get_or out.new j 0 ≡ get_or out.old j 0) }
+// Turns a picture by a quarter, or by three quarters where not `up`.
+pub(crate) fn quarter_turn(picture: Picture<'_>, out: &mut [u8], up: bool)
+    requires { length out.old ≡ picture_size picture.height picture.width }
+    ensures { out.new ≡ turned (cond up 1 3) picture.entry.width picture.entry.height picture.entry.bytes.now }
 {
-    let n = bytes_across(width);
-    let m = bytes_across(height);
-    let mut q = 0;
-    while q < m {
-        let block = transpose(gather_block(picture, n, height, up, column, q * 8));
-        scatter_block(block, out, m, width, up, q, column * 8);
-        q += 1;
-    }
-}
-
-// Turns a picture by a quarter, or by three quarters where not `up`, into the first bytes of the output.
-pub(crate) fn quarter_turn(picture: &[u8], out: &mut [u8], width: usize, height: usize, up: bool)
-    requires { (0 < height) × (width ≤ side_limit) × (height ≤ side_limit)
-        × (picture_size width height ≤ length picture.now) × (picture_size height width ≤ length out.old) }
-    ensures { out.new ≡ turned (cond up 1 3) width height picture.now ++ drop (picture_size height width) out.old }
-{
-    let n = bytes_across(width);
-    let mut column = 0;
-    while column < n {
-        turn_column(picture, out, width, height, up, column);
-        column += 1;
+    for at in 0..picture.row_size() {
+        Column { picture, up, at }.turn(out);
     }
 }

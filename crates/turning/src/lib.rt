@@ -3,4 +3,5 @@
 
 mod block;
 mod mirror;
+mod picture;
 pub mod turn;

@@ -1,15 +1,13 @@
 // Turns a picture by a half: each row mirrored, the rows from the bottom.
-ghost use Rattle.std.specs.Prelude.{◌≡◌, List, ◌++◌, ℕ, ◌+◌, ◌*◌, ◌-◌, ◌≤◌, ◌<◌, ◌/◌, ◌%◌, ◌^◌, length, get_or, take, drop};
-ghost use Rattle.pictures.specs.Size.{side_limit, picture_size};
-ghost use Rattle.turning.specs.Mirror.{mirror, Mirrors};
-ghost use Rattle.turning.specs.MirrorBytes.{joined_dots, half_byte, MirroredInto, pair_before};
+ghost use Rattle.std.specs.Prelude.{◌≡◌, ℕ, ◌<◌, ◌^◌, length, get_or, map, reverse};
+ghost use Rattle.turning.specs.Mirror.{mirror};
+ghost use Rattle.turning.specs.MirrorBytes.{joined_dots, half_byte};
 ghost use Rattle.turning.specs.Turn.{turned};
 
-use crate::block;
-use pictures::size::bytes_across;
+use crate::picture::Picture;
 
 // The 256 bytes mirrored: the entry of a byte has its dots in reverse.
-const MIRRORED: [u8; 256] = [
+static MIRRORED: [u8; 256] = [
     0, 128, 64, 192, 32, 160, 96, 224, 16, 144, 80, 208, 48, 176, 112, 240, 8, 136, 72, 200, 40,
     168, 104, 232, 24, 152, 88, 216, 56, 184, 120, 248, 4, 132, 68, 196, 36, 164, 100, 228, 20,
     148, 84, 212, 52, 180, 116, 244, 12, 140, 76, 204, 44, 172, 108, 236, 28, 156, 92, 220, 60,
@@ -26,156 +24,97 @@ const MIRRORED: [u8; 256] = [
 ];
 
 // A byte with its dots in reverse.
-fn mirrored(table: &[u8; 256], byte: u8) -> u8
-    requires { Mirrors table.now }
+fn mirrored(byte: u8) -> u8
     ensures { result ≡ mirror byte }
 {
-    table[byte as usize]
+    MIRRORED[usize::from(byte)]
 }
 
-// Eight of the sixteen dots of two bytes, from a place of the left one on; `scale` is two to the power of that place.
-fn join(left: u32, right: u32, scale: u32) -> u8
-    requires { (left < 256) × (right < 256) × (scale ≤ 128) }
-    ensures { result ≡ joined_dots left right scale }
+// Eight of the sixteen dots of two bytes, from a place of the left one on.
+fn join(left: u8, right: u8, place: usize) -> u8
+    requires { place < 8 }
+    ensures { result ≡ joined_dots left right (2 ^ place) }
 {
-    ((left * 256 + right) * scale / 256 % 256) as u8
+    let both = u32::from(left) * 256 + u32::from(right);
+    ((both << place) / 256 % 256) as u8
 }
 
-// Mirrors one row of n bytes, and moves it left by the places of its padding.
-fn mirror_row(
-    table: &[u8; 256],
-    picture: &[u8],
-    out: &mut [u8],
-    from: usize,
-    to: usize,
-    n: usize,
-    scale: u32,
-)
-    requires { Mirrors table.now × (0 < n) × (scale ≤ 128) × (from + n ≤ length picture.now) × (to + n ≤ length out.old) }
-    ensures { (all out₀ : List ℕ) → to + n ≤ length all → to + n ≤ length out₀
-        → ((q : ℕ) → q < n → get_or all (to + q) 0 ≡ half_byte picture.now from n scale q)
-        → out.old ≡ take to all ++ drop to out₀ → out.new ≡ take (to + n) all ++ drop (to + n) out₀ }
+// Mirrors a row, and moves it left by the places of its padding.
+fn mirror_row(row: &[u8], out: &mut [u8], padding: usize)
+    requires { (0 < length row.now) × (length out.old ≡ length row.now) × (padding < 8) }
+    ensures { (q : ℕ) → q < length row.now → get_or out.new q 0 ≡ half_byte row.now padding q }
 {
-    let last = n - 1;
-    let mut left = mirrored(table, picture[from + last]) as u32;
-    let mut q = 0;
-    while q < last {
-        let right = mirrored(table, picture[from + (last - (q + 1))]) as u32;
-        out[to + q] = join(left, right, scale);
+    let last = row.len() - 1;
+    let mut left = mirrored(row[last]);
+    for q in 0..last {
+        let right = mirrored(row[last - 1 - q]);
+        out[q] = join(left, right, padding);
         left = right;
-        q += 1;
     }
-    out[to + last] = join(left, 0, scale);
-}
-
-// A power of two.
-fn power(k: usize) -> u32
-    requires { k < 8 }
-    ensures { result ≡ 2 ^ k }
-{
-    1 << k
+    out[last] = join(left, 0, padding);
 }
 
 // Mirrors all rows, from the bottom.
-fn mirror_rows(table: &[u8; 256], picture: &[u8], out: &mut [u8], width: usize, height: usize)
-    requires { Mirrors table.now × (0 < width) × (width ≤ side_limit) × (height ≤ side_limit)
-        × (picture_size width height ≤ length picture.now) × (picture_size width height ≤ length out.old) }
-    ensures { out.new ≡ turned 2 width height picture.now ++ drop (picture_size width height) out.old }
+fn mirror_rows(picture: Picture<'_>, out: &mut [u8])
+    requires { length out.old ≡ length picture.bytes.now }
+    ensures { out.new ≡ turned 2 picture.entry.width picture.entry.height picture.entry.bytes.now }
 {
-    let n = bytes_across(width);
-    let scale = power(n * 8 - width);
-    let mut row = 0;
-    while row < height {
-        let from = block::flip(true, height, row);
-        mirror_row(table, picture, out, from * n, row * n, n, scale);
-        row += 1;
+    let n = picture.row_size();
+    for row in 0..picture.height {
+        let from = (picture.height - 1 - row) * n;
+        let to = row * n;
+        mirror_row(
+            &picture.bytes[from..from + n],
+            &mut out[to..to + n],
+            n * 8 - picture.width,
+        );
     }
 }
 
-// Mirrors the bytes before a place of the picture, from the last, into as many from a place of the output on.
-fn mirror_run(
-    table: &[u8; 256],
-    picture: &[u8],
-    out: &mut [u8],
-    end: usize,
-    to: usize,
-    count: usize,
-)
-    requires { Mirrors table.now × (count ≤ end) × (end ≤ length picture.now) × (to + count ≤ length out.old) }
-    ensures { MirroredInto picture.now end to count out.old out.new }
+// Mirrors eight bytes. Loads are what takes the time, so all are read at once.
+fn mirror_eight(bytes: &[u8; 8], out: &mut [u8])
+    requires { length out.old ≡ 8 }
+    ensures { out.new ≡ map mirror (reverse bytes.now) }
 {
-    let mut k = 0;
-    while k < count {
-        out[to + k] = mirrored(table, picture[end - 1 - k]);
-        k += 1;
+    let from_last = u64::from_be_bytes(*bytes).to_le_bytes();
+    for k in 0..8 {
+        out[k] = mirrored(from_last[k]);
     }
 }
 
-// The two bytes before a place as one number, which is one load.
-fn pair_before(picture: &[u8], end: usize) -> u32
-    requires { (2 ≤ end) × (end ≤ length picture.now) }
-    ensures { result ≡ pair_before picture.now end }
+// Mirrors bytes, from the last.
+fn mirror_run(bytes: &[u8], out: &mut [u8])
+    requires { length out.old ≡ length bytes.now }
+    ensures { out.new ≡ map mirror (reverse bytes.now) }
 {
-    (picture[end - 2] as u32) + (picture[end - 1] as u32) * 256
-}
-
-// Mirrors the two bytes before a place. Loads are what takes the time, so both are read at once.
-fn mirror_pair(table: &[u8; 256], picture: &[u8], out: &mut [u8], end: usize, to: usize)
-    requires { Mirrors table.now × (2 ≤ end) × (end ≤ length picture.now) × (to + 2 ≤ length out.old) }
-    ensures { MirroredInto picture.now end to 2 out.old out.new }
-{
-    let pair = pair_before(picture, end);
-    out[to] = mirrored(table, (pair / 256) as u8);
-    out[to + 1] = mirrored(table, (pair % 256) as u8);
-}
-
-// Mirrors the eight bytes before a place.
-fn mirror_eight(table: &[u8; 256], picture: &[u8], out: &mut [u8], end: usize, to: usize)
-    requires { Mirrors table.now × (8 ≤ end) × (end ≤ length picture.now) × (to + 8 ≤ length out.old) }
-    ensures { MirroredInto picture.now end to 8 out.old out.new }
-{
-    mirror_pair(table, picture, out, end, to);
-    mirror_pair(table, picture, out, end - 2, to + 2);
-    mirror_pair(table, picture, out, end - 4, to + 4);
-    mirror_pair(table, picture, out, end - 6, to + 6);
-}
-
-// Mirrors a picture without padding: all its bytes, from the last.
-fn mirror_bytes(table: &[u8; 256], picture: &[u8], out: &mut [u8], width: usize, height: usize)
-    requires { Mirrors table.now × (0 < width) × (width ≤ side_limit) × (height ≤ side_limit) × (width % 8 ≡ 0)
-        × (picture_size width height ≤ length picture.now) × (picture_size width height ≤ length out.old) }
-    ensures { out.new ≡ turned 2 width height picture.now ++ drop (picture_size width height) out.old }
-{
-    let size = height * bytes_across(width);
-    let mut i = 0;
-    let mut from = size;
-    while 8 <= from {
-        mirror_eight(table, picture, out, from, i);
-        i += 8;
-        from -= 8;
+    for k in 0..bytes.len() {
+        out[k] = mirrored(bytes[bytes.len() - 1 - k]);
     }
-    mirror_run(table, picture, out, from, i, from);
 }
 
-// Mirrors a picture by the table.
-fn mirror_picture(table: &[u8; 256], picture: &[u8], out: &mut [u8], width: usize, height: usize)
-    requires { Mirrors table.now × (0 < width) × (width ≤ side_limit) × (height ≤ side_limit)
-        × (picture_size width height ≤ length picture.now) × (picture_size width height ≤ length out.old) }
-    ensures { out.new ≡ turned 2 width height picture.now ++ drop (picture_size width height) out.old }
+// The same, eight bytes at a time.
+fn mirror_bytes(bytes: &[u8], out: &mut [u8])
+    requires { length out.old ≡ length bytes.now }
+    ensures { out.new ≡ map mirror (reverse bytes.now) }
 {
-    if width % 8 == 0 {
-        mirror_bytes(table, picture, out, width, height);
+    let mut rest = bytes;
+    while let Some((before, eight)) = rest.split_last_chunk::<8>() {
+        let to = out.len() - rest.len();
+        mirror_eight(eight, &mut out[to..to + 8]);
+        rest = before;
+    }
+    let to = out.len() - rest.len();
+    mirror_run(rest, &mut out[to..]);
+}
+
+// Turns a picture by a half. Without padding, its bytes are mirrored as one run.
+pub(crate) fn half_turn(picture: Picture<'_>, out: &mut [u8])
+    requires { length out.old ≡ length picture.bytes.now }
+    ensures { out.new ≡ turned 2 picture.entry.width picture.entry.height picture.entry.bytes.now }
+{
+    if picture.width % 8 == 0 {
+        mirror_bytes(picture.bytes, out);
     } else {
-        mirror_rows(table, picture, out, width, height);
+        mirror_rows(picture, out);
     }
-}
-
-// Turns a picture by a half into the first bytes of the output. A constant is made anew wherever it is named, so it is named once.
-pub(crate) fn half_turn(picture: &[u8], out: &mut [u8], width: usize, height: usize)
-    requires { (0 < width) × (width ≤ side_limit) × (height ≤ side_limit)
-        × (picture_size width height ≤ length picture.now) × (picture_size width height ≤ length out.old) }
-    ensures { out.new ≡ turned 2 width height picture.now ++ drop (picture_size width height) out.old }
-{
-    let table = MIRRORED;
-    mirror_picture(&table, picture, out, width, height);
 }

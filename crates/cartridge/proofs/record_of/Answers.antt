@@ -1,45 +1,33 @@
-use Prim.Native.Nat.{◌+◌, ◌≤◌}
-use native.Mathlib.Omega.{arith}
-use lib.Dec.{eqb}
-use lib.ListN.{length}
-use Rattle.form.specs.Layout.{font_record}
+use Rattle.std.proofs.Common.{sym, ap, ◌∙◌, inl, inr, ⊎_elim, arith}
 use Rattle.cartridge.specs.Cartridge.{part_of}
-use Rattle.cartridge.proofs.Cartridge.{room, first_part, second_part, empty_part}
+use Rattle.cartridge.proofs.Cartridge.{Named, room, in_either, whole_part, empty_part, no_part}
 use Rattle.cartridge.proofs.record_of.Goals as goal
+use Rattle.cartridge.proofs.record_of.Goals.{in-1, in-2}
 
--- what each test has shown where its part is taken
+pub returns-in_default : goal.returns-in_default
+returns-in_default c = no_part (part_of c.args.soft) (part_of c.args.cartridge) c.args.a (λ z. omega (arith, z)) (λ z. omega (arith, z))
+
+-- the store that the numbers name
+pub returns-then-not-ends_within : goal.returns-then-not-ends_within
+returns-then-not-ends_within c =
+    let a = part_of c.args.soft in
+    let b = part_of c.args.cartridge in
+    let named : Named a b c.args.a (part_of c.match-a.store) = elim c.match-a.branch [ in-1 w ↦ inl (w.in-1.is, ap part_of w.store-is) | in-2 w ↦ inr (w.in-2.is, ap part_of w.store-is) ] in
+    empty_part a b c.args.a _ named (sym c.ends_within.ensures ∙ c.if-not-ends_within.true)
+
 pub overflow_add-result : goal.overflow_add-result
 overflow_add-result c =
-    let soft_room : let x = c.args in x.a.place + font_record ≤ length x.soft.now = room _ _ (eqb c.args.a.which 1) _ c.ends_within.ensures c.if-a-ends_within.true in
-    record { fits = omega (arith, soft_room) }
+    let a = part_of c.args.soft in
+    let b = part_of c.args.cartridge in
+    let named : Named a b c.args.a (part_of c.match-a.store) = elim c.match-a.branch [ in-1 w ↦ inl (w.in-1.is, ap part_of w.store-is) | in-2 w ↦ inr (w.in-2.is, ap part_of w.store-is) ] in
+    ⊎_elim (λ l. record { fits = omega (arith, l) }) (λ l. record { fits = omega (arith, l) }) (in_either a b c.args.a _ named (room _ _ (sym c.ends_within.ensures ∙ c.if-not-ends_within.false)))
 
--- what each test has shown where its part is taken
 pub slice_bounds-result-end : goal.slice_bounds-result-end
-slice_bounds-result-end c =
-    let soft_room : let x = c.args in x.a.place + font_record ≤ length x.soft.now = room _ _ (eqb c.args.a.which 1) _ c.ends_within.ensures c.if-a-ends_within.true in
-    soft_room
-
-pub returns-then-a-ends_within : goal.returns-then-a-ends_within
-returns-then-a-ends_within c =
-    let x = c.args in
-    first_part (part_of x.soft) (part_of x.cartridge) x.a _ c.ends_within.ensures c.if-a-ends_within.true
-
-pub overflow_add-result-then-a-ends_within-2 : goal.overflow_add-result-then-a-ends_within-2
-overflow_add-result-then-a-ends_within-2 c =
-    let cartridge_room : let x = c.args in x.a.place + font_record ≤ length x.cartridge.now = room _ _ (eqb c.args.a.which 2) _ c.ends_within-2.ensures c.if-a-ends_within-2.true in
-    record { fits = omega (arith, cartridge_room) }
-
-pub slice_bounds-result-end-then-a-ends_within-2 : goal.slice_bounds-result-end-then-a-ends_within-2
-slice_bounds-result-end-then-a-ends_within-2 c =
-    let cartridge_room : let x = c.args in x.a.place + font_record ≤ length x.cartridge.now = room _ _ (eqb c.args.a.which 2) _ c.ends_within-2.ensures c.if-a-ends_within-2.true in
-    cartridge_room
-
-pub returns-then-a-ends_within-2 : goal.returns-then-a-ends_within-2
-returns-then-a-ends_within-2 c =
-    let x = c.args in
-    second_part (part_of x.soft) (part_of x.cartridge) x.a _ _ c.ends_within.ensures c.if-a-ends_within.false c.ends_within-2.ensures c.if-a-ends_within-2.true
+slice_bounds-result-end c = room _ _ (sym c.ends_within.ensures ∙ c.if-not-ends_within.false)
 
 pub returns : goal.returns
 returns c =
-    let x = c.args in
-    empty_part (part_of x.soft) (part_of x.cartridge) x.a _ _ c.ends_within.ensures c.if-a-ends_within.false c.ends_within-2.ensures c.if-a-ends_within-2.false
+    let a = part_of c.args.soft in
+    let b = part_of c.args.cartridge in
+    let named : Named a b c.args.a (part_of c.match-a.store) = elim c.match-a.branch [ in-1 w ↦ inl (w.in-1.is, ap part_of w.store-is) | in-2 w ↦ inr (w.in-2.is, ap part_of w.store-is) ] in
+    whole_part a b c.args.a _ named (sym c.ends_within.ensures ∙ c.if-not-ends_within.false)

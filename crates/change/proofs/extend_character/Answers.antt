@@ -7,11 +7,8 @@ use Rattle.change.specs.Put.{with_bytes}
 use native.Mathlib.Omega.{arith}
 use Rattle.change.proofs.extend_character.Goals as goal
 
-pub copy-requires : goal.copy-requires
-copy-requires c = simp (length-take, length-drop) (omega (arith, c.requires.0, c.requires.3, c.put16.auto.s))
-
 pub returns : goal.returns
 returns c =
     let a = c.args in
     let e : 2 + a.n - 2 ≡ a.n = omega arith in
-    c.copy.ensures ∙ ap (λ (k : ℕ). with_bytes c.put16.new.s (a.at + a.old) (take k (drop continuation_bytes a.block.now))) e ∙ ap (λ (x : List ℕ). with_bytes x (a.at + a.old) (take a.n (drop continuation_bytes a.block.now))) c.put16.ensures
+    c.copy.ensures ∙ ap (λ (k : ℕ). with_bytes c.put.new.s (a.at + a.old) (take k (drop continuation_bytes a.block.now))) e ∙ ap (λ (x : List ℕ). with_bytes x (a.at + a.old) (take a.n (drop continuation_bytes a.block.now))) c.put.ensures

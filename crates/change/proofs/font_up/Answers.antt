@@ -4,7 +4,7 @@ use native.Mathlib.Omega.{arith}
 use borrow.Author.Rules.{rules}
 use lib.ListN.{length-set}
 use Rattle.form.specs.Layout.{font_record}
-use Rattle.change.proofs.Moves.{up_turn, up_start, up_end}
+use Rattle.change.proofs.Upward.{up_turn, up_start, up_end}
 use Rattle.change.proofs.font_up.Goals as goal
 
 pub loop-i-init : goal.loop-i-init

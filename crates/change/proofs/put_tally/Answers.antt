@@ -10,4 +10,4 @@ use Rattle.change.proofs.put_tally.Goals as goal
 pub returns : goal.returns
 returns c =
     let a = c.args in
-    c.put32.ensures ∙ ap (λ (l : List ℕ). with_bytes l (a.at + font_bytes_at) (low_first 4 a.t.bytes)) c.put16.ensures ∙ tally_put a.s.now a.at a.t c.requires.0
+    c.put-2.ensures ∙ ap (λ (l : List ℕ). with_bytes l (a.at + font_bytes_at) (low_first 4 a.t.bytes)) c.put.ensures ∙ tally_put a.s.now a.at a.t c.requires

@@ -1,13 +1,12 @@
-use mathlib.Core.Path.{sym, ◌∙◌}
-use Rattle.change.proofs.Unmarks.{unmark_off, unmark_other, unmark_font}
-use native.Mathlib.Omega.{arith}
+use mathlib.Core.Path.{◌∙◌, sym}
+use Rattle.change.proofs.Unmarks.{unmark_none, unmark_other, unmark_font}
 use Rattle.change.proofs.unmark_font.Goals as goal
 
-pub returns-then-le16-ne1 : goal.returns-then-le16-ne1
-returns-then-le16-ne1 c = sym (unmark_off c.args.font 0 c.args.s.now (λ e. omega arith)).0
+pub returns-then-id-font : goal.returns-then-id-font
+returns-then-id-font c = c.mark_character.ensures ∙ unmark_font c.args.font c.args.s.now c.in-Some.id (sym c.in-Some.is ∙ c.open_character.ensures) c.if-id-font.true
 
-pub returns-then-le16-font : goal.returns-then-le16-font
-returns-then-le16-font c = sym (unmark_other c.args.font 0 c.args.s.now (omega arith) (λ e. omega arith)).0
+pub returns-else-id-font : goal.returns-else-id-font
+returns-else-id-font c = unmark_other c.args.font c.args.s.now c.in-Some.id (sym c.in-Some.is ∙ c.open_character.ensures) c.if-id-font.false
 
-pub returns : goal.returns
-returns c = c.remark.ensures ∙ sym (unmark_font c.args.font 0 c.args.s.now (omega arith) (omega arith))
+pub returns-in_default : goal.returns-in_default
+returns-in_default c = unmark_none c.args.font c.args.s.now (sym c.in_default.is ∙ c.open_character.ensures)

@@ -11,21 +11,15 @@ use Rattle.change.proofs.Written.{char_put}
 use native.Mathlib.Omega.{arith}
 use Rattle.change.proofs.write_character.Goals as goal
 
-pub write_descriptor-requires : goal.write_descriptor-requires
-write_descriptor-requires c = omega (arith, c.requires.0, c.requires.4, c.write_head.auto.s)
-
-pub copy-requires : goal.copy-requires
-copy-requires c = simp (length-take, length-drop) (omega (arith, c.requires.0, c.requires.4, c.write_head.auto.s, c.write_descriptor.auto.s))
-
 pub returns : goal.returns
 returns c =
     let a = c.args in
     let b = a.block.now in
     let d = take a.n (drop descriptor_bytes b) in
     let e : descriptor_bytes + a.n - descriptor_bytes ≡ a.n = omega arith in
-    let l : length d ≡ a.n = simp (length-take, length-drop) (omega (arith, c.requires.4)) in
-    let h : length (kept_first b) ≡ descriptor_bytes = kept_length b (omega (arith, c.requires.4)) in
-    let q : with_bytes (with_bytes (with_bytes a.s.now a.at (character_head (character_record + length d) a.font a.code)) (a.at + character_kept_at) (kept_first b)) (a.at + character_record) d ≡ _ = char_put a.s.now a.at a.font a.code (kept_first b) d h (omega (arith, l, c.requires.0)) in
+    let l : length d ≡ a.n = simp (length-take, length-drop) (omega (arith, c.requires.1)) in
+    let h : length (kept_first b) ≡ descriptor_bytes = kept_length b (omega (arith, c.requires.1)) in
+    let q : with_bytes (with_bytes (with_bytes a.s.now a.at (character_head (character_record + length d) a.id.font a.id.code)) (a.at + character_kept_at) (kept_first b)) (a.at + character_record) d ≡ _ = char_put a.s.now a.at a.id.font a.id.code (kept_first b) d h (omega (arith, l, c.requires.0)) in
     c.copy.ensures ∙ ap (λ (k : ℕ). with_bytes c.write_descriptor.new.s (a.at + character_record) (take k (drop descriptor_bytes b))) e
     ∙ ap (λ (x : List ℕ). with_bytes x (a.at + character_record) d) (c.write_descriptor.ensures ∙ ap (λ (x : List ℕ). with_bytes x (a.at + character_kept_at) (kept_first b)) c.write_head.ensures)
     ∙ rw l at q

@@ -21,10 +21,10 @@ pub returns : goal.returns
 returns c =
     let a = c.args in
     let h = kept_header a.block.now in
-    let l : length h ≡ header_bytes = kept_length a.block.now c.requires.2 in
+    let l : length h ≡ header_bytes = kept_length a.block.now c.requires.1 in
     let d : length h ≡ a.at + font_record - (a.at + font_kept_at) = omega (arith, l) in
     let o : a.at + font_kept_at ≤ a.at + font_record = omega arith in
     rw c.keep_header.ensures
     (mid_put c.put_tally.new.s (a.at + font_kept_at) (a.at + font_record) h o d
-    ∙ written a.n a.at a.s.now c.put32.new.s c.put16.new.s c.put16-2.new.s c.put_tally.new.s h c.put32.ensures c.put16.ensures c.put16-2.ensures c.put_tally.ensures
+    ∙ written a.n a.at a.s.now c.put.new.s c.put-2.new.s c.put-3.new.s c.put_tally.new.s h c.put.ensures c.put-2.ensures c.put-3.ensures c.put_tally.ensures
     ∙ font_put a.s.now a.at a.n no_characters h l c.requires.0)

@@ -1,10 +1,12 @@
+use Rattle.std.proofs.Common.{refl, sym, ◌∙◌}
 use Rattle.choice.specs.Scores.{better_at}
+use Rattle.choice.proofs.Pass.{tuple_before}
 use Rattle.choice.proofs.better.Goals as goal
 
-pub returns-then-first : goal.returns-then-first
+pub returns-then-lt : goal.returns-then-lt
 unfolding better_at
-returns-then-first c = simp c.if-first.true
+returns-then-lt c = rw (sym (tuple_before c.args.s c.args.b.best) ∙ sym c.lt.ensures ∙ c.if-lt.true) refl
 
-pub returns-else-first : goal.returns-else-first
+pub returns-else-lt : goal.returns-else-lt
 unfolding better_at
-returns-else-first c = simp c.if-first.false
+returns-else-lt c = rw (sym (tuple_before c.args.s c.args.b.best) ∙ sym c.lt.ensures ∙ c.if-lt.false) refl

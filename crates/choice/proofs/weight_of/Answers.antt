@@ -4,7 +4,7 @@ use Rattle.choice.proofs.Asked.{weights}
 use Rattle.choice.proofs.weight_of.Goals as goal
 
 pub returns : goal.returns
-returns c = (
+returns c = rw c.from.ensures (
   λ p n.
       c.weight_number.ensures.0
       ∙ weights c.args.r c.requires.1 c.raised_request.ensures.1 c.raised_request.result c.raised_request.ensures.0

@@ -18,8 +18,8 @@ returns c =
     let a = c.args in
     let e = c.next_restart-next.ensures in record {
       value = e;
-      list_after = c.put64-2.ensures
-          ∙ ap (λ (l : List ℕ). with_bytes l (a.at + 8) (low_first 8 (c.next_restart-next.result - a.first))) c.put64.ensures
+      list_after = c.put-2.ensures
+          ∙ ap (λ (l : List ℕ). with_bytes l (a.at + 8) (low_first 8 (c.next_restart-next.result - a.first))) c.put.ensures
           ∙ ap (λ (k : ℕ). with_bytes (with_bytes a.list.now a.at (low_first 8 a.first)) (a.at + 8) (low_first 8 (k - a.first))) e
           ∙ stretch_put a.list.now a.at a.first (restart_from a.stream.now (a.first + 1) - a.first) c.requires.1;
     }

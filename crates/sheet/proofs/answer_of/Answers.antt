@@ -2,18 +2,10 @@ use mathlib.Core.Path.{sym, ap}
 use Rattle.sheet.specs.Sheet.{answer_of}
 use Rattle.sheet.proofs.answer_of.Goals as goal
 
-pub returns-in-Number : goal.returns-in-Number
+pub returns-in-Ok : goal.returns-in-Ok
 unfolding answer_of
-returns-in-Number c = ap answer_of (sym c.in-Number.is)
+returns-in-Ok c = ap answer_of (sym c.in-Ok.is)
 
-pub returns-in-NotStore : goal.returns-in-NotStore
+pub returns-in-Err : goal.returns-in-Err
 unfolding answer_of
-returns-in-NotStore c = ap answer_of (sym c.in-NotStore.is)
-
-pub returns-in-OutOfRange : goal.returns-in-OutOfRange
-unfolding answer_of
-returns-in-OutOfRange c = ap answer_of (sym c.in-OutOfRange.is)
-
-pub returns-in-NoFont : goal.returns-in-NoFont
-unfolding answer_of
-returns-in-NoFont c = ap answer_of (sym c.in-NoFont.is)
+returns-in-Err c = rw c.from.ensures (ap answer_of (sym c.in-Err.is))

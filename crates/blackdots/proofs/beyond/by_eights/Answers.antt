@@ -1,41 +1,23 @@
-use Rattle.blackdots.proofs.ByteOnes.{overhang_start, apart_overhang}
-use Prim.Native.Nat.{ℕ, ◌+◌}
-use native.Mathlib.Nat.{zero-mul, add-mul}
-use native.Mathlib.Omega.{arith}
-use lib.Count.{ones-le}
+use Rattle.std.proofs.Common.{ℕ, ◌*◌, ◌-◌, rules, arith, refl, ap, ◌∙◌}
+use lib.Count.{ones, ones-le}
+use Rattle.blackdots.specs.Counting.{ones_apart}
+use Rattle.blackdots.proofs.ByteOnes.{rows_start, rows_more, rows_joined, rows_part}
 use Rattle.blackdots.proofs.beyond.by_eights.Goals as goal
 
-pub loop-at-init : goal.loop-at-init
-loop-at-init c =
+pub loop-rest-init : goal.loop-rest-init
+loop-rest-init c = rows_start c.args.n c.args.mask c.args.rows.now c.requires.0
+
+pub loop-rest-preserved : goal.loop-rest-preserved
+loop-rest-preserved c =
     let a = c.args in
-    (0, omega (arith, zero-mul a.n), omega arith, omega arith, omega arith, omega arith, λ pad e. overhang_start a.n pad a.b.now)
-
-pub overflow_add-k : goal.overflow_add-k
-overflow_add-k c = record { fits = omega (arith, c.loop-at.invariant.3, c.loop-at.invariant.4, ones-le 64 c.eight_masked.result c.eight_masked.ensures.1) }
-
-pub loop-at-smaller : goal.loop-at-smaller
-loop-at-smaller c = omega (arith, c.loop-at-test.true)
-
-pub loop-at-preserved : goal.loop-at-preserved
-loop-at-preserved c =
-    let a = c.args in
-    let t : ℕ = c.loop-at.invariant.0 in (
-      t + 8,
-      omega (arith, c.loop-at.invariant.1, add-mul t 8 a.n),
-      omega (arith, c.loop-at.invariant.2, c.requires.0),
-      omega (arith, c.loop-at.invariant.2, c.loop-at-test.true, c.requires.0),
-      omega (arith, c.loop-at.invariant.4, ones-le 64 c.eight_masked.result c.eight_masked.ensures.1),
-      omega (arith, c.loop-at-test.true),
-      λ pad e. omega (arith, c.loop-at.invariant.6 pad e, c.eight_masked.ensures.0, apart_overhang a.n pad a.mask c.loop-at.at t 8 a.b.now e c.loop-at.invariant.1),
-    )
-
-pub beyond_from-requires : goal.beyond_from-requires
-beyond_from-requires c =
-    let p = c.requires in
-    (p.0, p.1, p.2, c.loop-at.invariant.5)
-
-pub overflow_add-result : goal.overflow_add-result
-overflow_add-result c = omega (arith, c.loop-at.invariant.3, c.loop-at.invariant.4, c.beyond_from.ensures.1, c.requires.2)
+    let rest = c.loop-rest.rest.now in
+    let x : ℕ = ones c.eight_masked.result in
+    rows_more a.n a.mask a.rows.now c.requires.0 rest c.split_at.result.1.now c.loop-rest.k x 8 c.loop-rest.invariant (omega arith) c.loop-rest-test.true c.split_at.ensures.back
+    (ones-le 64 c.eight_masked.result (search rules))
+    (rows_part a.n a.mask a.rows.now c.requires.0 rest c.loop-rest.k x (8 * a.n) 8 c.loop-rest.invariant refl (c.eight_masked.ensures ∙ ap (λ b. ones_apart a.n a.mask b (a.n - 1) 8) c.split_at.ensures.front))
 
 pub returns : goal.returns
-returns c = (λ h pad e m. omega (arith, c.loop-at.invariant.6 pad e, c.beyond_from.ensures.0 c.loop-at.invariant.0 h pad c.loop-at.invariant.1 e m), omega (arith, c.loop-at.invariant.3, c.loop-at.invariant.4, c.beyond_from.ensures.1))
+returns c =
+    let a = c.args in
+    let known = c.loop-rest.invariant in
+    (rows_joined a.n a.mask a.rows.now c.requires.0 c.loop-rest.rest.now c.loop-rest.k c.beyond_by_rows.result known c.beyond_by_rows.ensures.0, omega (arith, known.most, known.few, c.beyond_by_rows.ensures.1))

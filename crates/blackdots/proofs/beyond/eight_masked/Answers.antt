@@ -1,10 +1,8 @@
-use native.Mathlib.Nat.{lt_of_le_of_lt}
-use native.Mathlib.Omega.{arith}
-use lib.Bits.{and_le_l}
+use Rattle.std.proofs.Common.{rules}
+use Rattle.blackdots.proofs.ByteOnes.{eight_masked_lem}
 use Rattle.blackdots.proofs.beyond.eight_masked.Goals as goal
 
-pub overflow_mul-result : goal.overflow_mul-result
-overflow_mul-result c = omega (arith, c.wide.ensures.1)
-
 pub returns : goal.returns
-returns c = (rw c.wide.ensures.0 (c.eight_apart.ensures.0 _ (rw c.wide.ensures.0 at c.wide.ensures.1)), lt_of_le_of_lt (and_le_l _ _) c.eight_apart.ensures.1)
+returns c =
+    let a = c.args in
+    rw c.from.ensures (eight_masked_lem a.n a.mask a.rows.now (λ i. (c.type_inv.rows i).fits) (search rules) c.from_le_bytes.result c.requires.0 c.from_le_bytes.ensures)

@@ -2,4 +2,4 @@ use Rattle.blackdots.proofs.RunDots.{counting_starts}
 use Rattle.blackdots.proofs.compressed.begin_line.Goals as goal
 
 pub returns-then-width-lt-WIDE : goal.returns-then-width-lt-WIDE
-returns-then-width-lt-WIDE c = counting_starts _ _ _
+returns-then-width-lt-WIDE c = rw c.from.ensures (counting_starts c.args.width c.args.runs.now)

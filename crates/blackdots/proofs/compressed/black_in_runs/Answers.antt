@@ -1,54 +1,52 @@
-use Rattle.blackdots.proofs.RunDots.{LineCounted, line_counted, line_uncounted, rows_start, rows_room, rows_done, rows_ended, rows_unfinished, rows_next}
-use native.Mathlib.Omega.{arith}
-use borrow.Author.Rules.{rules}
-use lib.ListN.{get_or}
-use mathlib.Core.Path.{◌≡◌, sym, ◌∙◌}
-use Prim.Native.Nat.{◌-◌, ◌+◌, ◌*◌, ◌≤◌, min}
+use Rattle.std.proofs.Common.{rules, arith}
+use Rattle.blackdots.proofs.RunDots.{rows_start, rows_ended, rows_unfinished, row_byte, row_room, rows_next}
 use Rattle.blackdots.proofs.compressed.black_in_runs.Goals as goal
 
-pub loop-at-init : goal.loop-at-init
-loop-at-init c = rows_start _ _ _
+pub loop-repeats-init : goal.loop-repeats-init
+loop-repeats-init c = rows_start c.args.width c.args.height c.args.bytes.now (λ i. (c.type_inv.bytes i).fits)
 
-pub returns-then-height-top : goal.returns-then-height-top
-returns-then-height-top c = rows_done _ _ _ _ _ _ c.loop-at.invariant c.if-height-top.true
+pub overflow_add-from : goal.overflow_add-from
+overflow_add-from c =
+    let a = c.args in
+    let known = c.loop-repeats in
+    let small = row_byte a.width a.height a.bytes.now known.rest.now known.top known.n known.invariant c.in-Some.field-0-0.now c.in-Some.runs.now c.in-Some.ensures.cases.0 in
+    record { fits = omega (arith, small, c.from-in-Some.ensures) }
 
-pub overflow_add-wide : goal.overflow_add-wide
-overflow_add-wide c = omega (arith, c.wide.ensures)
+pub returns-in_default-count_line : goal.returns-in_default-count_line
+returns-in_default-count_line c =
+    let a = c.args in
+    let known = c.loop-repeats in
+    rows_unfinished a.width a.height a.bytes.now known.rest.now known.top known.n known.invariant c.in-Some.field-0-0.now c.in-Some.runs.now c.in-Some.ensures.cases.0 c.in_default-count_line.ensures
 
--- the row that was counted
+-- the sum with the row's dots has room
 pub overflow_mul-n : goal.overflow_mul-n
 overflow_mul-n c =
-    let at_line : LineCounted c.args.width c.args.bytes.now (c.loop-at.at + 1) c.in-Ends.next c.in-Ends.black = line_counted _ _ _ _ _ (omega arith) (sym c.in-Ends.is ∙ c.count_line.ensures) in
-    let times : c.lesser-times.result ≡ min (get_or c.args.bytes.now c.loop-at.at 0 + 1) (c.args.height - c.loop-at.top) = omega (arith, c.lesser-times.ensures, c.wide.ensures) in
-    let room : c.loop-at.n + c.lesser-times.result * c.in-Ends.black ≤ 4294836225 = rows_room _ c.loop-at.top _ _ c.args.width c.args.height c.loop-at.invariant.most (at_line).most (omega (arith, times)) (search rules) (search rules) in
-    omega (arith, room)
+    let a = c.args in
+    let known = c.loop-repeats in
+    let line = c.in-Some-count_line in
+    let room = row_room a.width a.height a.bytes.now known.rest.now known.top known.n known.invariant c.in-Some.field-0-0.now c.in-Some.runs.now c.in-Some.ensures.cases.0 c.min-times.result line.line.rest.now line.line.black
+    (omega (arith, c.from.ensures)) (omega (arith, c.min-times.ensures, c.from-in-Some.ensures, c.from-in-Some-2.ensures)) line.ensures (search rules) (search rules) in
+    record { fits = omega (arith, room) }
 
--- the row that was counted
 pub overflow_add-n : goal.overflow_add-n
 overflow_add-n c =
-    let at_line : LineCounted c.args.width c.args.bytes.now (c.loop-at.at + 1) c.in-Ends.next c.in-Ends.black = line_counted _ _ _ _ _ (omega arith) (sym c.in-Ends.is ∙ c.count_line.ensures) in
-    let times : c.lesser-times.result ≡ min (get_or c.args.bytes.now c.loop-at.at 0 + 1) (c.args.height - c.loop-at.top) = omega (arith, c.lesser-times.ensures, c.wide.ensures) in
-    let room : c.loop-at.n + c.lesser-times.result * c.in-Ends.black ≤ 4294836225 = rows_room _ c.loop-at.top _ _ c.args.width c.args.height c.loop-at.invariant.most (at_line).most (omega (arith, times)) (search rules) (search rules) in
-    omega (arith, room)
+    let a = c.args in
+    let known = c.loop-repeats in
+    let line = c.in-Some-count_line in
+    let room = row_room a.width a.height a.bytes.now known.rest.now known.top known.n known.invariant c.in-Some.field-0-0.now c.in-Some.runs.now c.in-Some.ensures.cases.0 c.min-times.result line.line.rest.now line.line.black
+    (omega (arith, c.from.ensures)) (omega (arith, c.min-times.ensures, c.from-in-Some.ensures, c.from-in-Some-2.ensures)) line.ensures (search rules) (search rules) in
+    record { fits = omega (arith, room) }
 
-pub returns-in-Unfinished : goal.returns-in-Unfinished
-returns-in-Unfinished c = rows_unfinished _ _ _ _ _ _ c.loop-at.invariant c.loop-at-test.true (line_uncounted _ _ _ (sym c.in-Unfinished.is ∙ c.count_line.ensures))
-
-pub overflow_add-top : goal.overflow_add-top
-overflow_add-top c = omega (arith, c.lesser-times.ensures)
-
--- the row that was counted
-pub loop-at-smaller : goal.loop-at-smaller
-loop-at-smaller c =
-    let at_line : LineCounted c.args.width c.args.bytes.now (c.loop-at.at + 1) c.in-Ends.next c.in-Ends.black = line_counted _ _ _ _ _ (omega arith) (sym c.in-Ends.is ∙ c.count_line.ensures) in
-    omega (arith, (at_line).ahead, (at_line).within)
-
--- the row that was counted
-pub loop-at-preserved : goal.loop-at-preserved
-loop-at-preserved c =
-    let times : c.lesser-times.result ≡ min (get_or c.args.bytes.now c.loop-at.at 0 + 1) (c.args.height - c.loop-at.top) = omega (arith, c.lesser-times.ensures, c.wide.ensures) in
-    let at_line : LineCounted c.args.width c.args.bytes.now (c.loop-at.at + 1) c.in-Ends.next c.in-Ends.black = line_counted _ _ _ _ _ (omega arith) (sym c.in-Ends.is ∙ c.count_line.ensures) in
-    rows_next _ _ _ _ _ _ c.loop-at.invariant c.loop-at-test.true c.if-height-top.false _ _ _ (times) (at_line)
+pub loop-repeats-preserved : goal.loop-repeats-preserved
+loop-repeats-preserved c =
+    let a = c.args in
+    let known = c.loop-repeats in
+    let line = c.in-Some-count_line in
+    rows_next a.width a.height a.bytes.now known.rest.now known.top known.n known.invariant c.in-Some.field-0-0.now c.in-Some.runs.now c.in-Some.ensures.cases.0 c.min-times.result line.line.rest.now line.line.black
+    (omega (arith, c.from.ensures)) (omega (arith, c.min-times.ensures, c.from-in-Some.ensures, c.from-in-Some-2.ensures)) line.ensures
 
 pub returns : goal.returns
-returns c = rows_ended _ _ _ _ _ _ c.loop-at.invariant c.loop-at-test.false
+returns c =
+    let a = c.args in
+    let known = c.loop-repeats in
+    rows_ended a.width a.height a.bytes.now known.rest.now known.top known.n known.invariant c.in_default.ensures.cases

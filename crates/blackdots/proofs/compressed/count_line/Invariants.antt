@@ -1,10 +1,9 @@
-use Rattle.blackdots.specs.Counting.{Counting}
-use lib.ListN.{length}
-use Prim.Native.Nat.{◌-◌}
+use Rattle.std.proofs.Common.{length}
+use Rattle.blackdots.specs.Counting.{CountedTo}
 use Rattle.blackdots.proofs.compressed.count_line.Given as goal
 
-abbrev pub invariant-loop-at : goal.invariant-loop-at
-invariant-loop-at l = Counting l.width l.bytes l.from l.at l.left l.black
+abbrev pub invariant-loop-white : goal.invariant-loop-white
+invariant-loop-white l = CountedTo l.width l.runs l.rest l.left l.black
 
-abbrev pub decreases-loop-at : goal.decreases-loop-at
-decreases-loop-at l = length l.bytes - l.at
+abbrev pub decreases-loop-white : goal.decreases-loop-white
+decreases-loop-white l = length l.rest

@@ -1,10 +1,9 @@
-use Rattle.blackdots.specs.Counting.{Counting}
-use Prim.Native.Nat.{◌-◌}
-use lib.ListN.{length}
+use Rattle.std.proofs.Common.{length}
+use Rattle.blackdots.specs.Counting.{CountedTo}
 use Rattle.blackdots.proofs.compressed.pass_eights.Given as goal
 
-abbrev pub invariant-loop-at : goal.invariant-loop-at
-invariant-loop-at l = Counting l.width l.bytes l.from l.at l.left l.black
+abbrev pub invariant-loop-eight : goal.invariant-loop-eight
+invariant-loop-eight l = CountedTo l.width l.runs l.rest l.left l.black
 
-abbrev pub decreases-loop-at : goal.decreases-loop-at
-decreases-loop-at l = length l.bytes - l.at
+abbrev pub decreases-loop-eight : goal.decreases-loop-eight
+decreases-loop-eight l = length l.rest

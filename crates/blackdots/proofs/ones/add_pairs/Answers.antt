@@ -1,5 +1,5 @@
+use Rattle.std.proofs.Common.{arith}
 use Rattle.blackdots.specs.Counting.{ones_of_two}
-use native.Mathlib.Omega.{arith}
 use Rattle.blackdots.proofs.ones.add_pairs.Goals as goal
 
 pub returns : goal.returns

@@ -1,5 +1,5 @@
+use Rattle.std.proofs.Common.{arith}
 use Rattle.blackdots.proofs.Adding.{three_ones}
-use native.Mathlib.Omega.{arith}
 use Rattle.blackdots.proofs.ones.add_three.Goals as goal
 
 pub returns : goal.returns

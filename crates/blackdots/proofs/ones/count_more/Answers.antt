@@ -1,10 +1,10 @@
+use Rattle.std.proofs.Common.{arith}
 use Rattle.blackdots.specs.Counting.{ones_of_two}
-use native.Mathlib.Omega.{arith}
+use lib.Count.{ones-le}
 use Rattle.blackdots.proofs.ones.count_more.Goals as goal
 
 pub returns : goal.returns
 unfolding ones_of_two
 returns c =
-    let s = c.counted-2.ensures in
-    let f = c.counted.ensures in
-    (omega (arith, f.0, s.0), omega (arith, f.0, f.1, s.0, s.1))
+    let x = c.args.x in
+    (omega (arith, c.from.ensures, c.from-2.ensures), omega (arith, ones-le 64 x.first (omega arith), ones-le 64 x.second (omega arith)))

@@ -1,5 +1,5 @@
+use Rattle.std.proofs.Common.{arith}
 use Rattle.blackdots.specs.Counting.{ones_said}
-use native.Mathlib.Omega.{arith}
 use Rattle.blackdots.proofs.ones.total.Goals as goal
 
 pub returns : goal.returns

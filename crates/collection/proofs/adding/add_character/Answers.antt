@@ -16,4 +16,4 @@ pub returns : goal.returns
 returns c =
     character_added _ _ c.args.k.now c.args.d.now _ _ _ _ _ _ _ c.code_place-at.ensures c.width-width.ensures
     (dots_are c.args.k.now c.args.d.now _ _ _ _ c.black_dots-dots.ensures c.class.ensures c.width-width.ensures c.height.ensures) c.delta_x-delta.ensures
-    (c.figure_at-f.ensures ∙ ap (λ (at : ℕ). figure_from c.args.b.now at) c.code_place-at.ensures) c.with_character.ensures c.put_figure.ensures
+    (c.figure_at-f.ensures ∙ ap (λ (at : ℕ). figure_from c.args.b.now at) c.code_place-at.ensures) (rw c.from.ensures at c.with_character.ensures) c.put_figure.ensures

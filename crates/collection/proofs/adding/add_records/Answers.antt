@@ -1,20 +1,16 @@
-use Rattle.collection.proofs.Passing.{going_next, going_ends, step_next, step_end}
-use native.Mathlib.Omega.{arith}
-use mathlib.Core.Path.{refl}
+use Rattle.std.proofs.Common.{subst}
+use Rattle.collection.specs.ByRecord.{Roomy}
+use Rattle.collection.proofs.Passing.{going_starts, going_next, going_ends}
 use Rattle.collection.proofs.adding.add_records.Goals as goal
 
-pub loop-next-init : goal.loop-next-init
-loop-next-init c = record { place = c.requires.0; long = c.requires.1; roomy = c.requires.2; same = refl }
+pub loop-record-init : goal.loop-record-init
+loop-record-init c = going_starts _ _ _ (rw c.into_iter-record-iterator.ensures.into_iter_gives c.starting_at-record-items.ensures.1) c.requires.2
 
 pub add_record-requires : goal.add_record-requires
-add_record-requires c = (c.loop-next.invariant.place, c.loop-next.invariant.long, c.loop-next.invariant.roomy)
+add_record-requires c = let g = c.in-Some.ensures.steps in (g.1, (_, subst (Roomy _) g.0 c.loop-record.invariant.roomy))
 
-pub loop-next-smaller : goal.loop-next-smaller
-loop-next-smaller c =
-    let m = (step_next _ _ _ _ _ _ c.add_record.ensures c.in-At.is).1 in omega (arith, m.ahead, m.within)
+pub loop-record-preserved : goal.loop-record-preserved
+loop-record-preserved c = going_next _ _ _ _ _ _ _ c.loop-record.invariant c.in-Some.ensures.steps.0 c.add_record.ensures
 
-pub loop-next-preserved : goal.loop-next-preserved
-loop-next-preserved c = going_next _ _ _ _ _ _ _ c.loop-next.invariant (step_next _ _ _ _ _ _ c.add_record.ensures c.in-At.is)
-
-pub returns-in-End : goal.returns-in-End
-returns-in-End c = going_ends _ _ _ _ _ _ c.loop-next.invariant (step_end _ _ _ _ _ c.add_record.ensures c.in-End.is)
+pub returns : goal.returns
+returns c = going_ends _ _ _ _ c.loop-record.invariant c.in-None.ensures.steps.0

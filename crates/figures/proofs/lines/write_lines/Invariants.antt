@@ -1,10 +1,5 @@
-use Rattle.std.proofs.Common.{◌+◌, ◌-◌}
-use Rattle.form.specs.Layout.{last_code}
 use Rattle.figures.proofs.Texts.{Going}
 use Rattle.figures.proofs.lines.write_lines.Given as goal
 
 abbrev pub invariant-loop-code : goal.invariant-loop-code
 invariant-loop-code l = Going l.figures l.initial.out l.at l.code l.to l.out
-
-abbrev pub decreases-loop-code : goal.decreases-loop-code
-decreases-loop-code l = last_code + 1 - l.code

@@ -8,9 +8,9 @@ loop-at-init c = passing _ _ _ _ c.requires
 pub key_at-requires : goal.key_at-requires
 key_at-requires c = (next _ _ _ _ c.loop-at.invariant c.loop-at-test.true).told.room
 
-pub returns-then-key-key_at : goal.returns-then-key-key_at
-returns-then-key-key_at c =
-    let x = c.loop-at.invariant in stopped _ _ _ _ x (next _ _ _ _ x c.loop-at-test.true) (omega (arith, c.if-key-key_at.true, c.key_at.ensures))
+pub returns-else-key_at-key : goal.returns-else-key_at-key
+returns-else-key_at-key c =
+    let x = c.loop-at.invariant in stopped _ _ _ _ x (next _ _ _ _ x c.loop-at-test.true) (omega (arith, c.if-key_at-key.false, c.key_at.ensures))
 
 pub le32-at-requires : goal.le32-at-requires
 le32-at-requires c = omega (arith, (next _ _ _ _ c.loop-at.invariant c.loop-at-test.true).told.room)
@@ -25,7 +25,7 @@ loop-at-smaller c =
 
 pub loop-at-preserved : goal.loop-at-preserved
 loop-at-preserved c =
-    let x = c.loop-at.invariant in rw c.le32-at.ensures (passed_one _ _ _ _ x (next _ _ _ _ x c.loop-at-test.true) (omega (arith, c.if-key-key_at.false, c.key_at.ensures)))
+    let x = c.loop-at.invariant in rw c.le32-at.ensures (passed_one _ _ _ _ x (next _ _ _ _ x c.loop-at-test.true) (omega (arith, c.if-key_at-key.true, c.key_at.ensures)))
 
-pub returns : goal.returns
-returns c = passed_all _ _ _ _ c.loop-at.invariant c.loop-at-test.false
+pub returns-after-loop-at : goal.returns-after-loop-at
+returns-after-loop-at c = passed_all _ _ _ _ c.loop-at.invariant c.loop-at-test.false

@@ -1,19 +1,16 @@
-use mathlib.Core.Path.{refl, sym, ◌∙◌}
+use mathlib.Core.Path.{sym, ◌∙◌}
 use native.Mathlib.Omega.{arith}
-use Rattle.form.proofs.Fields.{zero_here, more_here, zeros_part, zeros_none}
+use Rattle.form.proofs.Fields.{zeros_none, zeros_more, zeros_not}
 use Rattle.form.proofs.number.zeros.Goals as goal
 
-pub loop-i-init : goal.loop-i-init
-loop-i-init c = refl
+pub returns-then-s-at : goal.returns-then-s-at
+returns-then-s-at c = sym (zeros_none c.args.at c.args.s.now c.if-s-at.true)
 
-pub returns-then-i-eq0 : goal.returns-then-i-eq0
-returns-then-i-eq0 c = c.all_zeros.ensures ∙ zeros_part c.loop-i.i c.args.s.now ∙ c.loop-i.invariant
+pub split_at-requires : goal.split_at-requires
+split_at-requires c = omega (arith, c.min.ensures)
 
-pub returns-then-s-i-gt0 : goal.returns-then-s-i-gt0
-returns-then-s-i-gt0 c = sym (more_here c.loop-i.i c.args.s.now c.loop-i-test.true c.if-s-i-gt0.true) ∙ c.loop-i.invariant
+pub returns-then-all_zeros : goal.returns-then-all_zeros
+returns-then-all_zeros c = c.all_zeros-then-all_zeros.ensures ∙ zeros_more c.args.at c.min.result c.args.s.now _ _ c.split_at.ensures.front c.split_at.ensures.back (sym c.all_zeros.ensures ∙ c.if-all_zeros.true)
 
-pub loop-i-preserved : goal.loop-i-preserved
-loop-i-preserved c = zero_here c.loop-i.i c.args.s.now c.loop-i-test.true (omega arith) ∙ c.loop-i.invariant
-
-pub returns : goal.returns
-returns c = sym (zeros_none c.loop-i.i c.args.s.now c.loop-i-test.false) ∙ c.loop-i.invariant
+pub returns-else-all_zeros : goal.returns-else-all_zeros
+returns-else-all_zeros c = c.if-all_zeros.false ∙ zeros_not c.args.at c.min.result c.args.s.now _ _ c.split_at.ensures.front c.split_at.ensures.back (sym c.all_zeros.ensures ∙ c.if-all_zeros.false)

@@ -1,14 +1,13 @@
 use mathlib.Core.Path.{sym}
-use Rattle.pictures.proofs.Tests.{failed, passed}
-use Rattle.form.proofs.Walks.{pass_low, pass_untrue, pass_font, pass_character}
+use Rattle.form.proofs.Walks.{differ, pass_low, pass_untrue, pass_font, pass_character}
 use native.Mathlib.Omega.{arith}
 use Rattle.form.proofs.walk.pass.Goals as goal
 
 pub returns-then-key-p : goal.returns-then-key-p
 returns-then-key-p c = sym (pass_low _ _ _ _ c.if-key-p.true)
 
-pub returns-then-not-same_tally : goal.returns-then-not-same_tally
-returns-then-not-same_tally c = sym (pass_untrue _ _ _ _ c.if-key-p.false c.if-i-eq0.true (failed c.same_tally.ensures c.if-not-same_tally.true-raw))
+pub returns-then-ne : goal.returns-then-ne
+returns-then-ne c = sym (pass_untrue _ _ _ _ c.if-key-p.false c.if-i-eq0.true (rw c.if-ne.true at (differ c.args.p.held c.args.p.met _ c.ne.ensures)))
 
 pub overflow_add-result : goal.overflow_add-result
 overflow_add-result c =
@@ -23,7 +22,7 @@ overflow_add-result-then-i-eq0-2 c =
     let p = c.requires.font_le_last_font in omega (arith, p.0, p.1, p.2, p.3.at, p.3.characters, p.3.bytes)
 
 pub returns-then-i-eq0 : goal.returns-then-i-eq0
-returns-then-i-eq0 c = rw c.nearer_font.ensures (sym (pass_font _ _ _ _ c.if-key-p.false c.if-i-eq0.true (passed c.same_tally.ensures c.if-not-same_tally.false-raw)))
+returns-then-i-eq0 c = rw c.nearer_font.ensures (sym (pass_font _ _ _ _ c.if-key-p.false c.if-i-eq0.true (rw c.if-ne.false at (differ c.args.p.held c.args.p.met _ c.ne.ensures))))
 
 pub overflow_add-result-2 : goal.overflow_add-result-2
 overflow_add-result-2 c =

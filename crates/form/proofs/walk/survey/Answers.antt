@@ -1,8 +1,7 @@
 use mathlib.Core.Path.{◌≡◌, refl, sym, ap, ◌∙◌, subst}
+use Rattle.std.specs.declared.ops.ControlFlow.TheVariants.{Continue, Break}
 use lib.ListN.{length, drop}
-use Rattle.form.specs.Walk.{walked, walk_after, Ahead}
-use Rattle.form.specs.declared.walk.Step.{Step}
-use Rattle.form.specs.declared.walk.Step.TheVariants.{Go, Stop}
+use Rattle.form.specs.Walk.{Step, walked, walk_after, Ahead}
 use borrow.Author.Rules.{rules}
 use native.Mathlib.Omega.{arith}
 use Rattle.form.proofs.walk.survey.Goals as goal
@@ -13,18 +12,18 @@ loop-next-init c = (record { at = search rules; characters = search rules; bytes
 pub loop-next-smaller : goal.loop-next-smaller
 unfolding Ahead
 loop-next-smaller c =
-    let h : Ahead (length c.args.s.now) c.loop-next.p (Go c.in-Go.next) = subst (λ (r : Step). Ahead (length c.args.s.now) c.loop-next.p r) c.in-Go.is c.walk_one.ensures.1 in
+    let h : Ahead (length c.args.s.now) c.loop-next.p (Continue c.in-Continue.next) = subst (λ (r : Step). Ahead (length c.args.s.now) c.loop-next.p r) c.in-Continue.is c.walk_one.ensures.1 in
     omega (arith, h.0, h.1.at)
 
 pub loop-next-preserved : goal.loop-next-preserved
 unfolding Ahead walk_after
 loop-next-preserved c =
-    let h : Ahead (length c.args.s.now) c.loop-next.p (Go c.in-Go.next) = subst (λ (r : Step). Ahead (length c.args.s.now) c.loop-next.p r) c.in-Go.is c.walk_one.ensures.1 in
-    let o : walk_after c.args.font c.args.mark c.args.s.now (Go c.in-Go.next) ≡ walked c.args.font c.args.mark c.loop-next.p (drop c.loop-next.p.at c.args.s.now) = sym (ap (walk_after c.args.font c.args.mark c.args.s.now) c.in-Go.is) ∙ c.walk_one.ensures.0 in
+    let h : Ahead (length c.args.s.now) c.loop-next.p (Continue c.in-Continue.next) = subst (λ (r : Step). Ahead (length c.args.s.now) c.loop-next.p r) c.in-Continue.is c.walk_one.ensures.1 in
+    let o : walk_after c.args.font c.args.mark c.args.s.now (Continue c.in-Continue.next) ≡ walked c.args.font c.args.mark c.loop-next.p (drop c.loop-next.p.at c.args.s.now) = sym (ap (walk_after c.args.font c.args.mark c.args.s.now) c.in-Continue.is) ∙ c.walk_one.ensures.0 in
     (h.1, o ∙ c.loop-next.invariant.1)
 
-pub returns-in-Stop : goal.returns-in-Stop
+pub returns-in-Break : goal.returns-in-Break
 unfolding walk_after
-returns-in-Stop c =
-    let o : walk_after c.args.font c.args.mark c.args.s.now (Stop c.in-Stop.w) ≡ walked c.args.font c.args.mark c.loop-next.p (drop c.loop-next.p.at c.args.s.now) = sym (ap (walk_after c.args.font c.args.mark c.args.s.now) c.in-Stop.is) ∙ c.walk_one.ensures.0 in
+returns-in-Break c =
+    let o : walk_after c.args.font c.args.mark c.args.s.now (Break c.in-Break.w) ≡ walked c.args.font c.args.mark c.loop-next.p (drop c.loop-next.p.at c.args.s.now) = sym (ap (walk_after c.args.font c.args.mark c.args.s.now) c.in-Break.is) ∙ c.walk_one.ensures.0 in
     o ∙ c.loop-next.invariant.1

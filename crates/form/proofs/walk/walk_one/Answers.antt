@@ -6,7 +6,7 @@ use Rattle.form.specs.Num.{all_zero}
 use Rattle.form.specs.Model.{same_tally}
 use Rattle.form.specs.Walk.{head_of, standing, walk_after, Ahead}
 use Rattle.form.specs.declared.walk.Head.TheVariants.{Rec as HeadRec}
-use Rattle.form.proofs.Walks.{walked_end, walked_bad, walked_pass, ahead_pass, looked_item, within_more}
+use Rattle.form.proofs.Walks.{alike, walked_end, walked_bad, walked_pass, ahead_pass, looked_item, within_more}
 use native.Mathlib.Omega.{arith}
 use Rattle.form.proofs.walk.walk_one.Goals as goal
 
@@ -17,20 +17,20 @@ pass-requires c =
     let e : head_of (standing a.p) (drop a.p.at a.s.now) ≡ HeadRec i = sym c.look.ensures ∙ c.in-Rec.is in
     let k = looked_item (standing a.p) (drop a.p.at a.s.now) i e in record { font_le_last_font = (k.0, k.1, omega (arith, k.3, length-drop a.p.at a.s.now, c.requires.0), within_more _ most_store a.p c.requires.1 c.requires.0); character_record_le_len = λ f. k.2 }
 
-pub returns-then-same_tally-zeros : goal.returns-then-same_tally-zeros
+pub returns-then-eq-zeros : goal.returns-then-eq-zeros
 unfolding walk_after Ahead
-returns-then-same_tally-zeros c =
+returns-then-eq-zeros c =
     let a = c.args in
     let t = drop a.p.at a.s.now in
-    let z : (same_tally a.p.held a.p.met && all_zero t) ≡ true = ap₂ (λ (x y : Bool). x && y) (sym c.same_tally.ensures) (sym c.zeros.ensures) ∙ c.if-same_tally-zeros.true in
+    let z : (same_tally a.p.held a.p.met && all_zero t) ≡ true = ap₂ (λ (x y : Bool). x && y) (sym (alike a.p.held a.p.met _ c.eq.ensures)) (sym c.zeros.ensures) ∙ c.if-eq-zeros.true in
     (sym (walked_end a.font a.mark a.p t (sym c.look.ensures ∙ c.in-End.is) ∙ rw z), tt)
 
-pub returns-else-same_tally-zeros : goal.returns-else-same_tally-zeros
+pub returns-else-eq-zeros : goal.returns-else-eq-zeros
 unfolding walk_after Ahead
-returns-else-same_tally-zeros c =
+returns-else-eq-zeros c =
     let a = c.args in
     let t = drop a.p.at a.s.now in
-    let z : (same_tally a.p.held a.p.met && all_zero t) ≡ false = ap₂ (λ (x y : Bool). x && y) (sym c.same_tally.ensures) (sym c.zeros.ensures) ∙ c.if-same_tally-zeros.false in
+    let z : (same_tally a.p.held a.p.met && all_zero t) ≡ false = ap₂ (λ (x y : Bool). x && y) (sym (alike a.p.held a.p.met _ c.eq.ensures)) (sym c.zeros.ensures) ∙ c.if-eq-zeros.false in
     (sym (walked_end a.font a.mark a.p t (sym c.look.ensures ∙ c.in-End.is) ∙ rw z), tt)
 
 pub returns-in-Rec : goal.returns-in-Rec

@@ -6,4 +6,4 @@ pub returns-in_default-clause-wrote : goal.returns-in_default-clause-wrote
 returns-in_default-clause-wrote c = unbegun _ _ c.begin_records.ensures c.in_default.is _ _ (omega (arith, c.requires))
 
 pub returns-clause-wrote : goal.returns-clause-wrote
-returns-clause-wrote c = wrote_begun _ _ c.begin_records.ensures _ c.in-At.is _ _ _ _ c.write_from.ensures.wrote
+returns-clause-wrote c = wrote_begun _ _ c.begin_records.ensures _ c.in-Some.is _ _ _ _ c.write_from.ensures.wrote

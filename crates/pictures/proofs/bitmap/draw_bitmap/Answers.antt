@@ -6,8 +6,3 @@ pub returns-then-width-eq0 : goal.returns-then-width-eq0
 returns-then-width-eq0 c =
     let a = c.args in
     c.copy_padded.ensures ∙ rw c.requires.1 (picture_whole a.width a.bytes.now c.requires.0 (λ i. (c.shared_slice_known-1.given i).fits) a.height c.if-width-eq0.true)
-
-pub returns : goal.returns
-returns c =
-    let a = c.args in
-    c.clip_rows.ensures a.bytes.now (λ i. (c.shared_slice_known-1.given i).fits) (c.copy_padded.ensures ∙ rw c.requires.1)

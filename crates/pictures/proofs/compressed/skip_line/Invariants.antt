@@ -1,10 +1,6 @@
-use Rattle.std.proofs.Common.{◌≡◌, ◌-◌, ◌≤◌, Bool, false, List, [], length, drop}
-use Rattle.pictures.specs.Drawing.{read_line}
+use Rattle.std.proofs.Common.{◌≡◌, ◌+◌, Bool, List, length, drop}
+use Rattle.pictures.specs.Drawing.{read_line, line_from}
 use Rattle.pictures.proofs.compressed.skip_line.Given as goal
 
-abbrev pub invariant-loop-at : goal.invariant-loop-at
-invariant-loop-at l = (l.filled ≤ 65535)
-    × ((ds : List Bool) × (c : Bool) × (length ds ≡ l.filled) × (read_line l.width ds c l.at (drop l.at l.bytes) ≡ read_line l.width [] false l.from (drop l.from l.bytes)))
-
-abbrev pub decreases-loop-at : goal.decreases-loop-at
-decreases-loop-at l = length l.bytes - l.at
+abbrev pub invariant-loop-i : goal.invariant-loop-i
+invariant-loop-i l = (ds : List Bool) × (c : Bool) × (length ds + l.left ≡ l.width) × (read_line l.width ds c l.i (drop l.i l.runs) ≡ line_from l.width l.runs 0)

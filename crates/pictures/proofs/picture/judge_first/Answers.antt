@@ -1,11 +1,16 @@
-use Rattle.std.proofs.Common.{◌∙◌, eq-eqb, ne_eqb}
-use Rattle.pictures.specs.Picture.{judge}
+use Rattle.std.proofs.Common.{Ok, sym, ap, ◌∙◌, eq-eqb, ne_eqb}
+use Rattle.pictures.specs.Picture.{judge, judge_scan}
+use Rattle.pictures.proofs.Tests.{handed_on}
 use Rattle.pictures.proofs.picture.judge_first.Goals as goal
 
 pub returns-then-class-eq-BITMAP : goal.returns-then-class-eq-BITMAP
 unfolding judge
 returns-then-class-eq-BITMAP c = c.judge_bitmap.ensures ∙ rw (eq-eqb _ _ c.if-class-eq-BITMAP.true)
 
+pub returns-in_err-scan : goal.returns-in_err-scan
+unfolding judge
+returns-in_err-scan c = rw (ne_eqb _ _ c.if-class-eq-BITMAP.false) (handed_on _ _ c.from_residual.ensures.1 ∙ ap judge_scan (sym c.in_err-scan.was ∙ c.scan.ensures))
+
 pub returns : goal.returns
 unfolding judge
-returns c = c.judge_scan.ensures ∙ rw (ne_eqb _ _ c.if-class-eq-BITMAP.false, c.scan.ensures)
+returns c = ap Ok c.used.ensures ∙ rw (ne_eqb _ _ c.if-class-eq-BITMAP.false) (ap judge_scan (sym c.in_ok-scan.was ∙ c.scan.ensures))

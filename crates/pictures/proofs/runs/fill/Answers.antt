@@ -1,15 +1,13 @@
-use Rattle.std.proofs.Common.{le-ltb, lt-ltb, eq-eqb, ne_eqb}
-use Rattle.pictures.specs.Runs.{fill_row}
+use Rattle.std.proofs.Common.{sym, ap, ◌∙◌, arith}
+use Rattle.pictures.specs.declared.runs.Filled.TheVariants.{Part}
+use Rattle.pictures.proofs.Passing.{fill_part, fill_whole, fill_over}
 use Rattle.pictures.proofs.runs.fill.Goals as goal
 
-pub returns-then-width-end : goal.returns-then-width-end
-unfolding fill_row
-returns-then-width-end c = simp (lt-ltb _ _ c.if-width-end.true)
+pub returns-then-from-end : goal.returns-then-from-end
+returns-then-from-end c = sym (fill_over c.args.width c.args.filled c.args.run (omega arith))
 
-pub returns-then-end-width : goal.returns-then-end-width
-unfolding fill_row
-returns-then-end-width c = simp (le-ltb _ _ c.if-width-end.false, eq-eqb _ _ c.if-end-width.true)
+pub returns-then-end-from : goal.returns-then-end-from
+returns-then-end-from c = sym (fill_whole c.args.width c.args.filled c.args.run (omega arith))
 
 pub returns : goal.returns
-unfolding fill_row
-returns c = simp (le-ltb _ _ c.if-width-end.false, ne_eqb _ _ c.if-end-width.false)
+returns c = ap Part (omega arith) ∙ sym (fill_part c.args.width c.args.filled c.args.run (omega arith))

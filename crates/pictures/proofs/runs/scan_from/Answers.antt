@@ -1,3 +1,4 @@
+use Rattle.pictures.proofs.Tests.{handed_on}
 use Rattle.pictures.proofs.Scanning.{scan_end}
 use Rattle.pictures.proofs.Passing.{passed_done, passed_next, passed_past}
 use Rattle.std.proofs.Common.{sym, ◌∙◌, add-zero, arith, rules}
@@ -12,13 +13,13 @@ overflow_add-result c = omega (arith, c.requires, c.pass-p.ensures.bounded)
 pub returns-then-is_finished : goal.returns-then-is_finished
 returns-then-is_finished c = sym (passed_done _ _ _ _ _ _ c.pass-p.ensures _ (sym c.is_finished.ensures ∙ c.if-is_finished.true)) ∙ c.loop-i.invariant.1
 
-pub bounds-src-at : goal.bounds-src-at
-bounds-src-at c = c.pass-p.ensures.within (sym c.is_finished.ensures ∙ c.if-is_finished.false)
+pub bounds-src-p : goal.bounds-src-p
+bounds-src-p c = c.pass-p.ensures.within (sym c.is_finished.ensures ∙ c.if-is_finished.false)
 
-pub returns-in-Past : goal.returns-in-Past
-returns-in-Past c =
+pub returns-in_err-s : goal.returns-in_err-s
+returns-in_err-s c =
     let e = sym c.is_finished.ensures ∙ c.if-is_finished.false in
-    sym (passed_past _ _ _ _ _ _ c.pass-p.ensures _ e _ _ _ (sym c.step.ensures ∙ c.in-Past.is)) ∙ c.loop-i.invariant.1
+    handed_on _ _ c.from_residual.ensures.1 ∙ sym (passed_past _ _ _ _ _ _ c.pass-p.ensures _ e _ (sym c.step.ensures ∙ c.in_err-s.was)) ∙ c.loop-i.invariant.1
 
 pub overflow_add-i : goal.overflow_add-i
 overflow_add-i c = omega (arith, c.pass-p.ensures.bounded)
@@ -29,7 +30,7 @@ loop-i-smaller c = omega (arith, c.pass-p.ensures.ahead, c.loop-i-test.true)
 pub loop-i-preserved : goal.loop-i-preserved
 loop-i-preserved c =
     let e = sym c.is_finished.ensures ∙ c.if-is_finished.false in
-    (omega (arith, c.pass-p.ensures.within e), sym (passed_next _ _ _ _ _ _ c.pass-p.ensures _ e _ (sym c.step.ensures ∙ c.in-Next.is)) ∙ c.loop-i.invariant.1)
+    (omega (arith, c.pass-p.ensures.within e), sym (passed_next _ _ _ _ _ _ c.pass-p.ensures _ e _ (sym c.step.ensures ∙ c.in_ok-s.was)) ∙ c.loop-i.invariant.1)
 
 pub overflow_add-used : goal.overflow_add-used
 overflow_add-used c = omega (arith, c.requires, c.loop-i.invariant.0)

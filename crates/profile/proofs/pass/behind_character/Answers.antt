@@ -1,8 +1,6 @@
-use Rattle.profile.proofs.Characters.{noted_lower, noted_same}
+use Rattle.profile.proofs.Characters.{noted_is}
+use Rattle.profile.specs.Pass.{found_numbers}
 use Rattle.profile.proofs.pass.behind_character.Goals as goal
 
-pub returns-then-rule-p : goal.returns-then-rule-p
-returns-then-rule-p c = noted_lower _ _ _ _ _ _ _ c.next_wanted-wanted.ensures c.broken_by-rule.ensures c.if-rule-p.true
-
 pub returns : goal.returns
-returns c = noted_same _ _ _ _ _ _ _ c.next_wanted-wanted.ensures c.broken_by-rule.ensures c.if-rule-p.false
+returns c = noted_is _ (found_numbers c.args.p) _ _ _ _ _ c.next_wanted.ensures c.broken_by.ensures _ c.first_broken_of.ensures

@@ -1,9 +1,7 @@
-use Prim.Native.Nat.{◌-◌}
-use Rattle.profile.proofs.Characters.{Passing}
+use Rattle.std.specs.Prelude.{◌≡◌}
+use Rattle.form.specs.RecordsLeft.{records_left}
+use Rattle.profile.specs.Pass.{found_numbers, passed_over, nothing_found}
 use Rattle.profile.proofs.pass.pass_records.Given as goal
 
-abbrev pub invariant-loop-at : goal.invariant-loop-at
-invariant-loop-at l = Passing l.s l.h l.lo l.hi l.at l.p
-
-abbrev pub decreases-loop-at : goal.decreases-loop-at
-decreases-loop-at l = l.hi - l.at
+abbrev pub invariant-loop-record : goal.invariant-loop-record
+invariant-loop-record l = passed_over (records_left l.record-iterator) l.h (found_numbers l.p) ≡ passed_over (records_left l.fn.records) l.h nothing_found

@@ -5,7 +5,4 @@ use Rattle.salvage.specs.Places.{none_start}
 use Rattle.salvage.proofs.search.none_start.Given as goal
 
 abbrev pub invariant-loop-i : goal.invariant-loop-i
-invariant-loop-i l = (3 ≤ l.i) × (l.i - 3 ≤ length l.s - 3) × (l.none ≡ none_start (l.i - 3) l.s)
-
-abbrev pub decreases-loop-i : goal.decreases-loop-i
-decreases-loop-i l = length l.s - l.i
+invariant-loop-i l = (l.i - 3 ≤ length l.s - 3) × (l.none ≡ none_start (l.i - 3) l.s)

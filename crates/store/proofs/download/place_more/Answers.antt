@@ -7,12 +7,12 @@ use Rattle.blocks.specs.Character.{continuation_bytes}
 use Rattle.pictures.specs.Size.{data_limit}
 use Rattle.form.specs.Layout.{character_record}
 use Rattle.form.specs.Num.{Bytes, low_first}
-use Rattle.form.specs.Model.{character_bytes, shut}
+use Rattle.form.specs.Model.{Mark, character_bytes}
 use Rattle.change.specs.Put.{with_bytes}
 use Rattle.change.specs.Change.{spliced_at, Recounting, recounted, remarked}
 use Rattle.form.specs.Walk.{Growing, kept_at, data_at}
 use Rattle.store.specs.Download.{mark_for}
-use Rattle.store.proofs.Downloads.{Space, growing, grow_span, grow_small, grow_put, place_full, place_ready, place_done}
+use Rattle.store.proofs.Downloads.{mark_given, Space, growing, grow_span, grow_small, grow_put, place_full, place_ready, place_done}
 use Rattle.store.proofs.FontCalls.{answered_block}
 use native.Mathlib.Omega.{arith}
 use Rattle.form.specs.declared.walk.Places.{Places}
@@ -65,8 +65,8 @@ pub overflow_add-used : goal.overflow_add-used
 overflow_add-used c =
     let a = c.args in
     let b : Bytes a.s.now = λ i. (c.slice_known-1.given i).fits in
-    let r = (at_start a.s.now a.block.now a.p a.font a.code a.n b c.requires.n_in_bounds).ready in
-    let z = sizes a.s.now a.block.now a.p a.font a.code a.n b c.requires.n_in_bounds in
+    let r = (at_start a.s.now a.block.now a.p a.id.font a.id.code a.n b c.requires.n_in_bounds).ready in
+    let z = sizes a.s.now a.block.now a.p a.id.font a.id.code a.n b c.requires.n_in_bounds in
     omega (arith, r.room, z.small)
 
 pub cut_font-requires : goal.cut_font-requires
@@ -78,15 +78,15 @@ pub returns-then-s-used : goal.returns-then-s-used
 returns-then-s-used c =
     let a = c.args in
     let b : Bytes a.s.now = λ i. (c.slice_known-1.given i).fits in
-    let x = at_start a.s.now a.block.now a.p a.font a.code a.n b c.requires.n_in_bounds in
-    let z = sizes a.s.now a.block.now a.p a.font a.code a.n b c.requires.n_in_bounds in
+    let x = at_start a.s.now a.block.now a.p a.id.font a.id.code a.n b c.requires.n_in_bounds in
+    let z = sizes a.s.now a.block.now a.p a.id.font a.id.code a.n b c.requires.n_in_bounds in
     let e = answered_block (place_full _ _ _ _ _ _ x (omega (arith, c.if-s-used.true, z.old, z.more, x.ready.last))) in
     record { value = c.without_run.ensures ∙ e.0; s_after = c.cut_font.ensures ∙ e.1 }
 
 pub overflow_add-old : goal.overflow_add-old
 overflow_add-old c =
     let a = c.args in
-    let z = sizes a.s.now a.block.now a.p a.font a.code a.n (λ i. (c.slice_known-1.given i).fits) c.requires.n_in_bounds in
+    let z = sizes a.s.now a.block.now a.p a.id.font a.id.code a.n (λ i. (c.slice_known-1.given i).fits) c.requires.n_in_bounds in
     omega (arith, z.old, z.small)
 
 pub splice-requires : goal.splice-requires
@@ -98,14 +98,14 @@ pub extend_character-requires : goal.extend_character-requires
 extend_character-requires c =
     let a = c.args in
     let b : Bytes a.s.now = λ i. (c.slice_known-1.given i).fits in
-    let r = (at_start a.s.now a.block.now a.p a.font a.code a.n b c.requires.n_in_bounds).ready in
-    let z = sizes a.s.now a.block.now a.p a.font a.code a.n b c.requires.n_in_bounds in
-    (omega (arith, r.one, r.last, r.room, c.if-s-used.false, c.splice.auto.s), omega (arith, z.old), omega (arith, z.old, z.small), c.requires.n_in_bounds.0)
+    let r = (at_start a.s.now a.block.now a.p a.id.font a.id.code a.n b c.requires.n_in_bounds).ready in
+    let z = sizes a.s.now a.block.now a.p a.id.font a.id.code a.n b c.requires.n_in_bounds in
+    (omega (arith, r.one, r.last, r.room, c.if-s-used.false, c.splice.auto.s), omega (arith, z.old), c.requires.n_in_bounds.0)
 
 pub overflow_add-old-2 : goal.overflow_add-old-2
 overflow_add-old-2 c =
     let a = c.args in
-    let z = sizes a.s.now a.block.now a.p a.font a.code a.n (λ i. (c.slice_known-1.given i).fits) c.requires.n_in_bounds in
+    let z = sizes a.s.now a.block.now a.p a.id.font a.id.code a.n (λ i. (c.slice_known-1.given i).fits) c.requires.n_in_bounds in
     omega (arith, z.old, z.small)
 
 pub recount-requires : goal.recount-requires
@@ -113,11 +113,11 @@ recount-requires c =
     let a = c.args in
     let b : Bytes a.s.now = λ i. (c.slice_known-1.given i).fits in
     let g = c.requires.n_in_bounds in
-    let x = at_start a.s.now a.block.now a.p a.font a.code a.n b g in
-    let z = sizes a.s.now a.block.now a.p a.font a.code a.n b g in
+    let x = at_start a.s.now a.block.now a.p a.id.font a.id.code a.n b g in
+    let z = sizes a.s.now a.block.now a.p a.id.font a.id.code a.n b g in
     let old = a.p.to - a.p.from in
     let m : character_record + length (data_at a.s.now a.p ++ added a.n a.block.now) ≡ old + a.n = omega (arith, z.old, z.more) in
-    let put = put_there a.s.now a.block.now _ _ a.p a.font a.code a.n b g c.if-s-used.false c.splice.ensures c.extend_character.ensures in
+    let put = put_there a.s.now a.block.now _ _ a.p a.id.font a.id.code a.n b g c.if-s-used.false c.splice.ensures c.extend_character.ensures in
     subst (λ (y : ℕ). Recounting c.extend_character.new.s a.p.lo old y) m
     (rw put (place_ready _ _ _ _ _ _ x (omega (arith, c.if-s-used.false, z.old, z.more, x.ready.last))))
 
@@ -125,28 +125,27 @@ pub mark_character-requires : goal.mark_character-requires
 mark_character-requires c =
     let x = at_start _ _ _ _ _ _ (λ i. (c.slice_known-1.given i).fits) c.requires.n_in_bounds in
     let r = x.ready in
-    (omega (arith, r.least, r.span, r.end, r.room, c.splice.auto.s, c.extend_character.auto.s, c.recount.auto.s), omega (arith, x.low), omega (arith, x.code))
+    omega (arith, r.least, r.span, r.end, r.room, c.splice.auto.s, c.extend_character.auto.s, c.recount.auto.s)
 
 pub returns : goal.returns
-unfolding mark_for
 returns c =
     let a = c.args in
     let b : Bytes a.s.now = λ i. (c.slice_known-1.given i).fits in
     let g = c.requires.n_in_bounds in
-    let x = at_start a.s.now a.block.now a.p a.font a.code a.n b g in
-    let z = sizes a.s.now a.block.now a.p a.font a.code a.n b g in
+    let x = at_start a.s.now a.block.now a.p a.id.font a.id.code a.n b g in
+    let z = sizes a.s.now a.block.now a.p a.id.font a.id.code a.n b g in
     let s = a.s.now in
     let t = added a.n a.block.now in
     let old = a.p.to - a.p.from in
     let m : character_record + length (data_at s a.p ++ t) ≡ old + a.n = omega (arith, z.old, z.more) in
-    let put = put_there s a.block.now _ _ a.p a.font a.code a.n b g c.if-s-used.false c.splice.ensures c.extend_character.ensures in
+    let put = put_there s a.block.now _ _ a.p a.id.font a.id.code a.n b g c.if-s-used.false c.splice.ensures c.extend_character.ensures in
     let e = answered_block (place_done _ _ _ _ _ _ x (omega (arith, c.if-s-used.false, z.old, z.more, x.ready.last))) in
     record {
       value = c.without_run-2.ensures ∙ e.0;
       s_after =
           c.mark_character.ensures
-          ∙ ap (λ (y : Bool). remarked (cond y (record { on = 1; font_of = a.font; code_of = a.code }) shut) c.recount.new.s) c.requires.marked_value
-          ∙ ap (remarked (mark_for a.font a.code (kept_at s a.p) (data_at s a.p ++ t)))
+          ∙ ap (λ (m : Mark). remarked m c.recount.new.s) (mark_given a.id (kept_at s a.p) (data_at s a.p ++ t) a.marked c.then_some.result c.then_some.ensures c.requires.marked_value)
+          ∙ ap (remarked (mark_for a.id.font a.id.code (kept_at s a.p) (data_at s a.p ++ t)))
           (c.recount.ensures ∙ ap (λ (y : ℕ). recounted a.p.lo old y c.extend_character.new.s) (sym m) ∙ ap (recounted a.p.lo old (character_record + length (data_at s a.p ++ t))) put)
           ∙ e.1;
     }

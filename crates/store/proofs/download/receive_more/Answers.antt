@@ -13,27 +13,27 @@ use Rattle.store.proofs.download.receive_more.Goals as goal
 
 pub overflow_add-p : goal.overflow_add-p
 overflow_add-p c =
-    let at_start : Host c.args.font c.args.code c.args.s.now c.args.p = host _ _ _ _ (λ i. (c.slice_known-1.given i).fits) c.requires.n_in_bounds.1 in
-    let at_open : Opened c.args.font c.args.code c.args.s.now c.args.p (at_start) = opened_there _ _ _ _ (at_start) c.requires.n_in_bounds.2 in
+    let at_start : Host c.args.id.font c.args.id.code c.args.s.now c.args.p = host _ _ _ _ (λ i. (c.slice_known-1.given i).fits) c.requires.n_in_bounds.1 in
+    let at_open : Opened c.args.id.font c.args.id.code c.args.s.now c.args.p (at_start) = opened_there _ _ _ _ (at_start) c.requires.n_in_bounds.2 in
     let x = at_start in let o = (at_open).span in omega (arith, o, x.ready.last, x.ready.room)
 
 pub overflow_sub-p : goal.overflow_sub-p
 overflow_sub-p c =
-    let at_start : Host c.args.font c.args.code c.args.s.now c.args.p = host _ _ _ _ (λ i. (c.slice_known-1.given i).fits) c.requires.n_in_bounds.1 in
-    let at_open : Opened c.args.font c.args.code c.args.s.now c.args.p (at_start) = opened_there _ _ _ _ (at_start) c.requires.n_in_bounds.2 in
+    let at_start : Host c.args.id.font c.args.id.code c.args.s.now c.args.p = host _ _ _ _ (λ i. (c.slice_known-1.given i).fits) c.requires.n_in_bounds.1 in
+    let at_open : Opened c.args.id.font c.args.id.code c.args.s.now c.args.p (at_start) = opened_there _ _ _ _ (at_start) c.requires.n_in_bounds.2 in
     let o = (at_open).span in omega (arith, o)
 
 pub overflow_add-p-2 : goal.overflow_add-p-2
 overflow_add-p-2 c =
-    let at_start : Host c.args.font c.args.code c.args.s.now c.args.p = host _ _ _ _ (λ i. (c.slice_known-1.given i).fits) c.requires.n_in_bounds.1 in
+    let at_start : Host c.args.id.font c.args.id.code c.args.s.now c.args.p = host _ _ _ _ (λ i. (c.slice_known-1.given i).fits) c.requires.n_in_bounds.1 in
     let x = at_start in omega (arith, x.ready.last, x.ready.room, c.requires.n_in_bounds.0)
 
 -- what the code tests
 pub returns-then-p-n-gt-DATA_LIMIT : goal.returns-then-p-n-gt-DATA_LIMIT
 returns-then-p-n-gt-DATA_LIMIT c =
-    let at_start : Host c.args.font c.args.code c.args.s.now c.args.p = host _ _ _ _ (λ i. (c.slice_known-1.given i).fits) c.requires.n_in_bounds.1 in
+    let at_start : Host c.args.id.font c.args.id.code c.args.s.now c.args.p = host _ _ _ _ (λ i. (c.slice_known-1.given i).fits) c.requires.n_in_bounds.1 in
     let data_length : length (take c.args.n (drop continuation_bytes c.args.block.now)) ≡ c.args.n = simp (length-take, length-drop) (omega (arith, c.requires.n_in_bounds.0)) in
-    let at_open : Opened c.args.font c.args.code c.args.s.now c.args.p (at_start) = opened_there _ _ _ _ (at_start) c.requires.n_in_bounds.2 in
+    let at_open : Opened c.args.id.font c.args.id.code c.args.s.now c.args.p (at_start) = opened_there _ _ _ _ (at_start) c.requires.n_in_bounds.2 in
     let sum : c.args.p.to - (c.args.p.from + character_record) + c.args.n ≡ length (data_at c.args.s.now c.args.p) + length (take c.args.n (drop continuation_bytes c.args.block.now)) = let l = data_length in let o = (at_open).span in omega (arith, l, o) in
     let x = at_start in
     let q = sum in
@@ -43,9 +43,9 @@ returns-then-p-n-gt-DATA_LIMIT c =
 -- what the code tests
 pub place_more-requires : goal.place_more-requires
 place_more-requires c =
-    let at_start : Host c.args.font c.args.code c.args.s.now c.args.p = host _ _ _ _ (λ i. (c.slice_known-1.given i).fits) c.requires.n_in_bounds.1 in
+    let at_start : Host c.args.id.font c.args.id.code c.args.s.now c.args.p = host _ _ _ _ (λ i. (c.slice_known-1.given i).fits) c.requires.n_in_bounds.1 in
     let data_length : length (take c.args.n (drop continuation_bytes c.args.block.now)) ≡ c.args.n = simp (length-take, length-drop) (omega (arith, c.requires.n_in_bounds.0)) in
-    let at_open : Opened c.args.font c.args.code c.args.s.now c.args.p (at_start) = opened_there _ _ _ _ (at_start) c.requires.n_in_bounds.2 in
+    let at_open : Opened c.args.id.font c.args.id.code c.args.s.now c.args.p (at_start) = opened_there _ _ _ _ (at_start) c.requires.n_in_bounds.2 in
     let sum : c.args.p.to - (c.args.p.from + character_record) + c.args.n ≡ length (data_at c.args.s.now c.args.p) + length (take c.args.n (drop continuation_bytes c.args.block.now)) = let l = data_length in let o = (at_open).span in omega (arith, l, o) in
     let x = at_start in
     let q = sum in
@@ -55,9 +55,9 @@ place_more-requires c =
 -- what the code tests
 pub returns : goal.returns
 returns c =
-    let at_start : Host c.args.font c.args.code c.args.s.now c.args.p = host _ _ _ _ (λ i. (c.slice_known-1.given i).fits) c.requires.n_in_bounds.1 in
+    let at_start : Host c.args.id.font c.args.id.code c.args.s.now c.args.p = host _ _ _ _ (λ i. (c.slice_known-1.given i).fits) c.requires.n_in_bounds.1 in
     let data_length : length (take c.args.n (drop continuation_bytes c.args.block.now)) ≡ c.args.n = simp (length-take, length-drop) (omega (arith, c.requires.n_in_bounds.0)) in
-    let at_open : Opened c.args.font c.args.code c.args.s.now c.args.p (at_start) = opened_there _ _ _ _ (at_start) c.requires.n_in_bounds.2 in
+    let at_open : Opened c.args.id.font c.args.id.code c.args.s.now c.args.p (at_start) = opened_there _ _ _ _ (at_start) c.requires.n_in_bounds.2 in
     let sum : c.args.p.to - (c.args.p.from + character_record) + c.args.n ≡ length (data_at c.args.s.now c.args.p) + length (take c.args.n (drop continuation_bytes c.args.block.now)) = let l = data_length in let o = (at_open).span in omega (arith, l, o) in
     let x = at_start in
     let q = sum in

@@ -15,4 +15,4 @@ returns-then-n-gt-MOST_STORE c = record { value = (answered (fresh_long _ c.if-n
 
 pub returns : goal.returns
 returns c =
-    let e = answered (fresh_done c.args.s.now c.if-n-lt-LEAST_STORE.false c.if-n-gt-MOST_STORE.false) in record { value = e.0; s_after = c.put16-2.ensures ∙ ap (λ (l : List ℕ). with_bytes l kind_at (low_first 2 mark_kind)) (c.put16.ensures ∙ ap (λ (l : List ℕ). with_bytes l 0 (low_first 2 mark_record)) c.clear.ensures) ∙ fresh_bytes c.args.s.now c.if-n-lt-LEAST_STORE.false ∙ e.1 }
+    let e = answered (fresh_done c.args.s.now c.if-n-lt-LEAST_STORE.false c.if-n-gt-MOST_STORE.false) in record { value = e.0; s_after = c.put-2.ensures ∙ ap (λ (l : List ℕ). with_bytes l kind_at (low_first 2 mark_kind)) (c.put.ensures ∙ ap (λ (l : List ℕ). with_bytes l 0 (low_first 2 mark_record)) c.clear.ensures) ∙ fresh_bytes c.args.s.now c.if-n-lt-LEAST_STORE.false ∙ e.1 }

@@ -46,7 +46,7 @@ pub write_font-requires : goal.write_font-requires
 write_font-requires c =
     let at_start : Ready c.args.font 0 c.args.s.now c.args.p = standing _ 0 _ (λ i. (c.slice_known-1.given i).fits) c.args.p c.requires.2 in
     let r = at_start in
-    (omega (arith, r.span, r.end, r.room, c.splice.auto.s), omega (arith, c.requires.0), header_long _ c.requires.1)
+    (omega (arith, r.span, r.end, r.room, c.splice.auto.s), header_long _ c.requires.1)
 
 -- what the places say
 pub unmark_font-requires : goal.unmark_font-requires

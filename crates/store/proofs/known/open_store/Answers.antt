@@ -4,10 +4,10 @@ use Rattle.store.specs.Known.{Opening}
 use mathlib.Core.Path.{sym, ◌∙◌}
 use Rattle.store.proofs.known.open_store.Goals as goal
 
-pub returns-in-Found : goal.returns-in-Found
+pub returns-in_err-p : goal.returns-in_err-p
 unfolding Opening
-returns-in-Found c = opened_points _ _ (sym c.inspect.ensures ∙ c.in-Found.is)
+returns-in_err-p c = rw c.from_residual.ensures (not_store_lem 0 0 _ (sym c.inspect.ensures ∙ c.in_err-p.was))
 
-pub returns-in-NotStore : goal.returns-in-NotStore
+pub returns : goal.returns
 unfolding Opening
-returns-in-NotStore c = not_store_lem 0 0 _ (sym c.inspect.ensures ∙ c.in-NotStore.is)
+returns c = opened_points _ _ (sym c.inspect.ensures ∙ c.in_ok-p.was)

@@ -1,24 +1,34 @@
 use mathlib.Core.Path.{◌∙◌}
-use borrow.Author.Tests.{eq-eqb, ne_eqb}
-use Rattle.stream.specs.Command.{command}
+use native.Mathlib.Omega.{arith}
+use Rattle.stream.proofs.Commands.{front_end, front_short, front_none, front_number, front_font, front_character}
 use Rattle.stream.proofs.command.read_front.Goals as goal
 
-pub returns-then-s-eq0 : goal.returns-then-s-eq0
-unfolding command
-returns-then-s-eq0 c = rw (eq-eqb _ _ c.if-s-eq0.true)
+pub returns-in-empty : goal.returns-in-empty
+returns-in-empty c = front_end c.args.s.now (omega arith)
 
-pub returns-then-begins : goal.returns-then-begins
-unfolding command
-returns-then-begins c = c.read_numbered.ensures ∙ rw (ne_eqb _ _ c.if-s-eq0.false, ← c.begins.ensures, c.if-begins.true)
+pub returns-in-27 : goal.returns-in-27
+returns-in-27 c = c.read_numbered.ensures ∙ front_number c.args.s.now (omega arith) (omega arith) (omega arith) (omega arith)
 
-pub returns-then-begins-2 : goal.returns-then-begins-2
-unfolding command
-returns-then-begins-2 c = c.read_block.ensures ∙ rw (ne_eqb _ _ c.if-s-eq0.false, ← c.begins.ensures, c.if-begins.false, ← c.begins-2.ensures, c.if-begins-2.true)
+pub returns-in-27-2 : goal.returns-in-27-2
+returns-in-27-2 c = c.read_block.ensures ∙ front_font c.args.s.now (omega arith) (omega arith) (omega arith) (omega arith)
 
-pub returns-then-begins-3 : goal.returns-then-begins-3
-unfolding command
-returns-then-begins-3 c = c.read_block-then-begins-3.ensures ∙ rw (ne_eqb _ _ c.if-s-eq0.false, ← c.begins.ensures, c.if-begins.false, ← c.begins-2.ensures, c.if-begins-2.false, ← c.begins-3.ensures, c.if-begins-3.true)
+pub returns-in-27-3 : goal.returns-in-27-3
+returns-in-27-3 c = c.read_block-in-27-3.ensures ∙ front_character c.args.s.now (omega arith) (omega arith) (omega arith) (omega arith)
 
-pub returns : goal.returns
-unfolding command
-returns c = rw (ne_eqb _ _ c.if-s-eq0.false, ← c.begins.ensures, c.if-begins.false, ← c.begins-2.ensures, c.if-begins-2.false, ← c.begins-3.ensures, c.if-begins-3.false)
+pub returns-in_default : goal.returns-in_default
+returns-in_default c = front_short c.args.s.now (omega arith) (omega arith)
+
+pub returns-in_default-2 : goal.returns-in_default-2
+returns-in_default-2 c = front_none c.args.s.now (omega arith) (λ p q r. omega arith) (λ p q r. omega arith) (λ p q r. omega arith)
+
+pub returns-in_default-3 : goal.returns-in_default-3
+returns-in_default-3 c = front_none c.args.s.now (omega arith) (λ p q r. omega arith) (λ p q r. omega arith) (λ p q r. omega arith)
+
+pub returns-in_default-4 : goal.returns-in_default-4
+returns-in_default-4 c = front_none c.args.s.now (omega arith) (λ p q r. omega arith) (λ p q r. omega arith) (λ p q r. omega arith)
+
+pub returns-in_default-5 : goal.returns-in_default-5
+returns-in_default-5 c = front_none c.args.s.now (omega arith) (λ p q r. omega arith) (λ p q r. omega arith) (λ p q r. omega arith)
+
+pub returns-in_default-6 : goal.returns-in_default-6
+returns-in_default-6 c = front_none c.args.s.now (omega arith) (λ p q r. omega arith) (λ p q r. omega arith) (λ p q r. omega arith)

@@ -1,31 +1,15 @@
-use mathlib.Core.Path.{refl}
-use Rattle.form.proofs.FontRecords.{between_some}
+use Rattle.std.proofs.Common.{arith}
 use Rattle.stream.proofs.Writes.{fill_room, fill_next, filled}
-use native.Mathlib.Omega.{arith}
 use Rattle.stream.proofs.write.write_records.Goals as goal
 
-pub loop-at-init : goal.loop-at-init
-loop-at-init c = (λ rs q. (rs, q, omega (arith, c.requires.1 rs q), refl), refl)
+pub write_record-to-requires : goal.write_record-to-requires
+write_record-to-requires c =
+    let g = c.in-Some.ensures.steps in (g.1, fill_room _ _ _ _ _ _ _ _ _ c.requires.0.0 c.requires.0.1 c.loop-record.invariant.0 g.0)
 
-pub write_record-p-requires : goal.write_record-p-requires
-write_record-p-requires c =
-    let p = c.requires in
-    let t = c.loop-at.invariant.0 p.0.0 p.0.1 in
-    let l = c.loop-at-test.true in
-    (t.1.place, between_some _ _ _ _ t.1 l, fill_room _ _ _ _ _ _ t.1 l t.2)
-
-pub loop-at-smaller : goal.loop-at-smaller
-loop-at-smaller c = omega (arith, c.write_record-p.ensures.1.ahead, c.loop-at-test.true)
-
-pub loop-at-preserved : goal.loop-at-preserved
-loop-at-preserved c =
-    let r = c.write_record-p.ensures in (
-      fill_next _ _ _ _ _ _ _ _ _ _ _ c.loop-at.invariant.0 c.loop-at-test.true r.1 r.2 r.3,
-      omega (arith, c.write_record-p.auto.out, c.loop-at.invariant.1),
-    )
-
-pub shape_of-out : goal.shape_of-out
-shape_of-out c = c.loop-at.invariant.1
+pub loop-record-preserved : goal.loop-record-preserved
+loop-record-preserved c =
+    let e = c.write_record-to.ensures in
+    (fill_next _ _ _ _ _ _ _ _ _ _ _ c.loop-record.invariant.0 c.in-Some.ensures.steps.0 e.0 e.1, omega (arith, c.write_record-to.auto.out, c.loop-record.invariant.1))
 
 pub returns : goal.returns
-returns c = filled _ _ _ _ _ _ _ c.loop-at.invariant.0 c.loop-at-test.false
+returns c = filled _ _ _ _ _ _ _ c.loop-record.invariant.0 c.in-None.ensures.steps.0

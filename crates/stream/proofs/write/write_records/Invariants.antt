@@ -1,11 +1,7 @@
-use mathlib.Core.Path.{◌≡◌}
-use Prim.Native.Nat.{◌-◌}
-use lib.ListN.{length}
+use Rattle.std.specs.Prelude.{◌≡◌, length}
+use Rattle.form.specs.RecordsLeft.{records_left}
 use Rattle.stream.proofs.Writes.{Filled}
 use Rattle.stream.proofs.write.write_records.Given as goal
 
-abbrev pub invariant-loop-at : goal.invariant-loop-at
-invariant-loop-at l = Filled l.s l.lo l.hi l.initial.out l.at l.out l.to × (length l.out ≡ length l.initial.out)
-
-abbrev pub decreases-loop-at : goal.decreases-loop-at
-decreases-loop-at l = l.hi - l.at
+abbrev pub invariant-loop-record : goal.invariant-loop-record
+invariant-loop-record l = Filled l.s l.lo l.hi l.initial.out (records_left l.record-iterator) l.out l.to × (length l.out ≡ length l.initial.out)

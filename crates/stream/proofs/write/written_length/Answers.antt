@@ -1,33 +1,19 @@
-use native.Mathlib.Nat.{zero-add}
-use Rattle.form.proofs.FontRecords.{between_some}
-use Rattle.stream.proofs.Writes.{count_next, counted}
-use native.Mathlib.Omega.{arith}
+use Rattle.std.proofs.Common.{arith}
+use Rattle.stream.proofs.Writes.{next_small, count_next, counted}
 use Rattle.stream.proofs.write.written_length.Goals as goal
 
-pub loop-at-init : goal.loop-at-init
-loop-at-init c = (λ rs q. (rs, q, zero-add _), omega arith)
-
-pub measure_record-m-requires : goal.measure_record-m-requires
-measure_record-m-requires c =
-    let p = c.requires in
-    let t = c.loop-at.invariant.0 p.0 p.1 in
-    (t.1.place, between_some _ _ _ _ t.1 c.loop-at-test.true, t.1.small)
+pub record_length-n-requires : goal.record_length-n-requires
+record_length-n-requires c =
+    let g = c.in-Some.ensures.steps in (g.1, (next_small _ _ _ _ _ _ _ c.requires.0 c.requires.1 c.loop-record.invariant g.0).0)
 
 pub overflow_add-n : goal.overflow_add-n
 overflow_add-n c =
-    let r = c.measure_record-m.ensures in
-    omega (arith, c.loop-at.invariant.1, r.3, r.1.size, r.1.within, c.requires.1.small)
+    let g = c.in-Some.ensures.steps in
+    let w = (next_small _ _ _ _ _ _ _ c.requires.0 c.requires.1 c.loop-record.invariant g.0).1 in omega (arith, w, c.record_length-n.ensures.1)
 
-pub loop-at-smaller : goal.loop-at-smaller
-loop-at-smaller c = omega (arith, c.measure_record-m.ensures.1.ahead, c.loop-at-test.true)
-
-pub loop-at-preserved : goal.loop-at-preserved
-loop-at-preserved c =
-    let r = c.measure_record-m.ensures in
-    (count_next _ _ _ _ _ _ _ _ c.loop-at.invariant.0 c.loop-at-test.true r.1 r.2, omega (arith, c.loop-at.invariant.1, r.3, r.1.size))
+pub loop-record-preserved : goal.loop-record-preserved
+loop-record-preserved c = count_next _ _ _ _ _ _ _ _ c.loop-record.invariant c.in-Some.ensures.steps.0 c.record_length-n.ensures.0 c.record_length-n.ensures.1
 
 pub returns : goal.returns
 returns c =
-    let p = c.requires in
-    let t = c.loop-at.invariant.0 p.0 p.1 in
-    (counted _ _ _ _ _ c.loop-at.invariant.0 c.loop-at-test.false, omega (arith, c.loop-at.invariant.1, t.1.sum, t.1.within, t.1.small))
+    let i = c.loop-record.invariant in (counted _ _ _ _ _ i c.in-None.ensures.steps.0, omega (arith, (i c.requires.0 c.requires.1).1))

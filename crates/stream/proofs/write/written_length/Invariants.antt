@@ -1,9 +1,6 @@
-use Prim.Native.Nat.{◌*◌, ◌-◌, ◌≤◌}
+use Rattle.form.specs.RecordsLeft.{records_left}
 use Rattle.stream.proofs.Writes.{Counted}
 use Rattle.stream.proofs.write.written_length.Given as goal
 
-abbrev pub invariant-loop-at : goal.invariant-loop-at
-invariant-loop-at l = Counted l.s l.lo l.hi l.at l.n × (l.n ≤ 2 * l.at)
-
-abbrev pub decreases-loop-at : goal.decreases-loop-at
-decreases-loop-at l = l.hi - l.at
+abbrev pub invariant-loop-record : goal.invariant-loop-record
+invariant-loop-record l = Counted l.s l.lo l.hi (records_left l.record-iterator) l.n

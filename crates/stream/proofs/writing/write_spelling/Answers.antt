@@ -3,11 +3,6 @@ use Rattle.stream.proofs.Spellings.{length_spelling, spelling_put}
 use native.Mathlib.Omega.{arith}
 use Rattle.stream.proofs.writing.write_spelling.Goals as goal
 
-pub bounds-out-at : goal.bounds-out-at
-bounds-out-at c =
-    let a = c.args in
-    omega (arith, length_spelling a.second a.third a.n a.letter)
-
 pub bounds-out-at-2 : goal.bounds-out-at-2
 bounds-out-at-2 c =
     let a = c.args in
@@ -27,14 +22,6 @@ pub bounds-out-end : goal.bounds-out-end
 bounds-out-end c =
     let a = c.args in
     omega (arith, c.write_digits-end.ensures.0, simp length-set at c.write_digits-end.auto.out, length_spelling a.second a.third a.n a.letter)
-
-pub overflow_add-result : goal.overflow_add-result
-overflow_add-result c =
-    let a = c.args in
-    omega (arith, c.write_digits-end.ensures.0, length_spelling a.second a.third a.n a.letter)
-
-pub shape_of-out : goal.shape_of-out
-shape_of-out c = simp length-set (omega (arith, simp length-set at c.write_digits-end.auto.out))
 
 pub returns : goal.returns
 returns c =

@@ -1,9 +1,6 @@
-use mathlib.Core.Path.{refl}
-use borrow.Author.Rules.{rules}
-use Rattle.pictures.specs.Dots.{bits, dots_in}
-use Rattle.turning.specs.Mirror.{mirror, Mirrors}
+use Rattle.std.proofs.Common.{◌∙◌}
+use Rattle.turning.proofs.MirrorLaws.{mirrored_whole}
 use Rattle.turning.proofs.mirror.half_turn.Goals as goal
 
-pub mirror_picture-requires : goal.mirror_picture-requires
-unfolding Mirrors mirror bits dots_in
-mirror_picture-requires c = ((refl, tt), search rules, search rules, search rules, search rules, search rules)
+pub returns-then-picture-eq0 : goal.returns-then-picture-eq0
+returns-then-picture-eq0 c = let p = c.args.picture in c.mirror_bytes.ensures ∙ mirrored_whole p.width p.height p.bytes.now p.wide.0 c.if-picture-eq0.true p.whole

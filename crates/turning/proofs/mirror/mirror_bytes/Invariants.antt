@@ -1,13 +1,10 @@
-use Prim.Native.Nat.{◌+◌}
-use mathlib.Core.List.{◌++◌}
-use mathlib.Core.Path.{◌≡◌}
-use lib.ListN.{length, take, drop}
-use Rattle.pictures.specs.Size.{picture_size}
-use Rattle.turning.specs.Turn.{turned}
+use Rattle.std.proofs.Common.{◌≡◌, ◌-◌, ◌≤◌, length, take, drop, map, reverse}
+use Rattle.turning.specs.Mirror.{mirror}
 use Rattle.turning.proofs.mirror.mirror_bytes.Given as goal
 
-abbrev pub invariant-loop-from : goal.invariant-loop-from
-invariant-loop-from l = (l.from + l.i ≡ picture_size l.width l.height) × (length l.out ≡ length l.initial.out) × (l.out ≡ take l.i (turned 2 l.width l.height l.picture) ++ drop l.i l.initial.out)
+abbrev pub invariant-loop-before : goal.invariant-loop-before
+invariant-loop-before l = (l.rest ≡ take (length l.rest) l.bytes) × (length l.rest ≤ length l.bytes)
+    × (take (length l.bytes - length l.rest) l.out ≡ map mirror (reverse (drop (length l.rest) l.bytes)))
 
-abbrev pub decreases-loop-from : goal.decreases-loop-from
-decreases-loop-from l = l.from
+abbrev pub decreases-loop-before : goal.decreases-loop-before
+decreases-loop-before l = length l.rest

@@ -1,8 +1,18 @@
-use native.Mathlib.Omega.{arith}
-use Rattle.turning.proofs.MirrorLaws.{runs_joined}
+use Rattle.std.proofs.Common.{◌≡◌, ◌-◌, length, get_or, rules, arith, refl, ap, ◌∙◌}
+use Rattle.turning.specs.Mirror.{mirror}
+use Rattle.turning.proofs.PictureLaws.{set_next}
+use Rattle.turning.proofs.MirrorLaws.{mirrored_list, eight_reversed}
 use Rattle.turning.proofs.mirror.mirror_eight.Goals as goal
+
+pub loop-k-preserved : goal.loop-k-preserved
+loop-k-preserved c =
+    let bs = c.args.bytes.now in
+    set_next (λ k. mirror (get_or bs (7 - k) 0)) c.loop-k.out c.loop-k.k c.mirrored.result (omega arith)
+    (c.mirrored.ensures ∙ ap mirror (rw c.to_le_bytes-from_last.ensures (eight_reversed bs c.from_be_bytes.result c.loop-k.k (7 - c.loop-k.k) (search rules) (search rules) c.from_be_bytes.ensures (omega arith) refl)))
+    c.loop-k.invariant
 
 pub returns : goal.returns
 returns c =
-    runs_joined _ _ _ _ _ _ 6 2 (omega arith)
-    (runs_joined _ _ _ _ _ _ 4 2 (omega arith) (runs_joined _ _ _ _ _ _ 2 2 (omega arith) c.mirror_pair.ensures c.mirror_pair-2.ensures) c.mirror_pair-3.ensures) c.mirror_pair-4.ensures
+    let bs = c.args.bytes.now in
+    let n : length bs ≡ 8 = search rules in
+    mirrored_list bs c.loop-k.out (omega arith) (λ k l. let e : 7 - k ≡ length bs - 1 - k = omega arith in c.loop-k.invariant k (omega arith) ∙ rw e)

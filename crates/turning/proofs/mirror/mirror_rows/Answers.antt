@@ -1,62 +1,24 @@
-use Prim.Native.Nat.{zero-le, ◌-◌, ◌*◌}
-use mathlib.Core.Path.{refl, ◌∙◌}
-use native.Mathlib.Omega.{arith}
-use borrow.Author.Rules.{rules}
+use Rattle.std.proofs.Common.{◌≡◌, ℕ, ◌+◌, ◌*◌, ◌-◌, ◌≤◌, List, length, take, drop, arith, sym, ◌∙◌}
+use lib.ListN.{length-take, length-drop}
 use Rattle.pictures.specs.Size.{row_size}
 use Rattle.turning.specs.Turn.{turned}
-use Rattle.turning.proofs.MirrorLaws.{half_byte_lem, length_half, half_none, half_next, half_all, power_low}
 use Rattle.turning.proofs.PictureLaws.{row_fits}
+use Rattle.turning.proofs.MirrorLaws.{RowOf, row_of, row_next, half_byte_lem, length_half, half_all}
 use Rattle.turning.proofs.mirror.mirror_rows.Goals as goal
-
-pub power-scale-requires : goal.power-scale-requires
-power-scale-requires c = omega arith
-
-pub loop-row-init : goal.loop-row-init
-loop-row-init c =
-    let a = c.args in
-    (zero-le, refl, half_none a.width a.height a.picture.now a.out.now (row_size a.width))
-
-pub overflow_mul-from : goal.overflow_mul-from
-overflow_mul-from c =
-    let a = c.args in
-    rw c.bytes_across-n.ensures (omega (arith, row_fits (row_size a.width) a.height c.flip-from.result (omega (arith, c.flip-from.ensures))))
-
-pub overflow_mul-row : goal.overflow_mul-row
-overflow_mul-row c =
-    let a = c.args in
-    rw c.bytes_across-n.ensures (omega (arith, row_fits (row_size a.width) a.height c.loop-row.row (omega arith)))
-
-pub mirror_row-requires : goal.mirror_row-requires
-mirror_row-requires c =
-    let a = c.args in
-    let e = c.bytes_across-n.ensures in (
-      c.requires.0,
-      omega arith,
-      power_low _ c.power-scale.result (omega arith) c.power-scale.ensures,
-      rw e (omega (arith, row_fits (row_size a.width) a.height c.flip-from.result (omega (arith, c.flip-from.ensures)))),
-      rw e (omega (arith, row_fits (row_size a.width) a.height c.loop-row.row (omega arith))),
-    )
 
 pub loop-row-preserved : goal.loop-row-preserved
 loop-row-preserved c =
-    let a = c.args in
-    let e = c.bytes_across-n.ensures in (
-      search rules,
-      c.mirror_row.auto.out ∙ c.loop-row.invariant.1,
-      let w = a.width in
-          let h = a.height in
-          let s = a.picture.now in
-          let n = row_size w in
-          let r = c.loop-row.row in
-          half_next w h s a.out.now _ n r
-          ((rw e at c.mirror_row.ensures) (turned 2 w h s) a.out.now (omega (arith, length_half w h s (search rules), row_fits n h r c.loop-row-test.true)) (omega (arith, row_fits n h r c.loop-row-test.true))
-          (λ q l. rw (c.flip-from.ensures, c.power-scale.ensures, e) (half_byte_lem w h s n (n * 8 - w) refl (omega arith) (omega arith) r c.loop-row-test.true (search rules) q l)) c.loop-row.invariant.2),
-    )
-
-pub shape_of-out : goal.shape_of-out
-shape_of-out c = c.loop-row.invariant.1
+    let p = c.args.picture in
+    let s : List ℕ = p.bytes.now in
+    let n : ℕ = c.row_size-n.result in
+    let r : ℕ = c.loop-row.row in
+    let from : ℕ = (p.height - 1 - r) * n in
+    let size : n ≡ row_size p.width = c.row_size-n.ensures in
+    let ahead : r * n + n ≤ length s = rw size (omega (arith, p.whole, row_fits (row_size p.width) p.height r c.loop-row-test.true)) in
+    let of : RowOf s n from (take (from + n - from) (drop from s)) = row_of s n from (from + n - from) (omega arith) (rw size (omega (arith, p.whole, row_fits (row_size p.width) p.height (p.height - 1 - r) (omega arith)))) in
+    let more : (r + 1) * row_size p.width ≡ r * n + n = rw size (omega arith) in
+    row_next (turned 2 p.width p.height s) c.loop-row.out c.mirror_row.new.out (r * n) n ((r + 1) * row_size p.width) more (omega (arith, length_half p.width p.height s)) (omega arith) (c.mirror_row.auto.out ∙ simp (length-take, length-drop) (omega arith)) (rw size c.loop-row.invariant)
+    (λ q l. c.mirror_row.ensures q (omega (arith, of.long)) ∙ sym (half_byte_lem p.width p.height s n (n * 8 - p.width) size (omega arith) (omega arith) r c.loop-row-test.true (take (from + n - from) (drop from s)) of (omega (arith, p.whole)) q l))
 
 pub returns : goal.returns
-returns c =
-    let a = c.args in
-    half_all a.width a.height a.picture.now a.out.now _ c.loop-row.row (search rules) (omega arith) c.loop-row.invariant.2
+returns c = let p = c.args.picture in half_all p.width p.height p.bytes.now c.loop-row.out c.loop-row.row (omega (arith, p.whole)) (omega arith) (omega (arith, p.whole)) c.loop-row.invariant

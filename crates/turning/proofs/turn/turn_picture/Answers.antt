@@ -1,59 +1,51 @@
-use native.Mathlib.Omega.{arith}
-use lib.ListN.{length}
-use Rattle.pictures.proofs.Tests.{passed, failed}
-use Rattle.turning.proofs.Answers.{good, turn_refused, turn_short, turn_done, by_half, by_quarters, size_half, size_quarter}
+use Rattle.std.proofs.Common.{length}
+use Rattle.std.proofs.lemmas.Result.{err_from_is_err_and}
+use Rattle.turning.proofs.Answers.{no_turn, no_picture, turn_refused}
+use Rattle.turning.proofs.Turns.{taken_short, taken_done}
 use Rattle.turning.proofs.turn.turn_picture.Goals as goal
 
-pub returns-then-not-is_turnable : goal.returns-then-not-is_turnable
-returns-then-not-is_turnable c =
-    let a = c.args in record { value = (turn_refused a.turn a.width a.height a.picture.now a.out.now (failed c.is_turnable.ensures c.if-not-is_turnable.true-raw)).0; out_after = (turn_refused a.turn a.width a.height a.picture.now a.out.now (failed c.is_turnable.ensures c.if-not-is_turnable.true-raw)).1 }
-
-pub turned_size-requires : goal.turned_size-requires
-turned_size-requires c =
+pub returns-in_err-turn-clause-value : goal.returns-in_err-turn-clause-value
+returns-in_err-turn-clause-value c =
     let a = c.args in
-    let g = good a.turn a.width a.height (length a.picture.now) (passed c.is_turnable.ensures c.if-not-is_turnable.false-raw) in
-    (g.narrow, g.low)
+    let p = err_from_is_err_and c.from_residual.result c.from_residual.ensures.1 in
+    rw (p.1, p.2, c.in_err-turn.ensures.1) (turn_refused a.turn a.width a.height a.picture.now a.out.now (no_turn a.turn a.width a.height (length a.picture.now) c.in_err-turn.ensures.0)).0
 
-pub returns-then-out-turned_size : goal.returns-then-out-turned_size
-returns-then-out-turned_size c =
-    let a = c.args in record {
-      value = (turn_short a.turn a.width a.height a.picture.now a.out.now (passed c.is_turnable.ensures c.if-not-is_turnable.false-raw)
-          (omega (arith, c.turned_size.ensures))).0;
-      out_after = (turn_short a.turn a.width a.height a.picture.now a.out.now (passed c.is_turnable.ensures c.if-not-is_turnable.false-raw)
-          (omega (arith, c.turned_size.ensures))).1;
-    }
+pub returns-in_err-turn-clause-out_after : goal.returns-in_err-turn-clause-out_after
+returns-in_err-turn-clause-out_after c =
+    let a = c.args in (turn_refused a.turn a.width a.height a.picture.now a.out.now (no_turn a.turn a.width a.height (length a.picture.now) c.in_err-turn.ensures.0)).1
 
-pub half_turn-requires : goal.half_turn-requires
-half_turn-requires c =
+pub returns-in_err-picture-clause-value : goal.returns-in_err-picture-clause-value
+returns-in_err-picture-clause-value c =
     let a = c.args in
-    let g = good a.turn a.width a.height (length a.picture.now) (passed c.is_turnable.ensures c.if-not-is_turnable.false-raw) in
-    (g.wide, g.narrow, g.low, g.enough, omega (arith, c.turned_size.ensures, size_half a.width a.height a.turn c.if-turn-eq2.true))
+    let p = err_from_is_err_and c.from_residual-in_err-picture.result c.from_residual-in_err-picture.ensures.1 in
+    rw (p.1, p.2, c.in_err-picture.ensures.1) (turn_refused a.turn a.width a.height a.picture.now a.out.now (no_picture a.turn a.width a.height (length a.picture.now) c.in_err-picture.ensures.0)).0
 
-pub quarter_turn-requires : goal.quarter_turn-requires
-quarter_turn-requires c =
+pub returns-in_err-picture-clause-out_after : goal.returns-in_err-picture-clause-out_after
+returns-in_err-picture-clause-out_after c =
+    let a = c.args in (turn_refused a.turn a.width a.height a.picture.now a.out.now (no_picture a.turn a.width a.height (length a.picture.now) c.in_err-picture.ensures.0)).1
+
+pub returns-then-out-size-clause-value : goal.returns-then-out-size-clause-value
+returns-then-out-size-clause-value c =
     let a = c.args in
-    let g = good a.turn a.width a.height (length a.picture.now) (passed c.is_turnable.ensures c.if-not-is_turnable.false-raw) in
-    (g.high, g.narrow, g.low, g.enough, omega (arith, c.turned_size.ensures, size_quarter a.width a.height a.turn c.if-turn-eq2.false))
+    let p = c.in_ok-picture.ensures in
+    (taken_short a.turn a.width a.height a.picture.now a.out.now c.in_ok-turn.turn c.in_ok-turn.ensures p.0 c.turned_size-size.result (rw (p.1, p.2) at c.turned_size-size.ensures) c.if-out-size.true).0
 
-pub returns-then-turn-eq2 : goal.returns-then-turn-eq2
-returns-then-turn-eq2 c =
-    let a = c.args in record {
-      value = (turn_done a.turn a.width a.height a.picture.now a.out.now (passed c.is_turnable.ensures c.if-not-is_turnable.false-raw)
-          (omega (arith, c.turned_size.ensures)) _
-          (by_half a.picture.now a.out.now _ a.width a.height a.turn c.if-turn-eq2.true c.half_turn.ensures)).0;
-      out_after = (turn_done a.turn a.width a.height a.picture.now a.out.now (passed c.is_turnable.ensures c.if-not-is_turnable.false-raw)
-          (omega (arith, c.turned_size.ensures)) _
-          (by_half a.picture.now a.out.now _ a.width a.height a.turn c.if-turn-eq2.true c.half_turn.ensures)).1;
-    }
-
-pub returns-else-turn-eq2 : goal.returns-else-turn-eq2
-returns-else-turn-eq2 c =
+pub returns-then-out-size-clause-out_after : goal.returns-then-out-size-clause-out_after
+returns-then-out-size-clause-out_after c =
     let a = c.args in
-    let g = good a.turn a.width a.height (length a.picture.now) (passed c.is_turnable.ensures c.if-not-is_turnable.false-raw) in record {
-      value = (turn_done a.turn a.width a.height a.picture.now a.out.now (passed c.is_turnable.ensures c.if-not-is_turnable.false-raw)
-          (omega (arith, c.turned_size.ensures)) _
-          (by_quarters a.picture.now a.out.now _ a.width a.height a.turn g.turn_low g.turn_high c.if-turn-eq2.false c.quarter_turn.ensures)).0;
-      out_after = (turn_done a.turn a.width a.height a.picture.now a.out.now (passed c.is_turnable.ensures c.if-not-is_turnable.false-raw)
-          (omega (arith, c.turned_size.ensures)) _
-          (by_quarters a.picture.now a.out.now _ a.width a.height a.turn g.turn_low g.turn_high c.if-turn-eq2.false c.quarter_turn.ensures)).1;
-    }
+    let p = c.in_ok-picture.ensures in
+    (taken_short a.turn a.width a.height a.picture.now a.out.now c.in_ok-turn.turn c.in_ok-turn.ensures p.0 c.turned_size-size.result (rw (p.1, p.2) at c.turned_size-size.ensures) c.if-out-size.true).1
+
+pub returns-clause-value : goal.returns-clause-value
+returns-clause-value c =
+    let a = c.args in
+    let p = c.in_ok-picture.ensures in
+    (taken_done a.turn a.width a.height a.picture.now a.out.now c.in_ok-turn.turn c.in_ok-turn.ensures p.0 c.turned_size-size.result (rw (p.1, p.2) at c.turned_size-size.ensures) c.if-out-size.false
+    c.turn_into.new.out (rw (p.1, p.2, p.3) at c.turn_into.ensures)).0
+
+pub returns-clause-out_after : goal.returns-clause-out_after
+returns-clause-out_after c =
+    let a = c.args in
+    let p = c.in_ok-picture.ensures in
+    (taken_done a.turn a.width a.height a.picture.now a.out.now c.in_ok-turn.turn c.in_ok-turn.ensures p.0 c.turned_size-size.result (rw (p.1, p.2) at c.turned_size-size.ensures) c.if-out-size.false
+    c.turn_into.new.out (rw (p.1, p.2, p.3) at c.turn_into.ensures)).1

@@ -1,6 +1,0 @@
-use Rattle.figures.proofs.Texts.{wrote_first}
-use Rattle.figures.proofs.line.write_first.Goals as goal
-
-pub returns-clause-wrote : goal.returns-clause-wrote
-returns-clause-wrote c =
-    wrote_first _ _ _ _ _ _ _ _ _ _ _ _ _ _ c.write_number-second.ensures.wrote c.write_number-third.ensures.wrote c.write_number-fourth.ensures.wrote c.write_number.ensures.wrote

@@ -1,4 +1,0 @@
-use Rattle.pictures.proofs.dots.darken.Goals as goal
-
-pub returns : goal.returns
-returns c = rw c.wrapping_add_u8.ensures.value
