@@ -16,3 +16,4 @@ pub mod KeptFonts
 pub mod Locates
 pub mod FontRecords
 pub mod Runs
+pub mod Places

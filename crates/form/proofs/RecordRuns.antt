@@ -114,6 +114,17 @@ module _ (s : List ℕ) (at : ℕ) (p : RecordPlace s at) where
       let n : records_at s (at + size_of r) ≡ ts = rw q' in
       record { records = records_are (r ∷ ts) e ∙ ap (λ (l : List Rec). r ∷ l) (sym n); place = k; size = refl; ahead = omega (arith, headed_size (drop at s) r (head_inv (drop at s) r h)); within = k.within }
 
+  -- the first of the records from there on stands there
+  pub met_first : (r : Rec) (ts : List Rec) → records_at s at ≡ r ∷ ts → MetAt s at r (at + size_of r)
+  met_first r ts e = go (stands_at (drop at s) p.recs p.is)
+    where
+      go : Standing (drop at s) p.recs → MetAt s at r (at + size_of r)
+      go (at_end e' z) = let x : [] ≡ r ∷ ts = sym (records_are [] e') ∙ e in let y : ◌≡◌ {A = ℕ} 0 1 = ap length x ∙ cc in absurd (omega arith)
+      go (at_record r' ts' e' h q) =
+          let x : r' ∷ ts' ≡ r ∷ ts = sym (records_are (r' ∷ ts') e') ∙ e in
+          let i : r' ≡ r = cc in
+          subst (λ (y : Rec). MetAt s at y (at + size_of y)) i (met_at r' ts' e' h q)
+
   allowed_here : (r : Rec) (ts : List Rec) → p.recs ≡ r ∷ ts → allowed p.behind r ≡ true
   allowed_here r ts e = let o : sorted p.least p.behind (r ∷ ts) ≡ true = rw e at p.order in (sorted_inv p.least p.behind r ts o).ok
 

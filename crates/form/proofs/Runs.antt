@@ -2,7 +2,7 @@
 use mathlib.Core.Path.{◌≡◌, refl, sym, ap, ◌∙◌, subst}
 use mathlib.Core.List.{List, [], ◌∷◌, ◌++◌}
 use mathlib.Core.Bool.{true}
-use mathlib.Core.Option.{Option, none, some}
+use mathlib.Core.Option.{none, some}
 use Prim.Native.Nat.{ℕ, ◌+◌, ◌-◌, ◌<◌, ◌≤◌}
 use native.Mathlib.Omega.{arith}
 use lib.ListN.{length, take, drop, length-take, length-drop}
@@ -17,7 +17,7 @@ use Rattle.form.specs.Layout.{kind_at, number_at, code_at, font_kind, font_recor
 use Rattle.form.specs.Num.{field, all_zero}
 use Rattle.form.specs.Model.{Rec, font, character, font_in, character_in, Owner, owner_after, allowed, sorted, key, only_if, head_rec, size_of, total, cons_to, split_in, split}
 use Rattle.form.specs.Records.{records_at, RecordPlace, Between, RecordRun, run_records}
-use Rattle.form.specs.RecordsLeft.{FontKept, CharacterKept, RunsOn, record_of, records_left}
+use Rattle.form.specs.RecordsLeft.{FontKept, CharacterKept, RunsOn, record_of, records_left, BytesIn, StoodFirst}
 use Rattle.form.specs.declared.records.Record.{Record}
 use Rattle.form.specs.declared.records.Records.{Records}
 use Rattle.form.proofs.Numbers.{zeros_field}
@@ -38,23 +38,26 @@ pub record FontFirst (b : List ℕ) : Type 0 where
 abbrev pub character_part : List ℕ → List ℕ
 character_part b = take (field 4 0 b - character_kept_at) (drop character_kept_at b)
 
+abbrev pub character_at_front : List ℕ → Rec
+character_at_front b = character (field 2 number_at b) (field 2 code_at b) (take descriptor_bytes (character_part b)) (drop descriptor_bytes (character_part b))
+
 pub record CharacterFirst (b : List ℕ) : Type 0 where
   pub least : character_record ≤ field 4 0 b
   pub fits : field 4 0 b ≤ length b
-  pub records : run_records b ≡ character (field 2 number_at b) (field 2 code_at b) (take descriptor_bytes (character_part b)) (drop descriptor_bytes (character_part b)) ∷ run_records (drop (field 4 0 b) b)
+  pub records : run_records b ≡ character_at_front b ∷ run_records (drop (field 4 0 b) b)
   pub kept : CharacterKept (field 2 number_at b) (field 2 code_at b) (character_part b)
   pub rest : RecordRun (drop (field 4 0 b) b)
 
 -- the two parts of it
-part_kept : (b : List ℕ) → character_record ≤ field 4 0 b → take descriptor_bytes (character_part b) ≡ take descriptor_bytes (drop character_kept_at b)
-part_kept b l = take-take descriptor_bytes (field 4 0 b - character_kept_at) (drop character_kept_at b) (omega arith)
+pub part_kept : (b : List ℕ) (z : ℕ) → character_record ≤ z → take descriptor_bytes (take (z - character_kept_at) (drop character_kept_at b)) ≡ take descriptor_bytes (drop character_kept_at b)
+part_kept b z l = take-take descriptor_bytes (z - character_kept_at) (drop character_kept_at b) (omega arith)
 
-part_data : (b : List ℕ) → character_record ≤ field 4 0 b → drop descriptor_bytes (character_part b) ≡ take (field 4 0 b - character_record) (drop character_record b)
-part_data b l =
-    let n : field 4 0 b - character_kept_at ≡ descriptor_bytes + (field 4 0 b - character_record) = omega arith in
+pub part_data : (b : List ℕ) (z : ℕ) → character_record ≤ z → drop descriptor_bytes (take (z - character_kept_at) (drop character_kept_at b)) ≡ take (z - character_record) (drop character_record b)
+part_data b z l =
+    let n : z - character_kept_at ≡ descriptor_bytes + (z - character_record) = omega arith in
     ap (λ (m : ℕ). drop descriptor_bytes (take m (drop character_kept_at b))) n
-    ∙ drop-take descriptor_bytes (field 4 0 b - character_record) (drop character_kept_at b)
-    ∙ ap (λ (l : List ℕ). take (field 4 0 b - character_record) l) (drop-drop descriptor_bytes character_kept_at b)
+    ∙ drop-take descriptor_bytes (z - character_record) (drop character_kept_at b)
+    ∙ ap (λ (l : List ℕ). take (z - character_record) l) (drop-drop descriptor_bytes character_kept_at b)
 
 char_len : (b : List ℕ) → field 4 0 b ≤ length b → character_record ≤ field 4 0 b → size_of (character_in b) ≡ field 4 0 b
 unfolding size_of
@@ -123,15 +126,15 @@ module _ (b : List ℕ) (p : RecordRun b) where
           record {
             least = l;
             fits = f;
-            records = rw (part_kept b l, part_data b l) (subst (λ (m : ℕ). run_records b ≡ character_in b ∷ run_records (drop m b)) n (first_is (character_in b) ts e q));
+            records = rw (part_kept b (field 4 0 b) l, part_data b (field 4 0 b) l) (subst (λ (m : ℕ). run_records b ≡ character_in b ∷ run_records (drop m b)) n (first_is (character_in b) ts e q));
             kept = record {
               low = c.low;
               code = c.code;
               whole = simp (length-take, length-drop) (omega arith);
               orientation = p.behind.orientation;
-              descriptor = rw (part_kept b l) c.kept;
-              held = rw (part_kept b l, part_data b l) c.whole;
-              wide = rw (part_kept b l) (kept_sides _ _ c.kept).0;
+              descriptor = rw (part_kept b (field 4 0 b) l) c.kept;
+              held = rw (part_kept b (field 4 0 b) l, part_data b (field 4 0 b) l) c.whole;
+              wide = rw (part_kept b (field 4 0 b) l) (kept_sides _ _ c.kept).0;
             };
             rest = subst (λ (m : ℕ). RecordRun (drop m b)) n (rest_run (character_in b) ts e q);
           }
@@ -161,7 +164,7 @@ unfolding run_records records_at
 run_from_records s at = refl
 
 -- ── up to a place: the first records stand in the first bytes
-part_take : (k j n : ℕ) (b : List ℕ) → j + k ≤ n → take k (drop j (take n b)) ≡ take k (drop j b)
+pub part_take : (k j n : ℕ) (b : List ℕ) → j + k ≤ n → take k (drop j (take n b)) ≡ take k (drop j b)
 part_take k j n b l =
     let e : n ≡ j + (n - j) = omega arith in
     ap (λ (m : ℕ). take k (drop j (take m b))) e ∙ ap (λ (t : List ℕ). take k t) (drop-take j (n - j) b) ∙ take-take k (n - j) (drop j b) (omega arith)
@@ -228,6 +231,22 @@ module _ (s : List ℕ) (at hi : ℕ) (rs : List Rec) (w : Between s at hi rs) w
   pub run_between_records : run_records (take (hi - at) (drop at s)) ≡ rs
   unfolding run_records
   run_between_records = rw between_split
+
+-- ── where the first record stood
+stood_first : (b : List ℕ) (r : Record) (z : ℕ) → size_of (record_of r) ≡ z → 0 < z → z ≤ length b → BytesIn b r → StoodFirst b r (drop z b)
+stood_first b r z e a w i = record { ahead = rw e a; within = rw e w; bytes = i; after = ap (λ (m : ℕ). drop m b) (sym e) }
+
+pub font_stood : (b : List ℕ) (r : Record) → FontFirst b → record_of r ≡ font (field 2 number_at b) (take header_bytes (drop font_kept_at b)) → BytesIn b r → StoodFirst b r (drop font_record b)
+unfolding size_of
+font_stood b r f e i = stood_first b r font_record (ap size_of e) (omega arith) f.fits i
+
+character_size : (b : List ℕ) → CharacterFirst b → size_of (character_at_front b) ≡ field 4 0 b
+unfolding size_of
+character_size b f = simp (length-take, length-drop) (omega (arith, f.least, f.fits))
+
+pub character_stood : (b : List ℕ) (r : Record) → CharacterFirst b
+    → record_of r ≡ character_at_front b → (size_of (record_of r) ≡ field 4 0 b → BytesIn b r) → StoodFirst b r (drop (field 4 0 b) b)
+character_stood b r f e i = let z = ap size_of e ∙ character_size b f in stood_first b r (field 4 0 b) z (omega (arith, f.least)) f.fits (i z)
 
 -- ── a record that is given leaves one less
 pub one_less : (old new : Records) (r : Record) → RunsOn new → records_left old ≡ record_of r ∷ records_left new → MakesProgress RunsOn (item_count records_left) old (Some r) new

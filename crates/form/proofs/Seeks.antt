@@ -32,12 +32,12 @@ module _ (n : ℕ) (s : List ℕ) where
     unfolding sought_font on_font on_store
     font_range l = rw (r.is, lt-leb n last_font l)
 
-    font_none : n ≤ last_font → w.hi ≤ w.lo → sought_font n s ≡ Err 6
+    pub font_none : n ≤ last_font → w.hi ≤ w.lo → sought_font n s ≡ Err 6
     unfolding sought_font on_font on_store finding
     font_none l e =
         rw (r.is, le-leb n last_font l, font_missing n r.store.recs r.valid.order (omega (arith, ap (λ (x : Places). x.lo) r.at, ap (λ (x : Places). x.hi) r.at)))
 
-    font_here_lem : n ≤ last_font → w.lo < w.hi → sought_font n s ≡ Ok w
+    pub font_here_lem : n ≤ last_font → w.lo < w.hi → sought_font n s ≡ Ok w
     unfolding sought_font on_font on_store finding
     font_here_lem l e =
         let f = font_there n r.store.recs r.valid.order (omega (arith, ap (λ (x : Places). x.lo) r.at, ap (λ (x : Places). x.hi) r.at)) in
@@ -61,18 +61,18 @@ module _ (n c : ℕ) (s : List ℕ) where
     unfolding sought_character on_character on_store
     char_range l = rw (r.is, l)
 
-    char_no_font : numbered n c ≡ true → w.hi ≤ w.lo → sought_character n c s ≡ Err 6
+    pub char_no_font : numbered n c ≡ true → w.hi ≤ w.lo → sought_character n c s ≡ Err 6
     unfolding sought_character on_character on_store finding
     char_no_font l e =
         rw (r.is, l, font_missing n r.store.recs r.valid.order (omega (arith, ap (λ (x : Places). x.lo) r.at, ap (λ (x : Places). x.hi) r.at)))
 
-    char_none : numbered n c ≡ true → w.lo < w.hi → w.to ≤ w.from → sought_character n c s ≡ Err 7
+    pub char_none : numbered n c ≡ true → w.lo < w.hi → w.to ≤ w.from → sought_character n c s ≡ Err 7
     unfolding sought_character on_character on_store finding
     char_none l e q =
         let f = font_there n r.store.recs r.valid.order (omega (arith, ap (λ (x : Places). x.lo) r.at, ap (λ (x : Places). x.hi) r.at)) in
         rw (r.is, l, f.1, record_missing (key_of n (c + 1)) r.store.recs r.valid.order (omega (arith, ap (λ (x : Places). x.from) r.at, ap (λ (x : Places). x.to) r.at)))
 
-    char_here : numbered n c ≡ true → w.lo < w.hi → w.from < w.to → sought_character n c s ≡ Ok w
+    pub char_here : numbered n c ≡ true → w.lo < w.hi → w.from < w.to → sought_character n c s ≡ Ok w
     unfolding sought_character on_character on_store finding
     char_here l e q =
         let f = font_there n r.store.recs r.valid.order (omega (arith, ap (λ (x : Places). x.lo) r.at, ap (λ (x : Places). x.hi) r.at)) in

@@ -29,7 +29,7 @@ impl<'a> KeptFonts<'a> {
     // Those from a place of the run of records on.
     pub fn starting_at(s: &'a [u8], at: usize) -> KeptFonts<'a>
         requires { RecordPlace s.now at }
-        ensures { FontsOn result × (result.store.now ≡ s.now) × (fonts_to_come result ≡ fonts_at s.now at) }
+        ensures { FontsOn result × (result.store.now ≡ s.now) × (fonts_to_come result ≡ fonts_at s.now at) × (result.at ≡ at) }
     {
         KeptFonts { store: s, at }
     }

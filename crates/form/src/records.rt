@@ -1,5 +1,5 @@
 // The records of a store one after the other, for callers that know nothing of its form.
-ghost use Rattle.std.specs.Prelude.{◌≡◌, []};
+ghost use Rattle.std.specs.Prelude.{◌≡◌, ◌-◌, take, drop};
 ghost use Rattle.form.specs.Records.{RecordPlace, Begun, Between, records_at};
 
 use crate::layout::{
@@ -44,7 +44,7 @@ impl<'a> Records<'a> {
     // Those from a place of the run on.
     pub fn starting_at(s: &'a [u8], at: usize) -> Records<'a>
         requires { RecordPlace s.now at }
-        ensures { RunsOn result × (records_left result ≡ records_at s.now at) }
+        ensures { RunsOn result × (records_left result ≡ records_at s.now at) × (result.left.now ≡ drop at s.now) }
     {
         Records { left: &s[at..] }
     }
@@ -52,9 +52,17 @@ impl<'a> Records<'a> {
     // Those from one place of the run up to another.
     pub fn between(s: &'a [u8], lo: usize, hi: usize) -> Records<'a>
         requires { (rs : List Rec) × Between s.now lo hi rs }
-        ensures { RunsOn result × ((rs : List Rec) → Between s.now lo hi rs → records_left result ≡ rs) }
+        ensures { RunsOn result × ((rs : List Rec) → Between s.now lo hi rs → records_left result ≡ rs) × (result.left.now ≡ take (hi - lo) (drop lo s.now)) }
     {
         Records { left: &s[lo..hi] }
+    }
+
+    // The bytes from the next record on: their length tells its place.
+    pub fn rest(self) -> &'a [u8]
+        ensures { result.now ≡ self.entry.left.now }
+    {
+        let Records { left } = self;
+        left
     }
 }
 

@@ -9,7 +9,7 @@ use native.Mathlib.Omega.{arith}
 use Rattle.form.proofs.kept_fonts.KeptFontsIterator.next.Goals as goal
 
 pub loop-p-init : goal.loop-p-init
-loop-p-init c = (c.requires, refl, refl)
+loop-p-init c = (c.requires, refl, refl, omega arith)
 
 pub overflow_sub-s : goal.overflow_sub-s
 overflow_sub-s c = c.loop-p.invariant.0.within
@@ -18,7 +18,7 @@ pub le32-len-requires : goal.le32-len-requires
 le32-len-requires c = omega (arith, c.loop-p.invariant.0.within)
 
 pub returns-then-len-eq0-clause-steps : goal.returns-then-len-eq0-clause-steps
-returns-then-len-eq0-clause-steps c = let e = sym c.loop-p.invariant.1 ∙ fonts_end _ _ (records_zero _ _ c.loop-p.invariant.0 (omega arith)) in (e, rw c.loop-p.invariant.2 e)
+returns-then-len-eq0-clause-steps c = let e = sym c.loop-p.invariant.1 ∙ fonts_end _ _ (records_zero _ _ c.loop-p.invariant.0 (omega arith)) in (e, rw c.loop-p.invariant.2 e, c.loop-p.invariant.2)
 
 pub overflow_add-result : goal.overflow_add-result
 overflow_add-result c = omega (arith, c.loop-p.invariant.0.within)
@@ -42,7 +42,8 @@ returns-then-le16-eq-FONT_KIND-clause-steps c =
     rw (c.loop-p.invariant.2, k, c.le16-then-le16-eq-FONT_KIND.ensures.0) (
       sym c.loop-p.invariant.1 ∙ font_listed _ _ _ _ _ n,
       refl,
-      record { low = n.low; whole = simp (length-take, length-drop) (omega (arith, n.room)); place = ap (λ (x : ℕ). x + font_kept_at) (font_place_lem _ _ _ _ _ c.loop-p.invariant.0 n) },
+      record { low = n.low; whole = simp (length-take, length-drop) (omega (arith, n.room)); place = ap (λ (x : ℕ). x + font_kept_at) (font_place_lem _ _ _ _ _ c.loop-p.invariant.0 n); room = n.room; kept = refl },
+      record { ahead = omega (arith, c.loop-p.invariant.3); within = n.met.within; after = omega arith },
     )
 
 pub returns-then-le16-eq-FONT_KIND-clause-goes : goal.returns-then-le16-eq-FONT_KIND-clause-goes
@@ -61,7 +62,7 @@ loop-p-smaller c =
 pub loop-p-preserved : goal.loop-p-preserved
 loop-p-preserved c =
     let o = character_met c.args.self.now.store.now c.loop-p.p c.loop-p.invariant.0 (λ e. omega arith) (λ e. omega arith) in
-    rw c.le32-len.ensures (o.met.place, sym (character_passed _ _ _ _ _ _ _ o) ∙ c.loop-p.invariant.1, c.loop-p.invariant.2)
+    rw c.le32-len.ensures (o.met.place, sym (character_passed _ _ _ _ _ _ _ o) ∙ c.loop-p.invariant.1, c.loop-p.invariant.2, omega (arith, c.loop-p.invariant.3, o.met.ahead))
 
 pub returns-clause-steps : goal.returns-clause-steps
-returns-clause-steps c = let e = sym c.loop-p.invariant.1 ∙ fonts_end _ _ (records_short _ _ c.loop-p.invariant.0 c.loop-p-test.false) in (e, rw c.loop-p.invariant.2 e)
+returns-clause-steps c = let e = sym c.loop-p.invariant.1 ∙ fonts_end _ _ (records_short _ _ c.loop-p.invariant.0 c.loop-p-test.false) in (e, rw c.loop-p.invariant.2 e, c.loop-p.invariant.2)
