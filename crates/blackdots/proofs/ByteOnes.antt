@@ -11,8 +11,9 @@ use native.Mathlib.Numerals.{add-one}
 use native.Mathlib.Omega.{arith}
 use lib.ListN.{length, take, drop, get_or, replicate, drop_of_length-le, length-drop}
 use lib.Seq.{drop-cons, drop-drop, take-nil, take_all, get_or-drop, get_or-take}
-use Rattle.std.proofs.Common.{w64}
+use Rattle.std.proofs.Common.{w16, w32, w64, None}
 use Rattle.std.specs.Int.{from_le_bytes}
+use Rattle.std.specs.List.{slice_get}
 use lib.Count.{ones, ones_cat, ones-le}
 use Rattle.blackdots.specs.Black.{ones_of}
 use Rattle.blackdots.specs.Counting.{overhang, ones_apart, ones_of_two, ones_said}
@@ -79,7 +80,10 @@ pub ones_past : (i : ℕ) (b : List ℕ) → length b ≤ i → ones_of (drop i 
 unfolding ones_of
 ones_past i b l = ap ones_of (drop_of_length-le b {i = i} l)
 
--- ── eight bytes as one number, the first the lowest
+pub ones_last : (i : ℕ) (b : List ℕ) → i < length b → length b ≤ i + 1 → ones_of (drop i b) ≡ ones (get_or b i 0)
+ones_last i b h l = omega (arith, ones_back i 1 (i + 1) b refl, ones_byte i b h, ones_past (i + 1) b l)
+
+-- ── eight, four and two bytes as one number, the first the lowest
 module _ (b : List ℕ) (bytes : (i : ℕ) → get_or b i 0 < 256) where
   abbrev two_from : ℕ → ℕ
   two_from at = get_or b at 0 + 2 ^ 8 * get_or b (at + 1) 0
@@ -103,6 +107,47 @@ module _ (b : List ℕ) (bytes : (i : ℕ) → get_or b i 0 < 256) where
   word_ones x l e =
       let v : x ≡ four_from 0 + 2 ^ 32 * four_from 4 = omega (arith, e) in
       ap ones v ∙ eight_ones (omega arith) ∙ ap ones_of (take_all 8 b (omega arith))
+
+  -- those at the front
+  pub four_first : (x : ℕ) (part : List ℕ) → part ≡ take 4 b → 4 ≤ length b → x ≡ from_le_bytes w32 part → ones x ≡ ones_of part
+  four_first x part p l e =
+      let v : x ≡ four_from 0 = omega (arith, e, same 0 (omega arith), same 1 (omega arith), same 2 (omega arith), same 3 (omega arith)) in
+      ap ones v ∙ four_ones 0 l ∙ ap ones_of (sym p)
+    where
+      same : (i : ℕ) → i < 4 → get_or part i 0 ≡ get_or b i 0
+      same i k = ap (λ (z : List ℕ). get_or z i 0) p ∙ get_or-take 4 b i 0 k
+
+  pub two_first : (x : ℕ) (part : List ℕ) → part ≡ take 2 b → 2 ≤ length b → x ≡ from_le_bytes w16 part → ones x ≡ ones_of part
+  two_first x part p l e =
+      let v : x ≡ two_from 0 = omega (arith, e, same 0 (omega arith), same 1 (omega arith)) in
+      ap ones v ∙ two_ones 0 l ∙ ap ones_of (sym p)
+    where
+      same : (i : ℕ) → i < 2 → get_or part i 0 ≡ get_or b i 0
+      same i k = ap (λ (z : List ℕ). get_or z i 0) p ∙ get_or-take 2 b i 0 k
+
+  pub bytes_after : (k : ℕ) (rest : List ℕ) → rest ≡ drop k b → (i : ℕ) → get_or rest i 0 < 256
+  bytes_after k rest e i = rw (e, get_or-drop k b i 0) (bytes (k + i))
+
+-- no byte has more than eight
+pub ones_most : (b : List ℕ) → ((i : ℕ) → get_or b i 0 < 256) → ones_of b ≤ 8 * length b
+unfolding ones_of
+ones_most [] h = omega arith
+ones_most (x ∷ b) h = omega (arith, ones-le 8 x (h 0), ones_most b (λ i. h (suc i)))
+
+-- the bytes b as one number x of so many bits, but for fewer than n that are left
+abbrev pub JoinedTo : ℕ → ℕ → List ℕ → ℕ → List ℕ → Type 0
+JoinedTo bits n b x rest = (ones x + ones_of rest ≡ ones_of b) × (x < 2 ^ bits) × (length rest < n) × ((i : ℕ) → get_or rest i 0 < 256)
+
+-- k bytes more, as a number y of m bits
+pub join_more : (m k x y : ℕ) (b rest part after : List ℕ) → ones x + ones_of rest ≡ ones_of b → y < 2 ^ m → ones y ≡ ones_of part → part ≡ take k rest → after ≡ drop k rest
+    → ones (x * 2 ^ m + y) + ones_of after ≡ ones_of b
+join_more m k x y b rest part after e l o p q = omega (arith, e, o, ap ones_of p, ap ones_of q, ones_parts k rest, ones_cat m x y l)
+
+-- where there is no first byte, there are no ones
+pub none_left : (rest : List ℕ) → None ≡ slice_get rest 0 → ones_of rest ≡ 0
+unfolding ones_of
+none_left [] e = refl
+none_left (y ∷ rest) e = absurd cc
 
 -- before the first block
 pub said_none : (b : List ℕ)

@@ -233,7 +233,7 @@ rows_start w h src fit = record { low = omega arith; is = refl; most = omega ari
 most_by : (n t m b w : ℕ) → n ≤ t * w → b ≤ w → n + m * b ≤ (t + m) * w
 most_by n t m b w p q = omega (arith, add-mul t m w, mul-le-mul_left m q)
 
-rows_room : (n t m b w h : ℕ) → n ≤ t * w → b ≤ w → t + m ≤ h → h ≤ 65535 → w ≤ 65535 → n + m * b ≤ 4294836225
+pub rows_room : (n t m b w h : ℕ) → n ≤ t * w → b ≤ w → t + m ≤ h → h ≤ 65535 → w ≤ 65535 → n + m * b ≤ 4294836225
 rows_room n t m b w h p q r u v = omega (arith, most_by n t m b w p q, mul-le-mul_right w (le_trans r u), mul-le-mul_left 65535 v)
 
 module _ (w h : ℕ) (src rest : List ℕ) (top n : ℕ) (k : Rows w h src rest top n) where

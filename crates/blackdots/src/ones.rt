@@ -1,5 +1,5 @@
 // The ones of bytes.
-ghost use Rattle.std.specs.Prelude.{◌≡◌, ◌+◌, ◌*◌, ◌≤◌, ◌<◌, length, take, drop};
+ghost use Rattle.std.specs.Prelude.{◌≡◌, ◌+◌, ◌*◌, ◌≤◌, ◌<◌, ◌^◌, length, take, drop};
 ghost use Rattle.std.specs.Int.Count.{ones};
 ghost use Rattle.pictures.specs.Size.{data_limit};
 ghost use Rattle.blackdots.specs.Black.{ones_of};
@@ -12,16 +12,26 @@ fn word(bytes: &[u8; 8]) -> u64
     u64::from_le_bytes(*bytes)
 }
 
-// The ones of fewer than eight bytes.
-fn ones_by_bytes(bytes: &[u8]) -> u32
+// Fewer than eight bytes as one number, which has the ones of all of them: four, two and one, where there are so many. A loop over them that counts each
+// took up to twice as long.
+fn last_word(bytes: &[u8]) -> u64
     requires { length bytes.now < 8 }
-    ensures { (result ≡ ones_of bytes.now) × (result ≤ 8 * length bytes.now) }
+    ensures { (ones result ≡ ones_of bytes.now) × (result < 2 ^ 56) }
 {
-    let mut n = 0;
-    for byte in bytes {
-        n += byte.count_ones();
+    let mut joined = 0;
+    let mut rest = bytes;
+    if let Some((four, after)) = rest.split_first_chunk() {
+        joined = u64::from(u32::from_le_bytes(*four));
+        rest = after;
     }
-    n
+    if let Some((two, after)) = rest.split_first_chunk() {
+        joined = joined * 65536 + u64::from(u16::from_le_bytes(*two));
+        rest = after;
+    }
+    if let Some(one) = rest.first() {
+        joined = joined * 256 + u64::from(*one);
+    }
+    joined
 }
 
 // The ones of all bytes, eight bytes at a time.
@@ -35,7 +45,7 @@ fn ones_by_words(bytes: &[u8]) -> u32
         n += word(eight).count_ones();
         rest = after;
     }
-    n + ones_by_bytes(rest)
+    n + last_word(rest).count_ones()
 }
 
 // The sum of three bits, in each of the places of a number or of two: its low bits and its high ones.

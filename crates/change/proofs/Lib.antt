@@ -1,4 +1,5 @@
 pub mod Moves
+pub mod Downward
 pub mod Upward
 pub mod Puts
 pub mod Written

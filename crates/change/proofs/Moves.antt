@@ -4,6 +4,7 @@ use mathlib.Core.List.{List, ◌++◌, append_assoc, append-nil}
 use Prim.Native.Nat.{ℕ, ◌+◌, ◌-◌, ◌≤◌}
 use native.Mathlib.Omega.{arith}
 use lib.ListN.{length, take, drop, replicate, length-drop, length-replicate}
+use Rattle.std.proofs.lemmas.List.{take-append-drop}
 use lib.Seq.{paste, length_paste_head, drop-drop, take_at, drop-append-add}
 use Rattle.change.specs.Change.{spliced_at}
 
@@ -25,3 +26,9 @@ splice_moves s at old used new h u r =
     let k2 : at + new + n + z ≡ used + (new - old) = omega arith in
     let e3 : drop (at + new + n + z) (P ++ R) ≡ drop (used + (new - old)) s = ap (λ (k : ℕ). drop k (P ++ R)) k1 ∙ drop-append-add P R z ∙ drop-drop z (at + new + n) s ∙ ap (λ (k : ℕ). drop k s) k2 in
     rw (w, e1, e2, e3) (simp append_assoc)
+
+-- bytes that are moved to where they stand
+pub paste_here : (s : List ℕ) (at n : ℕ) → paste s at (drop at s) n ≡ s
+paste_here s at n =
+    let a : take n (drop at s) ++ drop (at + n) s ≡ drop at s = ap (λ (r : List ℕ). take n (drop at s) ++ r) (sym (drop-drop n at s)) ∙ take-append-drop n (drop at s) in
+    simp append_assoc (ap (λ (r : List ℕ). take at s ++ r) a ∙ take-append-drop at s)

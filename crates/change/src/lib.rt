@@ -35,8 +35,18 @@ pub fn clear(s: &mut [u8], at: usize, n: usize)
     s[at..at + n].fill(0);
 }
 
-// Moves n bytes up by a font record's length, as each font does that is put before others. Of this loop the compiler makes one block move, and of
-// `copy_within` none: a stream of falling fonts took 1.8 times as long with it.
+// Moves n bytes down by a font record's length, as where a font with no characters is taken out before others. Of this loop and of the next the compiler
+// makes one block move, since the distance is a constant, and of `copy_within` none: a stream of falling fonts took 1.8 times as long with it.
+fn font_down(s: &mut [u8], to: usize, n: usize)
+    requires { to + font_record + n ≤ length s.old }
+    ensures { s.new ≡ paste s.old to (drop (to + font_record) s.old) n }
+{
+    for i in 0..n {
+        s[to + i] = s[to + FONT_RECORD + i];
+    }
+}
+
+// Moves n bytes up by a font record's length, as each font does that is put before others.
 fn font_up(s: &mut [u8], from: usize, n: usize)
     requires { from + font_record + n ≤ length s.old }
     ensures { s.new ≡ paste s.old (from + font_record) (drop from s.old) n }
@@ -55,7 +65,9 @@ fn shift(s: &mut [u8], from: usize, to: usize, n: usize)
 {
     if to == from + FONT_RECORD {
         font_up(s, from, n);
-    } else {
+    } else if from == to + FONT_RECORD {
+        font_down(s, to, n);
+    } else if from != to {
         s.copy_within(from..from + n, to);
     }
 }

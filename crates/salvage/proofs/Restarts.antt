@@ -96,7 +96,7 @@ moved_restarts at (CharacterBlock f e) = refl
 moved_restarts at Broken = refl
 moved_restarts at End = refl
 
-not_here : (b : List ℕ) (i : ℕ) → may_start_at b i ≡ false → restarts (command_at b i) ≡ false
+pub not_here : (b : List ℕ) (i : ℕ) → may_start_at b i ≡ false → restarts (command_at b i) ≡ false
 unfolding command_at
 not_here b i e =
     moved_restarts i (command (drop i b))

@@ -15,13 +15,21 @@ fn restarts(c: Command) -> bool
     matches!(c, Command::SetFont { number, .. } if number <= LAST_FONT_ASKED)
 }
 
+// Whether a reading may start again at a place. Most hold no ESC, and are told without reading a command.
+fn restarts_at(stream: &[u8], i: usize) -> bool
+    requires { i < length stream.now }
+    ensures { result ≡ restarts (command_at stream.now i) }
+{
+    stream[i] == ESC && restarts(command::read_command(stream, i))
+}
+
 // The first place from `from` up to `to` where a reading may start again, or `to`.
 fn first_in(stream: &[u8], from: usize, to: usize) -> usize
     requires { (from ≤ to) × (to ≤ length stream.now) }
     ensures { (result ≤ to) × (restart_from stream.now result ≡ restart_from stream.now from) × (result < to → restarts (command_at stream.now result) ≡ true) }
 {
     for i in from..to {
-        if restarts(command::read_command(stream, i)) {
+        if restarts_at(stream, i) {
             return i;
         }
     }

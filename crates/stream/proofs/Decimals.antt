@@ -46,7 +46,7 @@ by_tenths P one more n = go (suc n) n (omega arith)
         pick false e f = let l = ltb-false m 10 e in more m l (f (omega arith))
 
 -- ---- how many digits
-length_one : (n : ℕ) → n < 10 → length (decimal_of n) ≡ 1
+pub length_one : (n : ℕ) → n < 10 → length (decimal_of n) ≡ 1
 length_one n h = ap length (decimal_one n h)
 
 length_more : (n : ℕ) → 10 ≤ n → length (decimal_of n) ≡ length (decimal_of (n / 10)) + 1
@@ -61,7 +61,7 @@ tens_some : (k : ℕ) → 1 ≤ tens k
 tens_some zero = omega arith
 tens_some (suc k) = omega (arith, tens_some k)
 
-length_exact : (k n : ℕ) → tens k ≤ n → n < tens k * 10 → length (decimal_of n) ≡ k + 1
+pub length_exact : (k n : ℕ) → tens k ≤ n → n < tens k * 10 → length (decimal_of n) ≡ k + 1
 length_exact zero n l h = length_one n h
 length_exact (suc k) n l h =
     let e = length_exact k (n / 10) (omega arith) (omega arith) in

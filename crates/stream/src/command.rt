@@ -34,7 +34,9 @@ fn byte_at(s: &[u8], at: usize) -> u8
     s.get(at).copied().unwrap_or(0)
 }
 
-// The number after the first three bytes: five digits at most.
+// The number after the first three bytes: five digits at most. It is part of its callers' code, and those of `read_command`: apart, each would hand its
+// answer on through memory, which a stream of numbers alone shows.
+#[inline(always)]
 fn read_number(s: &[u8]) -> NumberRead
     ensures { (result ≡ number_of s.now) × (result.value < 100000) × (result.next ≤ 8) }
 {
@@ -51,6 +53,7 @@ fn read_number(s: &[u8]) -> NumberRead
 
 // A font number or a code.
 #[tactic(auto, unfolding(crate::specs::Command::number_command))]
+#[inline(always)]
 fn read_numbered(s: &[u8]) -> Command
     ensures { result ≡ number_command s.now (number_of s.now) }
 {
@@ -80,6 +83,7 @@ fn is_block(s: &[u8], d: NumberRead) -> bool
 
 // A block's place: a font's, or a character's.
 #[tactic(auto, unfolding(crate::specs::Command::block_of))]
+#[inline(always)]
 fn read_block(s: &[u8], font: bool) -> Command
     ensures { result ≡ block_of (cond font FontBlock CharacterBlock) s.now (number_of s.now) }
 {

@@ -29,6 +29,11 @@ pub flipped_twice : (back : Bool) (n i : ℕ) → i < n → flipped back n (flip
 flipped_twice true n i l = omega arith
 flipped_twice false n i l = refl
 
+-- so many of them one after the other begin somewhere, and are counted so themselves
+pub flipped_part : (back : Bool) (n first count i : ℕ) → first + count ≤ n → i < count → cond back (n - first - count) first + flipped back count i ≡ flipped back n (first + i)
+flipped_part true n first count i l k = omega arith
+flipped_part false n first count i l k = refl
+
 -- a place of a row that is counted so
 pub flipped_in : (back : Bool) (n m i q : ℕ) → i < n → q < m → flipped back n i * m + q < n * m
 flipped_in back n m i q l k = inside m n (flipped back n i) q (flipped_lt back n i l) k
@@ -179,7 +184,7 @@ pub column_in : (s : List ℕ) (n h : ℕ) (up : Bool) (at row : ℕ) → row < 
 unfolding column_byte
 column_in s n h up at row l = rw (lt-ltb row h l)
 
-column_out : (s : List ℕ) (n h : ℕ) (up : Bool) (at row : ℕ) → h ≤ row → column_byte s n h up at row ≡ 0
+pub column_out : (s : List ℕ) (n h : ℕ) (up : Bool) (at row : ℕ) → h ≤ row → column_byte s n h up at row ≡ 0
 unfolding column_byte
 column_out s n h up at row l = rw (le-ltb row h l)
 

@@ -262,7 +262,7 @@ mirrored_whole w h s p full size = sym (mirrored_list s (turned 2 w h s) (length
         ∙ mirrored_in row q (n - 1 - q) (omega (arith, of.long)) (omega (arith, of.long)) ∙ ap mirror (of.bytes (n - 1 - q) (omega arith))
         ∙ ap (λ (j : ℕ). mirror (get_or s j 0)) (from_end n h r q below inside ∙ ap (λ (j : ℕ). h * n - 1 - j) place ∙ ap (λ (z : ℕ). z - 1 - i) (sym size))
 
-product_low : (left right scale : ℕ) → left < 256 → right < 256 → scale ≤ 128 → (left * 256 + right) * scale ≤ 65535 * 128
+pub product_low : (left right scale : ℕ) → left < 256 → right < 256 → scale ≤ 128 → (left * 256 + right) * scale ≤ 65535 * 128
 product_low left right scale l r e = let x : left * 256 + right ≤ 65535 = omega arith in mul-le-mul x e
 
 -- the bits of two bytes moved up still fit

@@ -4,6 +4,10 @@ use Rattle.pictures.specs.Size.{row_size, picture_size}
 use Rattle.turning.specs.Block.{join_bytes, column_byte, Put, TurnedUpTo}
 use Rattle.turning.specs.declared.block.Column.{Column}
 
+-- two of the same picture, at the same place, for the same turn
+abbrev pub SameColumn : Column → Column → Type 0
+SameColumn k l = (k.picture ≡ l.picture) × (k.at ≡ l.at) × (k.up ≡ l.up)
+
 -- the block of eight of its bytes, from a row on
 abbrev pub column_block : Column → ℕ → ℕ
 column_block k first = join_bytes 8 (λ (i : ℕ). column_byte k.picture.bytes.now (row_size k.picture.width) k.picture.height k.up k.at (first + i))

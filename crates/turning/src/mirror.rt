@@ -71,14 +71,13 @@ fn mirror_rows(picture: Picture<'_>, out: &mut [u8])
     }
 }
 
-// Mirrors eight bytes. Loads are what takes the time, so all are read at once.
+// Mirrors eight bytes.
 fn mirror_eight(bytes: &[u8; 8], out: &mut [u8])
     requires { length out.old ≡ 8 }
     ensures { out.new ≡ map mirror (reverse bytes.now) }
 {
-    let from_last = u64::from_be_bytes(*bytes).to_le_bytes();
     for k in 0..8 {
-        out[k] = mirrored(from_last[k]);
+        out[k] = mirrored(bytes[7 - k]);
     }
 }
 

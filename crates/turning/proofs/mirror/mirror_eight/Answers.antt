@@ -1,14 +1,14 @@
-use Rattle.std.proofs.Common.{◌≡◌, ◌-◌, length, get_or, rules, arith, refl, ap, ◌∙◌}
+use Rattle.std.proofs.Common.{◌≡◌, ◌-◌, length, get_or, rules, arith, ◌∙◌}
 use Rattle.turning.specs.Mirror.{mirror}
 use Rattle.turning.proofs.PictureLaws.{set_next}
-use Rattle.turning.proofs.MirrorLaws.{mirrored_list, eight_reversed}
+use Rattle.turning.proofs.MirrorLaws.{mirrored_list}
 use Rattle.turning.proofs.mirror.mirror_eight.Goals as goal
 
 pub loop-k-preserved : goal.loop-k-preserved
 loop-k-preserved c =
     let bs = c.args.bytes.now in
     set_next (λ k. mirror (get_or bs (7 - k) 0)) c.loop-k.out c.loop-k.k c.mirrored.result (omega arith)
-    (c.mirrored.ensures ∙ ap mirror (rw c.to_le_bytes-from_last.ensures (eight_reversed bs c.from_be_bytes.result c.loop-k.k (7 - c.loop-k.k) (search rules) (search rules) c.from_be_bytes.ensures (omega arith) refl)))
+    c.mirrored.ensures
     c.loop-k.invariant
 
 pub returns : goal.returns
